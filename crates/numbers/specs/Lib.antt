@@ -1,0 +1,6 @@
+-- What the machine's numbers mean.
+pub mod Choice
+pub mod Limits
+pub mod Meaning
+pub mod Packing
+pub mod PackingLaws

@@ -1,0 +1,132 @@
+-- Unpacking gives back what was packed, and every filled word is the packing of its parts.
+-- The laws ask for the width of a field, never for a limit of the machine.
+use Prim.Native.Nat.{ℕ, _+_, _*_, _/_, _%_, _<_, _≤_, min, max}
+use mathlib.Core.Path.{_≡_, refl, sym, ap, _∙_}
+use native.Mathlib.Omega.{arith}
+use Rattle.numbers.specs.Packing.{
+  entry,
+  slotWord,
+  mapWord,
+  pairWord,
+  slotKey,
+  key,
+  pairKey,
+  portOf,
+  vmOf,
+  guestOf,
+  entryOf,
+  filledOf,
+  pageOf,
+  accessOf,
+  generationOf,
+  keyOf,
+  addressOf,
+  leftOf,
+  rightOf,
+  pairKeyOf,
+}
+
+-- ---- an entry
+module _ (page access generation : ℕ) (p : page < 4096) (a : access < 8) (g : generation < 65536) where
+  pub entry-fits : entry page access generation < 4294967296
+  entry-fits = omega arith
+
+  pub entry-filled : filledOf (entry page access generation) ≡ 1
+  entry-filled = omega arith
+
+  pub entry-page : pageOf (entry page access generation) ≡ page
+  entry-page = omega arith
+
+  pub entry-access : accessOf (entry page access generation) ≡ access
+  entry-access = omega arith
+
+  pub entry-generation : generationOf (entry page access generation) ≡ generation
+  entry-generation = omega arith
+
+-- ---- a word over any low half
+module _ (port vm guest low : ℕ) (v : vm < 256) (g : guest < 65536) (l : low < 4294967296) where
+  pub word-port : portOf (slotWord port vm guest low) ≡ port
+  word-port = omega arith
+
+  pub word-vm : vmOf (slotWord port vm guest low) ≡ vm
+  word-vm = omega arith
+
+  pub word-guest : guestOf (slotWord port vm guest low) ≡ guest
+  word-guest = omega arith
+
+  pub word-entry : entryOf (slotWord port vm guest low) ≡ low
+  word-entry = omega arith
+
+  -- page, access and generation of a word are those of its low half
+  pub word-filled : filledOf (slotWord port vm guest low) ≡ filledOf low
+  word-filled = omega arith
+
+  pub word-page : pageOf (slotWord port vm guest low) ≡ pageOf low
+  word-page = omega arith
+
+  pub word-access : accessOf (slotWord port vm guest low) ≡ accessOf low
+  word-access = omega arith
+
+  pub word-generation : generationOf (slotWord port vm guest low) ≡ generationOf low
+  word-generation = omega arith
+
+  -- the keys of a filled word
+  pub word-key : filledOf low ≡ 1 → keyOf (slotWord port vm guest low) ≡ slotKey port vm guest
+  word-key f = omega arith
+
+  pub word-address : filledOf low ≡ 1 → addressOf (slotWord port vm guest low) ≡ key vm guest
+  word-address f = omega arith
+
+-- ---- any word is the packing of its four parts
+pub word-whole : (w : ℕ) → slotWord (portOf w) (vmOf w) (guestOf w) (entryOf w) ≡ w
+word-whole w = omega arith
+
+-- a filled word's low half is the packing of its three
+pub entry-whole : (w : ℕ) → filledOf w ≡ 1 → entry (pageOf w) (accessOf w) (generationOf w) ≡ entryOf w
+entry-whole w f =
+    let a : w / 65536 / 8 ≡ w / 524288 = omega arith in
+    let b : w / 524288 / 4096 ≡ w / 2147483648 = omega arith in
+    let c : w / 2147483648 / 2 ≡ w / 4294967296 = omega arith in
+    omega arith
+
+-- ---- keys
+-- a map's key says its VM and guest page
+pub key-same : (vm guest vm′ guest′ : ℕ) → guest < 65536 → guest′ < 65536 → key vm guest ≡ key vm′ guest′ → (vm ≡ vm′) × (guest ≡ guest′)
+key-same vm guest vm′ guest′ h h′ e =
+    let a : vm * 65536 + guest ≡ vm′ * 65536 + guest′ = omega arith in
+    let b : (vm * 65536 + guest) / 65536 ≡ vm = omega arith in
+    let c : (vm′ * 65536 + guest′) / 65536 ≡ vm′ = omega arith in
+    let d : vm ≡ vm′ = sym b ∙ rw a c in
+    (d, omega arith)
+
+-- a filled word's key is never that of an empty one
+pub key-filled : (w : ℕ) → filledOf w ≡ 1 → 0 < keyOf w
+key-filled w f = omega arith
+
+pub address-filled : (w : ℕ) → filledOf w ≡ 1 → 0 < addressOf w
+address-filled w f = omega arith
+
+-- of a map's word, which has no port, the two keys are one
+pub address-key : (w : ℕ) → portOf w ≡ 0 → addressOf w ≡ keyOf w
+address-key w p = omega arith
+
+-- ---- pairs
+module _ (left right page : ℕ) (l : left < 256) (r : right < 65536) (p : page < 4096) where
+  pub pair-left : leftOf (pairWord left right page) ≡ left
+  pair-left = omega arith
+
+  pub pair-right : rightOf (pairWord left right page) ≡ right
+  pair-right = omega arith
+
+  pub pair-page : pageOf (pairWord left right page) ≡ page
+  pair-page = omega arith
+
+  pub pair-key : pairKeyOf (pairWord left right page) ≡ pairKey left right page
+  pair-key = rw (pair-left, pair-right, pair-page, filled)
+    where
+      filled : filledOf (pairWord left right page) ≡ 1
+      filled = omega arith
+
+-- the order of the ends does not matter
+pub pair-either : (left right page : ℕ) → pairKey left right page ≡ pairKey right left page
+pair-either left right page = omega arith

@@ -1,0 +1,336 @@
+// The machine's vocabulary: its limits, kinds of number, answers, operations and packed words.
+// docs/MACHINE.md, sections 1 and 2, say what each means; specs/ gives each enum its numbers.
+ghost use mathlib.Core.Path.{_≡_};
+ghost use Prim.Native.Nat.{_<_};
+ghost use Rattle.numbers.specs.Meaning.{refusalNumber, answerNumbers, targetNumber, operationNumber};
+ghost use Rattle.numbers.specs.Packing.{entry, slotWord, mapWord, pairWord, slotKey, key, portOf, vmOf, guestOf, entryOf, pageOf, accessOf, generationOf, keyOf, addressOf, leftOf, rightOf};
+
+// ---- Limits. Each has this one name in code and the same name in specs/Limits.antt.
+
+// A page is this many 64-bit words.
+pub const PAGE_WORDS: u64 = 512;
+// The most physical pages a machine may have.
+pub const PAGES: u64 = 1024;
+// Guest pages of a VM.
+pub const GUEST_PAGES: u64 = 65536;
+// VM ids.
+pub const VMS: u64 = 16;
+// CPUs, and as many devices.
+pub const PORTS: u64 = 8;
+// Entries of a map, software or walker.
+pub const ENTRIES: usize = 512;
+// Sharing pairs.
+pub const PAIRS: usize = 128;
+// Slots of a translation cache.
+pub const SLOTS: u64 = 64;
+// Units that start may be given.
+pub const UNITS: usize = 32;
+// Accesses: every sum of read 1, write 2 and execute 4.
+pub const ACCESSES: u64 = 8;
+// Generations of an entry.
+pub const GENERATIONS: u64 = 65536;
+// Words of one page set: a bit for each of PAGES.
+pub const SET_WORDS: usize = 16;
+// Page sets: the pool, the shared span, and two for each VM.
+pub const SETS: usize = 34;
+// How rows and the header write that a port is idle.
+pub const IDLE: u64 = 4294967295;
+// Numbers in a row of the sequence, and in its answer.
+pub const ROW_NUMBERS: usize = 8;
+
+pub const ANSWER_NUMBERS: usize = 4;
+
+// ---- Kinds of number, kept apart.
+
+pub struct VmId(pub u64);
+
+pub struct GuestPage(pub u64);
+
+pub struct PhysPage(pub u64);
+
+// ---- The two sides of the machine, each with a map, a walker map, a cache, a hand and eight ports.
+pub enum Side {
+    Cpu,
+    Dma,
+}
+
+// ---- Why something is refused, in the order of the refusal numbers 1 to 16.
+pub enum Refusal {
+    StateNotValid,
+    OutOfRange,
+    BadSpan,
+    VmUnknown,
+    VmKnown,
+    PageNotHeld,
+    PageClaimed,
+    NoSuchUnit,
+    MappingDiffers,
+    MappingPresent,
+    StillInUse,
+    PairWrong,
+    VmBusy,
+    NoRoom,
+    PortIdle,
+    AccessLacking,
+}
+
+// ---- What an operation answers. A refusal drops no slot and reads no word.
+pub enum Answer {
+    Accepted { dropped: u64, word: u64 },
+    Refused { refusal: Refusal, index: u64 },
+}
+
+// ---- The lowest free page, or the named nothing.
+pub enum Lowest {
+    Page(PhysPage),
+    Nothing,
+}
+
+// ---- What a port is given: a VM, or nobody.
+pub enum Target {
+    Idle,
+    Vm(VmId),
+}
+
+// ---- The twenty-six operations, in the order of their numbers.
+pub enum Operation {
+    AddVm(VmId),
+    RemoveVm(VmId),
+    AssignPage(VmId, PhysPage),
+    ReclaimPage(VmId, PhysPage),
+    SharePage(VmId, VmId, PhysPage),
+    UnsharePage(VmId, VmId, PhysPage),
+    CpuMap {
+        vm: VmId,
+        guest: GuestPage,
+        page: PhysPage,
+        access: u64,
+        generation: u64,
+    },
+    DmaMap {
+        vm: VmId,
+        guest: GuestPage,
+        page: PhysPage,
+        access: u64,
+        generation: u64,
+    },
+    CpuUnmap(VmId, GuestPage),
+    DmaUnmap(VmId, GuestPage),
+    InsertRegion {
+        vm: VmId,
+        guest: GuestPage,
+        page: PhysPage,
+        count: u64,
+        access: u64,
+    },
+    RemoveRegion {
+        vm: VmId,
+        guest: GuestPage,
+        page: PhysPage,
+        count: u64,
+        access: u64,
+    },
+    DmaInsertRegion {
+        vm: VmId,
+        guest: GuestPage,
+        page: PhysPage,
+        count: u64,
+        access: u64,
+    },
+    DmaRemoveRegion {
+        vm: VmId,
+        guest: GuestPage,
+        page: PhysPage,
+        count: u64,
+        access: u64,
+    },
+    SwitchCpu(u64, Target),
+    BindDevice(u64, Target),
+    CpuFill(u64, GuestPage),
+    DmaFill(u64, GuestPage),
+    EmptyCpuSlot(u64),
+    EmptyDmaSlot(u64),
+    CpuRead {
+        port: u64,
+        guest: GuestPage,
+        word: u64,
+    },
+    DmaRead {
+        port: u64,
+        guest: GuestPage,
+        word: u64,
+    },
+    CpuWrite {
+        port: u64,
+        guest: GuestPage,
+        word: u64,
+        value: u64,
+    },
+    DmaWrite {
+        port: u64,
+        guest: GuestPage,
+        word: u64,
+        value: u64,
+    },
+    DataBarrier,
+    InstructionBarrier,
+}
+
+// ---- The numbers of an enum.
+
+pub fn refusal_number(refusal: Refusal) -> u64
+    ensures { λ r. ⌜ r ≡ refusalNumber refusal ⌝ }
+{
+    match refusal {
+        Refusal::StateNotValid => 1,
+        Refusal::OutOfRange => 2,
+        Refusal::BadSpan => 3,
+        Refusal::VmUnknown => 4,
+        Refusal::VmKnown => 5,
+        Refusal::PageNotHeld => 6,
+        Refusal::PageClaimed => 7,
+        Refusal::NoSuchUnit => 8,
+        Refusal::MappingDiffers => 9,
+        Refusal::MappingPresent => 10,
+        Refusal::StillInUse => 11,
+        Refusal::PairWrong => 12,
+        Refusal::VmBusy => 13,
+        Refusal::NoRoom => 14,
+        Refusal::PortIdle => 15,
+        Refusal::AccessLacking => 16,
+    }
+}
+
+// Number, region index, dropped slots, word.
+pub fn answer_numbers(answer: Answer) -> [u64; 4]
+    ensures { λ r. ⌜ r ≡ answerNumbers answer ⌝ }
+{
+    match answer {
+        Answer::Accepted { dropped, word } => [0, 0, dropped, word],
+        Answer::Refused { refusal, index } => [refusal_number(refusal), index, 0, 0],
+    }
+}
+
+pub fn target_number(target: Target) -> u64
+    ensures { λ r. ⌜ r ≡ targetNumber target ⌝ }
+{
+    match target {
+        Target::Idle => IDLE,
+        Target::Vm(vm) => vm.0,
+    }
+}
+
+// ---- Packing. Each asks for the width of a field, not for a limit of the machine.
+
+// The low half of a word: what a translation gives.
+pub fn entry(page: PhysPage, access: u64, generation: u64) -> u64
+    requires { ⌜ (page .0 < 4096) × (access < 8) × (generation < 65536) ⌝ }
+    ensures { λ r. ⌜ r ≡ entry (page .0) access generation ⌝ }
+{
+    2147483648 + page.0 * 524288 + access * 65536 + generation
+}
+
+pub fn slot_word(port: u64, vm: VmId, guest: GuestPage, low: u64) -> u64
+    requires { ⌜ (port < 256) × (vm .0 < 256) × (guest .0 < 65536) × (low < 4294967296) ⌝ }
+    ensures { λ r. ⌜ r ≡ slotWord port (vm .0) (guest .0) low ⌝ }
+{
+    ((port * 256 + vm.0) * 65536 + guest.0) * 4294967296 + low
+}
+
+pub fn map_word(vm: VmId, guest: GuestPage, low: u64) -> u64
+    requires { ⌜ (vm .0 < 256) × (guest .0 < 65536) × (low < 4294967296) ⌝ }
+    ensures { λ r. ⌜ r ≡ mapWord (vm .0) (guest .0) low ⌝ }
+{
+    slot_word(0, vm, guest, low)
+}
+
+pub fn pair_word(left: VmId, right: VmId, page: PhysPage) -> u64
+    requires { ⌜ (left .0 < 256) × (right .0 < 65536) × (page .0 < 4096) ⌝ }
+    ensures { λ r. ⌜ r ≡ pairWord (left .0) (right .0) (page .0) ⌝ }
+{
+    slot_word(0, left, GuestPage(right.0), entry(page, 0, 0))
+}
+
+pub fn slot_key(port: u64, vm: VmId, guest: GuestPage) -> u64
+    requires { ⌜ (port < 256) × (vm .0 < 256) × (guest .0 < 65536) ⌝ }
+    ensures { λ r. ⌜ r ≡ slotKey port (vm .0) (guest .0) ⌝ }
+{
+    ((port * 256 + vm.0) * 65536 + guest.0) * 2 + 1
+}
+
+pub fn key(vm: VmId, guest: GuestPage) -> u64
+    requires { ⌜ (vm .0 < 256) × (guest .0 < 65536) ⌝ }
+    ensures { λ r. ⌜ r ≡ key (vm .0) (guest .0) ⌝ }
+{
+    (vm.0 * 65536 + guest.0) * 2 + 1
+}
+
+// ---- Unpacking, of any word at all.
+
+pub fn port_of(w: u64) -> u64
+    ensures { λ r. ⌜ r ≡ portOf w ⌝ }
+{
+    w / 72057594037927936
+}
+
+pub fn vm_of(w: u64) -> VmId
+    ensures { λ r. ⌜ r .0 ≡ vmOf w ⌝ }
+{
+    VmId(w / 281474976710656 % 256)
+}
+
+pub fn guest_of(w: u64) -> GuestPage
+    ensures { λ r. ⌜ r .0 ≡ guestOf w ⌝ }
+{
+    GuestPage(w / 4294967296 % 65536)
+}
+
+pub fn entry_of(w: u64) -> u64
+    ensures { λ r. ⌜ r ≡ entryOf w ⌝ }
+{
+    w % 4294967296
+}
+
+pub fn page_of(w: u64) -> PhysPage
+    ensures { λ r. ⌜ r .0 ≡ pageOf w ⌝ }
+{
+    PhysPage(w / 524288 % 4096)
+}
+
+pub fn access_of(w: u64) -> u64
+    ensures { λ r. ⌜ r ≡ accessOf w ⌝ }
+{
+    w / 65536 % 8
+}
+
+pub fn generation_of(w: u64) -> u64
+    ensures { λ r. ⌜ r ≡ generationOf w ⌝ }
+{
+    w % 65536
+}
+
+pub fn key_of(w: u64) -> u64
+    ensures { λ r. ⌜ r ≡ keyOf w ⌝ }
+{
+    w / 2147483648
+}
+
+pub fn address_of(w: u64) -> u64
+    ensures { λ r. ⌜ r ≡ addressOf w ⌝ }
+{
+    w / 2147483648 % 33554432
+}
+
+// The ends of a pair, in the order in which they were given.
+pub fn left_of(w: u64) -> VmId
+    ensures { λ r. ⌜ r .0 ≡ leftOf w ⌝ }
+{
+    vm_of(w)
+}
+
+pub fn right_of(w: u64) -> VmId
+    ensures { λ r. ⌜ r .0 ≡ rightOf w ⌝ }
+{
+    let right = guest_of(w);
+    VmId(right.0)
+}

@@ -1,0 +1,3 @@
+-- Sets of pages as bits of words: definitions, then laws.
+pub mod Bits
+pub mod Rows

@@ -1,0 +1,4 @@
+-- Bounded tables of packed words: definitions first, then the invariants of loops and the laws.
+pub mod Scan
+pub mod Table
+pub mod Loops
