@@ -1,0 +1,3 @@
+-- Units and the spans of regions.
+pub mod Spans
+pub mod Units
