@@ -2,7 +2,7 @@
 use Prim.Native.Nat.{ℕ, _+_}
 use mathlib.Core.Bool.{Bool, _&&_}
 use lib.Dec.{ltb, leb}
-use Rattle.numbers.specs.Limits.{GUEST_PAGES}
+use Rattle.numbers.specs.Limits.{GUEST-PAGES}
 use Rattle.units.specs.declared.Region.{Region}
 
 -- the count places from base on end at the limit or before
@@ -12,4 +12,4 @@ spanWithin base count limit = leb (base + count) limit
 -- at least one page, all of them guest pages and pages of the machine
 abbrev pub regionSpan : Region → ℕ → Bool
 regionSpan region pages =
-    ltb 0 (region .count) && spanWithin (region .guest .0) (region .count) GUEST_PAGES && spanWithin (region .page .0) (region .count) pages
+    ltb 0 (region .count) && spanWithin (region .guest .0) (region .count) GUEST-PAGES && spanWithin (region .page .0) (region .count) pages

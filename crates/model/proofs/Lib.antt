@@ -1,0 +1,3 @@
+-- What is proved of the machine.
+pub mod Computes
+pub mod Worked

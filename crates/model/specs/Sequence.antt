@@ -1,0 +1,148 @@
+-- Rows and the sequence (docs/MACHINE.md, 9): eight numbers a row, four numbers an answer.
+use Prim.Native.Nat.{ℕ, zero, suc, _+_, _*_, _/_, _%_}
+use mathlib.Core.Bool.{Bool, not, _&&_, _||_}
+use mathlib.Core.List.{List, [], _∷_}
+use mathlib.Core.Option.{Option, none, some}
+use lib.Dec.{eqb, leb}
+use lib.ListN.{length, getD, set, take, drop}
+use Rattle.numbers.specs.Choice.{if_then_else_}
+use Rattle.numbers.specs.Limits.{ROW-NUMBERS, ANSWER-NUMBERS, IDLE}
+use Rattle.numbers.specs.Meaning.{answerNumbers}
+use Rattle.numbers.specs.declared.Answer.{Answer}
+use Rattle.numbers.specs.declared.Refusal.the-variants.{OutOfRange}
+use Rattle.numbers.specs.declared.VmId.{VmId}
+use Rattle.numbers.specs.declared.GuestPage.{GuestPage}
+use Rattle.numbers.specs.declared.PhysPage.{PhysPage}
+use Rattle.numbers.specs.declared.Target.{Target}
+use Rattle.numbers.specs.declared.Target.the-variants.{Idle, Vm}
+use Rattle.numbers.specs.declared.Operation.{Operation}
+use Rattle.numbers.specs.declared.Operation.the-variants.{
+  AddVm,
+  RemoveVm,
+  AssignPage,
+  ReclaimPage,
+  SharePage,
+  UnsharePage,
+  CpuMap,
+  DmaMap,
+  CpuUnmap,
+  DmaUnmap,
+  InsertRegion,
+  RemoveRegion,
+  DmaInsertRegion,
+  DmaRemoveRegion,
+  SwitchCpu,
+  BindDevice,
+  CpuFill,
+  DmaFill,
+  EmptyCpuSlot,
+  EmptyDmaSlot,
+  CpuRead,
+  DmaRead,
+  CpuWrite,
+  DmaWrite,
+  DataBarrier,
+  InstructionBarrier,
+}
+use Rattle.table.specs.Scan.{repeat}
+use Rattle.model.specs.State.{State}
+use Rattle.model.specs.Effect.{accepted, refused, kept}
+use Rattle.model.specs.Step.{Stepped, step}
+
+-- ---- the operation of a row; numbers past its arguments are ignored, and an unknown number is none
+abbrev pub vmId : ℕ → VmId
+vmId n = record { 0 = n }
+
+abbrev pub guestPage : ℕ → GuestPage
+guestPage n = record { 0 = n }
+
+abbrev pub physPage : ℕ → PhysPage
+physPage n = record { 0 = n }
+
+-- the one place that knows how a row writes idle
+abbrev pub targetOf : ℕ → Target
+targetOf n = if eqb n IDLE then Idle else Vm (vmId n)
+
+abbrev pub operationOf : ℕ → ℕ → ℕ → ℕ → ℕ → ℕ → Option Operation
+operationOf number a b c d e =
+    if eqb number 1 then some (AddVm (vmId a))
+    else if eqb number 2 then some (RemoveVm (vmId a))
+    else if eqb number 3 then some (AssignPage (vmId a) (physPage b))
+    else if eqb number 4 then some (ReclaimPage (vmId a) (physPage b))
+    else if eqb number 5 then some (SharePage (vmId a) (vmId b) (physPage c))
+    else if eqb number 6 then some (UnsharePage (vmId a) (vmId b) (physPage c))
+    else if eqb number 7 then some (CpuMap (vmId a) (guestPage b) (physPage c) d e)
+    else if eqb number 8 then some (DmaMap (vmId a) (guestPage b) (physPage c) d e)
+    else if eqb number 9 then some (CpuUnmap (vmId a) (guestPage b))
+    else if eqb number 10 then some (DmaUnmap (vmId a) (guestPage b))
+    else if eqb number 11 then some (InsertRegion (vmId a) (guestPage b) (physPage c) d e)
+    else if eqb number 12 then some (RemoveRegion (vmId a) (guestPage b) (physPage c) d e)
+    else if eqb number 13 then some (DmaInsertRegion (vmId a) (guestPage b) (physPage c) d e)
+    else if eqb number 14 then some (DmaRemoveRegion (vmId a) (guestPage b) (physPage c) d e)
+    else if eqb number 15 then some (SwitchCpu a (targetOf b))
+    else if eqb number 16 then some (BindDevice a (targetOf b))
+    else if eqb number 17 then some (CpuFill a (guestPage b))
+    else if eqb number 18 then some (DmaFill a (guestPage b))
+    else if eqb number 19 then some (EmptyCpuSlot a)
+    else if eqb number 20 then some (EmptyDmaSlot a)
+    else if eqb number 21 then some (CpuRead a (guestPage b) c)
+    else if eqb number 22 then some (DmaRead a (guestPage b) c)
+    else if eqb number 23 then some (CpuWrite a (guestPage b) c d)
+    else if eqb number 24 then some (DmaWrite a (guestPage b) c d)
+    else if eqb number 25 then some DataBarrier
+    else if eqb number 26 then some InstructionBarrier
+    else none
+
+unfoldable pub operationIn : List ℕ → Option Operation
+operationIn row = operationOf (getD row 0 0) (getD row 1 0) (getD row 2 0) (getD row 3 0) (getD row 4 0) (getD row 5 0)
+
+-- ---- one row
+abbrev pub stepKnown : State → Option Operation → Stepped
+stepKnown s none = record { answer = refused OutOfRange; state = s }
+stepKnown s (some operation) = step s operation
+
+unfoldable pub stepRow : State → List ℕ → Stepped
+stepRow s row = stepKnown s (operationIn row)
+
+-- ---- the sequence
+abbrev pub rowAt : List ℕ → ℕ → List ℕ
+rowAt rows k = take ROW-NUMBERS (drop (k * ROW-NUMBERS) rows)
+
+-- numbers written over a list from a place on
+abbrev pub writeAt : List ℕ → ℕ → List ℕ → List ℕ
+writeAt room i [] = room
+writeAt room i (n ∷ ns) = writeAt (set room i n) (suc i) ns
+
+-- the state so far, and the answer room
+pub record Progress : Type 0 where
+  pub state : State
+  pub room : List ℕ
+
+abbrev pub recorded : Stepped → ℕ → List ℕ → Progress
+recorded r k room = record { state = r .state; room = writeAt room (k * ANSWER-NUMBERS) (answerNumbers (r .answer)) }
+
+abbrev pub turn : List ℕ → ℕ → Progress → Progress
+turn rows k p = recorded (stepRow (p .state) (rowAt rows k)) k (p .room)
+
+-- what stands after the first k rows: every state on the way, and the answers that it has written
+unfoldable pub after : List ℕ → ℕ → Progress → Progress
+after rows k p = repeat (turn rows) 0 k p
+
+abbrev pub rowCount : List ℕ → ℕ
+rowCount rows = length rows / ROW-NUMBERS
+
+-- ---- the whole: refused for its shape, leaving everything, or carried through
+unfoldable pub shapeAnswer : List ℕ → List ℕ → Answer
+shapeAnswer rows room =
+    if not (eqb (length rows % ROW-NUMBERS) 0) then refused OutOfRange
+    else if not (leb (rowCount rows * ANSWER-NUMBERS) (length room)) then refused OutOfRange
+    else accepted
+
+pub record Sequenced : Type 0 where
+  pub answer : Answer
+  pub progress : Progress
+
+unfoldable pub sequence : State → List ℕ → List ℕ → Sequenced
+sequence s rows room =
+    let p : Progress = record { state = s; room = room } in
+    record { answer = shapeAnswer rows room; progress = kept (shapeAnswer rows room) p (after rows (rowCount rows) p) }
