@@ -31,11 +31,11 @@ kept (Accepted dropped word) old new = new
 kept (Refused refusal index) old new = old
 
 -- ---- memory: page p's word k is word p * PAGE-WORDS + k; past the end nothing is read or written
-abbrev pub addressIn : ℕ → ℕ → ℕ
-addressIn page word = page * PAGE-WORDS + word
+abbrev pub memoryIndex : ℕ → ℕ → ℕ
+memoryIndex page word = page * PAGE-WORDS + word
 
 unfoldable pub wordIn : List ℕ → ℕ → ℕ → ℕ
-wordIn memory page word = getD memory (addressIn page word) 0
+wordIn memory page word = getD memory (memoryIndex page word) 0
 
 -- the words from `skip` on are set to zero, `count` of them
 abbrev pub zeroed : ℕ → ℕ → List ℕ → List ℕ
@@ -45,7 +45,7 @@ zeroed zero (suc count) (w ∷ ws) = 0 ∷ zeroed zero count ws
 zeroed (suc skip) count (w ∷ ws) = w ∷ zeroed skip count ws
 
 unfoldable pub clearPage : List ℕ → ℕ → List ℕ
-clearPage memory page = zeroed (addressIn page 0) PAGE-WORDS memory
+clearPage memory page = zeroed (memoryIndex page 0) PAGE-WORDS memory
 
 -- ---- effects: words that a VM reads or writes, in that order, or pages that are cleared
 pub record Place : Type 0 where
@@ -66,7 +66,7 @@ quiet = clears []
 
 unfoldable pub stored : List Store → List ℕ → List ℕ
 stored [] memory = memory
-stored (x ∷ xs) memory = stored xs (set memory (addressIn (x .place .page) (x .place .word)) (x .value))
+stored (x ∷ xs) memory = stored xs (set memory (memoryIndex (x .place .page) (x .place .word)) (x .value))
 
 unfoldable pub loaded : List Place → List ℕ → List ℕ
 loaded [] memory = []

@@ -46,14 +46,10 @@ pub record SetupGood (s : Setup) : Type 0 where
   pub unit-count : s .unitCount ≤ UNITS
   pub units : (k : ℕ) → k < s .unitCount → UnitGood (s .pages) (getD (s .units) k noUnit)
 
--- ---- 3: known VMs, ports and hands
+-- ---- 3: known VMs
 -- no id at VMS or above is known
 abbrev pub KnownGood : ℕ → Type 0
 KnownGood known = known < 2 ^ VMS
-
--- every CPU and device is idle or runs a known VM
-abbrev pub PortsGood : ℕ → List ℕ → Type 0
-PortsGood known ports = (port : ℕ) → port < PORTS → (getD ports port IDLE ≡ IDLE) ⊎ (knows known (getD ports port IDLE) ≡ true)
 
 -- ---- 4: page sets
 -- the rows of which each page is in exactly one: the pool, the shared span, or a VM's CPU pages
@@ -123,14 +119,19 @@ pub record CacheGood (walker cache : List ℕ) : Type 0 where
   pub each : (w : ℕ) → Has cache w → SlotGood walker w
   pub once : Distinct keyOf cache
 
--- ---- a side: ports, hand, maps and cache
+-- ---- 8: a side's ports and hand
+-- every CPU and device is idle or runs a known VM
+abbrev pub PortsGood : ℕ → List ℕ → Type 0
+PortsGood known ports = (port : ℕ) → port < PORTS → (getD ports port IDLE ≡ IDLE) ⊎ (knows known (getD ports port IDLE) ≡ true)
+
+-- ---- a side: 6 to 8
 pub record RouteGood (side : Side) (pages known : ℕ) (sets pairs : List ℕ) (r : Route) : Type 0 where
-  pub ports : PortsGood known (r .ports)
-  pub hand : r .hand < SLOTS
   pub map : MapGood side pages known sets pairs (r .map)
   pub walker : MapGood side pages known sets pairs (r .walker)
   pub same : SameMap (r .map) (r .walker)
   pub cache : CacheGood (r .walker) (r .cache)
+  pub ports : PortsGood known (r .ports)
+  pub hand : r .hand < SLOTS
 
 pub record ValidTables (t : Tables) : Type 0 where
   pub lengths : Lengths t
@@ -141,6 +142,7 @@ pub record ValidTables (t : Tables) : Type 0 where
   pub cpu : RouteGood Cpu (t .setup .pages) (t .known) (t .sets) (t .pairs) (t .cpu)
   pub dma : RouteGood Dma (t .setup .pages) (t .known) (t .sets) (t .pairs) (t .dma)
 
+-- ---- all of it, with 9: memory
 pub record Valid (s : State) : Type 0 where
   pub tables : ValidTables (s .tables)
   pub memory : length (s .memory) ≡ PAGE-WORDS * s .tables .setup .pages

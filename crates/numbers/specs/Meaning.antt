@@ -1,4 +1,4 @@
--- The numbers that the paper has for each case of each enum (docs/MACHINE.md, 2 and 4).
+-- The numbers that the paper has for each case of each enum (docs/MACHINE.md, 2 and 7).
 use Prim.Native.Nat.{ℕ}
 use mathlib.Core.List.{List, [], _∷_}
 use Rattle.numbers.specs.Limits.{IDLE}
