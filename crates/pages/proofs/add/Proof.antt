@@ -1,42 +1,34 @@
+-- `pages::add` meets its contract: the word and the bit are those of the page.
 use borrow.Author.Needs.{needs}
+use Rattle.pages.specs.Bits.{insert}
+use Rattle.pages.specs.RowLaws.{place-bit}
 use Rattle.pages.proofs.add.Statement.{statement}
 use Rattle.pages.proofs.add.Tie as tie
-use Rattle.pages.proofs.add.Reads as reads
-use Rattle.pages.proofs.add.Lts as lts
-use Rattle.pages.proofs.with_bit.Reads as with-bit-reads
-use Rattle.pages.proofs.word_of.Reads as word-of-reads
 
--- src/lib.rt:73:9
 word-of-requires : tie.Need-word-of-requires
 word-of-requires c κs = search needs
 
--- src/lib.rt:74:25
 mul-with-bit : tie.Need-mul-with-bit
 mul-with-bit c = search needs
 
--- src/lib.rt:74:25
 slice-read-with-bit : tie.Need-slice-read-with-bit
 slice-read-with-bit c = search needs
 
--- src/lib.rt:74:16
 with-bit-requires : tie.Need-with-bit-requires
 with-bit-requires c κs = search needs
 
--- src/lib.rt:74:5
 mul-sets : tie.Need-mul-sets
 mul-sets c = search needs
 
--- src/lib.rt:74:5
 slice-write-sets : tie.Need-slice-write-sets
 slice-write-sets c = search needs
 
--- src/lib.rt:69:1
 same-length : tie.Need-same-length
 same-length c = search needs
 
--- src/lib.rt:69:1
 returns : tie.Need-returns
-returns c = search needs
+unfolding insert
+returns c = rw (c .with-bit .ensures, c .before .before .before .word-of .ensures, place-bit (c .before .before .before .before .before .args .row) (c .before .before .before .before .before .args .page .0))
 
 pub add-spec : {M : Type 1} → statement M
 add-spec =

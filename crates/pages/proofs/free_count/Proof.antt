@@ -3,6 +3,8 @@ use Prim.Native.Nat.{ℕ, _≤_, _<_, _-_, _+_}
 use mathlib.Core.Path.{_≡_, refl, sym, ap, _∙_}
 use native.Mathlib.Omega.{arith}
 use lib.ListN.{length, getD, drop, take}
+use Rattle.pages.specs.Rows.{freeCount}
+use Rattle.pages.specs.RowLaws.{freeCount-held, freeCount-passed, freeCount-le}
 use Rattle.pages.proofs.free_count.Statement.{statement}
 use Rattle.pages.proofs.free_count.Tie as tie
 use Rattle.pages.proofs.free_count.Reads as reads
@@ -10,38 +12,34 @@ use Rattle.pages.proofs.free_count.Lts as lts
 use Rattle.pages.proofs.holds.Reads as holds-reads
 
 abbrev Inv-loop : tie.InvT-loop
-Inv-loop sets pages count₀ page₀ count page = ?
+Inv-loop sets pages count₀ page₀ count page = (page ≤ pages) × (count ≡ freeCount sets page)
 
 abbrev μ-loop : tie.MeasureT-loop
-μ-loop sets pages count₀ page₀ count page = ?
+μ-loop sets pages count₀ page₀ count page = pages - page
 
--- src/lib.rt:93:5
 loop-holds : tie.Need-loop-holds Inv-loop μ-loop
+unfolding freeCount
 loop-holds c = search needs
 
--- src/lib.rt:94:12
 holds-requires : tie.Need-holds-requires Inv-loop μ-loop
 holds-requires c κs = search needs
 
--- src/lib.rt:95:13
 add-count : tie.Need-add-count Inv-loop μ-loop
-add-count c = search needs
+add-count c = omega (arith, freeCount-le (c .before .before .before .before .before .args .sets .now) (c .before .before .before .loop .page))
 
--- src/lib.rt:97:9
 add-page : tie.Need-add-page Inv-loop μ-loop
 add-page c = search needs
 
--- src/lib.rt:93:5
 loop-less : tie.Need-loop-less Inv-loop μ-loop
 loop-less c = search needs
 
--- src/lib.rt:93:5
 loop-again : tie.Need-loop-again Inv-loop μ-loop
-loop-again c = search needs
+loop-again c = ?
 
--- src/lib.rt:87:1
 returns : tie.Need-returns Inv-loop μ-loop
-returns c = search needs
+returns c =
+    let e : c .before .loop .page ≡ c .before .before .before .args .pages = omega arith in
+    rw e at (c .before .loop .inv .1)
 
 pub free-count-spec : {M : Type 1} → statement M
 free-count-spec =

@@ -3,6 +3,9 @@ use Prim.Native.Nat.{ℕ, _≤_, _<_, _-_, _+_}
 use mathlib.Core.Path.{_≡_, refl, sym, ap, _∙_}
 use native.Mathlib.Omega.{arith}
 use lib.ListN.{length, getD, drop, take}
+use Rattle.table.specs.Loops.{Rising, rise-start, rise-next, rise-found, rise-none}
+use Rattle.pages.specs.Rows.{lowestOf, lowestFree}
+use Rattle.pages.specs.RowLaws.{inPool, lowest-page, lowest-nothing}
 use Rattle.pages.proofs.lowest_free.Statement.{statement}
 use Rattle.pages.proofs.lowest_free.Tie as tie
 use Rattle.pages.proofs.lowest_free.Reads as reads
@@ -10,38 +13,43 @@ use Rattle.pages.proofs.lowest_free.Lts as lts
 use Rattle.pages.proofs.holds.Reads as holds-reads
 
 abbrev Inv-loop : tie.InvT-loop
-Inv-loop sets pages page₀ page = ?
+Inv-loop sets pages page₀ page = Rising (inPool sets) pages page
 
 abbrev μ-loop : tie.MeasureT-loop
-μ-loop sets pages page₀ page = ?
+μ-loop sets pages page₀ page = pages - page
 
--- src/lib.rt:107:5
 loop-holds : tie.Need-loop-holds Inv-loop μ-loop
-loop-holds c = search needs
+loop-holds c = rise-start (inPool (c .before .args .sets .now)) (c .before .args .pages)
 
--- src/lib.rt:108:12
 holds-requires : tie.Need-holds-requires Inv-loop μ-loop
 holds-requires c κs = search needs
 
--- src/lib.rt:109:13
 returns : tie.Need-returns Inv-loop μ-loop
-returns c = search needs
+unfolding lowestFree
+returns c =
+    let p = inPool (c .before .before .before .before .before .args .sets .now) in
+    let n = c .before .before .before .before .before .args .pages in
+    let i = c .before .before .before .loop .page in
+    let h : i < n = omega arith in
+    lowest-page n i h ∙ ap (lowestOf n) (rise-found p n i (c .before .before .before .loop .inv) h (sym (c .before .holds .ensures) ∙ c .if1 .taken))
 
--- src/lib.rt:111:9
 add-page : tie.Need-add-page Inv-loop μ-loop
 add-page c = search needs
 
--- src/lib.rt:107:5
 loop-less : tie.Need-loop-less Inv-loop μ-loop
 loop-less c = search needs
 
--- src/lib.rt:107:5
 loop-again : tie.Need-loop-again Inv-loop μ-loop
-loop-again c = search needs
+loop-again c = rise-next (inPool (c .before .before .before .before .before .args .sets .now)) (c .before .before .before .before .before .args .pages) (c .before .before .before .loop .page) (c .before .before .before .loop .inv) (omega arith) (sym (c .before .holds .ensures) ∙ c .if1 .left)
 
--- src/lib.rt:102:1
 returns-2 : tie.Need-returns-2 Inv-loop μ-loop
-returns-2 c = search needs
+unfolding lowestFree
+returns-2 c =
+    let p = inPool (c .before .before .before .args .sets .now) in
+    let n = c .before .before .before .args .pages in
+    let i = c .before .loop .page in
+    let e : i ≡ n = omega arith in
+    lowest-nothing n ∙ ap (lowestOf n) (sym e ∙ rise-none p n i (c .before .loop .inv) (omega arith))
 
 pub lowest-free-spec : {M : Type 1} → statement M
 lowest-free-spec =

@@ -1,42 +1,34 @@
+-- `pages::remove` meets its contract: the word and the bit are those of the page.
 use borrow.Author.Needs.{needs}
+use Rattle.pages.specs.Bits.{delete}
+use Rattle.pages.specs.RowLaws.{place-bit}
 use Rattle.pages.proofs.remove.Statement.{statement}
 use Rattle.pages.proofs.remove.Tie as tie
-use Rattle.pages.proofs.remove.Reads as reads
-use Rattle.pages.proofs.remove.Lts as lts
-use Rattle.pages.proofs.without_bit.Reads as without-bit-reads
-use Rattle.pages.proofs.word_of.Reads as word-of-reads
 
--- src/lib.rt:81:9
 word-of-requires : tie.Need-word-of-requires
 word-of-requires c κs = search needs
 
--- src/lib.rt:82:28
 mul-without-bit : tie.Need-mul-without-bit
 mul-without-bit c = search needs
 
--- src/lib.rt:82:28
 slice-read-without-bit : tie.Need-slice-read-without-bit
 slice-read-without-bit c = search needs
 
--- src/lib.rt:82:16
 without-bit-requires : tie.Need-without-bit-requires
 without-bit-requires c κs = search needs
 
--- src/lib.rt:82:5
 mul-sets : tie.Need-mul-sets
 mul-sets c = search needs
 
--- src/lib.rt:82:5
 slice-write-sets : tie.Need-slice-write-sets
 slice-write-sets c = search needs
 
--- src/lib.rt:77:1
 same-length : tie.Need-same-length
 same-length c = search needs
 
--- src/lib.rt:77:1
 returns : tie.Need-returns
-returns c = search needs
+unfolding delete
+returns c = rw (c .without-bit .ensures, c .before .before .before .word-of .ensures, place-bit (c .before .before .before .before .before .args .row) (c .before .before .before .before .before .args .page .0))
 
 pub remove-spec : {M : Type 1} → statement M
 remove-spec =
