@@ -3,6 +3,7 @@ use Prim.Native.Nat.{ℕ, _≤_, _<_, _-_, _+_}
 use mathlib.Core.Path.{_≡_, refl, sym, ap, _∙_}
 use native.Mathlib.Omega.{arith}
 use lib.ListN.{length, getD, drop, take}
+use mathlib.Core.Logic.{⊎-elim}
 use Rattle.pages.specs.Rows.{freeCount}
 use Rattle.pages.specs.RowLaws.{freeCount-held, freeCount-passed, freeCount-le}
 use Rattle.pages.proofs.free_count.Statement.{statement}
@@ -34,7 +35,16 @@ loop-less : tie.Need-loop-less Inv-loop μ-loop
 loop-less c = search needs
 
 loop-again : tie.Need-loop-again Inv-loop μ-loop
-loop-again c = ?
+loop-again c =
+    let sets = c .before .before .before .before .before .args .sets .now in
+    let page = c .before .before .before .loop .page in
+    (
+      omega arith,
+      ⊎-elim
+      (λ w. omega (arith, freeCount-held sets page (sym (c .before .holds .ensures) ∙ w .0 .taken)))
+      (λ w. omega (arith, freeCount-passed sets page (sym (c .before .holds .ensures) ∙ w .0 .left)))
+      (c .if1 .came),
+    )
 
 returns : tie.Need-returns Inv-loop μ-loop
 returns c =
