@@ -1,5 +1,5 @@
 -- Laws of one bit of a word, its ties to shift and mask, and the laws of sets of numbers kept as bits of words.
-use Prim.Native.Nat.{ℕ, zero, suc, _+_, _-_, _*_, _/_, _%_, _^_, _≤_, _<_}
+use Prim.Native.Nat.{ℕ, _+_, _-_, _*_, _/_, _%_, _^_, _≤_, _<_}
 use mathlib.Core.Bool.{Bool, true, false}
 use mathlib.Core.List.{List}
 use mathlib.Core.Logic.{_⊎_, inl, inr, ⊎-elim}
@@ -14,6 +14,7 @@ use lib.Pow.{pow-add, pow-lt, pow-pos, shl-exact, shr-shr, shr-lt, split, high, 
 use lib.Seq.{getD-set-same, getD-set-other, set-out}
 use Rattle.pages.specs.Bits.{bit, hasBit, withBit, withoutBit, contains, insert, delete}
 
+-- a test is true or false
 pub decide : (t : Bool) → (t ≡ true) ⊎ (t ≡ false)
 decide true = inl refl
 decide false = inr refl
@@ -118,7 +119,7 @@ and-not-bit w k l h =
     let two : 2 ^ (1 + k) ≡ 2 * 2 ^ k = pow-add 2 1 k in
     let mask : 2 ^ 64 - 1 - 2 ^ k ≡ (2 ^ (63 - k) - 1) * 2 ^ (1 + k) + (2 ^ k - 1) = omega (arith, rw e at (ones-split (63 - k) (1 + k))) in
     let top : bitAnd (w / 2 ^ (1 + k)) (2 ^ (63 - k) - 1) ≡ w / 2 ^ (1 + k) =
-      and-mask (w / 2 ^ (1 + k)) (63 - k) ∙ mod-eq-of-lt (shr-lt (63 - k) (1 + k) (rw e l)) in
+    and-mask (w / 2 ^ (1 + k)) (63 - k) ∙ mod-eq-of-lt (shr-lt (63 - k) (1 + k) (rw e l)) in
     let bottom : bitAnd (w % 2 ^ (1 + k)) (2 ^ k - 1) ≡ w % 2 ^ k = and-mask (w % 2 ^ (1 + k)) k ∙ mod-mod-pow w 1 k in
     let both = and-block (1 + k) (w / 2 ^ (1 + k)) (2 ^ (63 - k) - 1) (w % 2 ^ (1 + k)) (2 ^ k - 1) (mod-lt w (pow-pos (1 + k))) (omega (arith, pow-pos k)) in
     rw (split w (1 + k), top, bottom, ← mask) at both ∙ omega (arith, split w (1 + k), mod-pow-add w 1 k)
@@ -132,9 +133,11 @@ withoutBit-fits w k n l = omega arith
 
 -- ---- sets
 module _ (ws : List ℕ) (i : ℕ) where
-  pub contains-out : length ws ≤ i / 64 → contains ws i ≡ false
+  pub contains-out : 64 * length ws ≤ i → contains ws i ≡ false
   unfolding contains
-  contains-out h = rw (List·getD-eq-default ws 0 h, div-eq-of-lt (pow-pos (i % 64)))
+  contains-out h =
+      let past : length ws ≤ i / 64 = omega arith in
+      rw (List·getD-eq-default ws 0 past, div-eq-of-lt (pow-pos (i % 64)))
 
   -- a new word for i's: it says whether i is in the set
   set-same : (v : ℕ) → i / 64 < length ws → contains (set ws (i / 64) v) i ≡ hasBit v (i % 64)
@@ -177,7 +180,7 @@ module _ (ws : List ℕ) (i : ℕ) where
       outside : ltb (i / 64) (length ws) ≡ false → contains (delete ws i) i ≡ false
       outside f =
           let h = ltb-false (i / 64) (length ws) f in
-          rw (set-out ws (i / 64) (withoutBit (getD ws (i / 64) 0) (i % 64)) h) (contains-out h)
+          rw (set-out ws (i / 64) (withoutBit (getD ws (i / 64) 0) (i % 64)) h) (contains-out (omega arith))
 
   pub contains-delete-other : (j : ℕ) → (j ≡ i → ⊥) → contains (delete ws i) j ≡ contains ws j
   unfolding delete

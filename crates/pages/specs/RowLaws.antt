@@ -1,9 +1,9 @@
 -- Laws of the page sets: what adding and removing a page changes, and what the free count and the lowest free page say of the pool.
-use Prim.Native.Nat.{ℕ, zero, suc, _+_, _-_, _*_, _/_, _%_, _≤_, _<_}
+use Prim.Native.Nat.{ℕ, zero, suc, _+_, _*_, _%_, _≤_, _<_}
 use mathlib.Core.Bool.{Bool, true, false}
 use mathlib.Core.List.{List}
-use mathlib.Core.Logic.{_⊎_, inl, inr, ⊎-elim}
-use mathlib.Core.Path.{_≡_, refl, sym, ap, _∙_}
+use mathlib.Core.Logic.{⊎-elim}
+use mathlib.Core.Path.{_≡_, refl, sym}
 use native.Mathlib.Omega.{arith}
 use native.Mathlib.Numerals.{add-one}
 use borrow.Author.Count.{below-more}
@@ -11,11 +11,9 @@ use borrow.Author.Tests.{eq-eqb, ne-eqb, eqb-true, eqb-false}
 use lib.Dec.{eqb}
 use lib.ListN.{length}
 use Rattle.numbers.specs.Limits.{PAGES, SET_WORDS}
-use Rattle.numbers.specs.declared.Lowest.{Lowest}
 use Rattle.numbers.specs.declared.Lowest.the-variants.{Page, Nothing}
 use Rattle.numbers.specs.declared.PhysPage.{PhysPage}
 use Rattle.table.specs.Scan.{countBelow, lowest, lowestFrom}
-use Rattle.pages.specs.Bits.{contains, insert, delete}
 use Rattle.pages.specs.BitLaws.{
   decide,
   contains-insert-same,
@@ -28,13 +26,7 @@ use Rattle.pages.specs.BitLaws.{
 use Rattle.pages.specs.Rows.{poolRow, holds, add, remove, freeCount, lowestOf, lowestFree}
 
 -- ---- a page of a row
--- no two pages of any two rows have one bit
-place-same : (row row′ page page′ : ℕ) → page < PAGES → page′ < PAGES → row′ * PAGES + page′ ≡ row * PAGES + page → (row ≡ row′) × (page ≡ page′)
-place-same row row′ page page′ h h′ e =
-    let r : row ≡ row′ = omega arith in
-    (r, omega arith)
-
--- a page's bit of its word is the same in every row
+-- a row begins with a word of its own, so a page's bit is the same in every row
 pub place-bit : (row page : ℕ) → (row * PAGES + page) % 64 ≡ page % 64
 place-bit row page = omega arith
 
@@ -47,7 +39,7 @@ module _ (sets : List ℕ) (row page : ℕ) where
 
   module _ (row′ page′ : ℕ) (h : page < PAGES) (h′ : page′ < PAGES) (n : row ≡ row′ → page ≡ page′ → ⊥) where
     apart : row′ * PAGES + page′ ≡ row * PAGES + page → ⊥
-    apart e = let s = place-same row row′ page page′ h h′ e in n (s .0) (s .1)
+    apart e = let r : row ≡ row′ = omega arith in n r (omega arith)
 
     pub holds-add-other : holds (add sets row page) row′ page′ ≡ holds sets row′ page′
     holds-add-other = contains-insert-other sets (row * PAGES + page) (row′ * PAGES + page′) apart
@@ -91,7 +83,7 @@ module _ (p : ℕ → Bool) where
       later : Ends (suc i) n (lowestFrom p (suc i) n) → p i ≡ false → Ends i (suc n) (lowestFrom p i (suc n))
       later e f =
           let low : (k : ℕ) → i ≤ k → k < lowestFrom p (suc i) n → p k ≡ false =
-            λ k a b. ⊎-elim (λ t. rw (eqb-true k i t) f) (λ g. let d = eqb-false k i g in e .below k (omega arith) b) (decide (eqb k i)) in
+          λ k a b. ⊎-elim (λ t. rw (eqb-true k i t) f) (λ g. let d = eqb-false k i g in e .below k (omega arith) b) (decide (eqb k i)) in
           rw f (record { within = omega (arith, e .within); below = low; here = λ h. e .here (omega arith) })
 
   none-lowest : (n : ℕ) → countBelow p n ≡ 0 → lowest p n ≡ n
@@ -102,8 +94,8 @@ module _ (p : ℕ → Bool) where
           let d = eqb-false (lowest p n) n f in
           let w = ends 0 n .within in
           let t = ends 0 n .here (omega arith) in
-          let z = count-none n e (lowest p n) (omega arith) in
-          absurd (let a : _≡_ {A = ℕ} 0 1 = cc in omega arith)
+          let u = count-none n e (lowest p n) (omega arith) in
+          absurd (let z : _≡_ {A = ℕ} 0 1 = cc in omega arith)
 
 module _ (p q : ℕ → Bool) where
   count-alike : (n : ℕ) → ((k : ℕ) → k < n → q k ≡ p k) → countBelow q n ≡ countBelow p n
@@ -144,14 +136,17 @@ lowest-page n stop h = rw (ne-eqb stop n (omega arith))
 pub lowest-nothing : (n : ℕ) → Nothing ≡ lowestOf n n
 lowest-nothing n = rw (eq-eqb n n refl)
 
+page-nothing : (page : PhysPage) → Page page ≡ Nothing → ⊥
+page-nothing page e = let z : _≡_ {A = ℕ} 0 1 = cc in omega arith
+
 at-end : (n stop : ℕ) → lowestOf n stop ≡ Nothing → stop ≡ n
-at-end n stop e = ⊎-elim (λ t. eqb-true stop n t) (λ f. absurd (let e′ = rw f at e in let z : _≡_ {A = ℕ} 0 1 = cc in omega arith)) (decide (eqb stop n))
+at-end n stop e = ⊎-elim (λ t. eqb-true stop n t) (λ f. absurd (page-nothing _ (rw f at e))) (decide (eqb stop n))
 
 at-page : (n stop : ℕ) (page : PhysPage) → lowestOf n stop ≡ Page page → (stop ≡ page .0) × (stop ≡ n → ⊥)
-at-page n stop page e = ⊎-elim (λ t. absurd (let e′ = rw t at e in let z : _≡_ {A = ℕ} 0 1 = cc in omega arith)) (λ f. let e′ = rw f at e in (cc, eqb-false stop n f)) (decide (eqb stop n))
+at-page n stop page e = ⊎-elim (λ t. absurd (page-nothing page (sym (rw t at e)))) (λ f. let e′ = rw f at e in (cc, eqb-false stop n f)) (decide (eqb stop n))
 
 module _ (sets : List ℕ) (n : ℕ) where
-  -- one page more
+  -- the count, one page further
   pub freeCount-held : holds sets poolRow n ≡ true → freeCount sets (n + 1) ≡ freeCount sets n + 1
   unfolding freeCount
   freeCount-held t = rw (add-one n, t)
@@ -187,7 +182,7 @@ module _ (sets : List ℕ) (page n : ℕ) (h : page < n) where
   unfolding freeCount
   freeCount-add b l f =
       sym (count-one (inPool (add sets poolRow page)) (inPool sets) page n h (holds-add-same sets poolRow page b (omega arith)) f
-        (λ k d. sym (contains-insert-other sets (poolRow * PAGES + page) (poolRow * PAGES + k) (λ e. d (omega arith)))))
+      (λ k d. sym (contains-insert-other sets (poolRow * PAGES + page) (poolRow * PAGES + k) (λ e. d (omega arith)))))
 
   pub freeCount-remove : holds sets poolRow page ≡ true → freeCount (remove sets poolRow page) n + 1 ≡ freeCount sets n
   unfolding freeCount
@@ -195,7 +190,7 @@ module _ (sets : List ℕ) (page n : ℕ) (h : page < n) where
       count-one (inPool sets) (inPool (remove sets poolRow page)) page n h t (holds-remove-same sets poolRow page)
       (λ k d. contains-delete-other sets (poolRow * PAGES + page) (poolRow * PAGES + k) (λ e. d (omega arith)))
 
--- rows that agree in the pool below n
+-- sets that agree in the pool below n
 pub freeCount-alike : (sets sets′ : List ℕ) (n : ℕ) → ((k : ℕ) → k < n → holds sets′ poolRow k ≡ holds sets poolRow k) → freeCount sets′ n ≡ freeCount sets n
 unfolding freeCount
 freeCount-alike sets sets′ n h = count-alike (inPool sets) (inPool sets′) n h

@@ -5,10 +5,14 @@ ghost use lib.ListN.{length};
 ghost use Rattle.numbers.specs.Limits.{PAGES, SET_WORDS};
 ghost use Rattle.pages.specs.Bits.{hasBit, withBit, withoutBit};
 ghost use Rattle.pages.specs.Rows.{cpuRow, dmaRow, holds, add, remove, freeCount, lowestFree};
-use numbers::{VmId, PhysPage, Lowest, SET_WORDS};
+use numbers::Lowest;
+use numbers::PhysPage;
+use numbers::SET_WORDS;
+use numbers::VmId;
 
 // ---- Rows: the pool, the shared span, then two for each VM.
 pub const POOL: u64 = 0;
+
 pub const SHARED: u64 = 1;
 
 pub fn cpu_row(vm: VmId) -> u64
@@ -50,7 +54,7 @@ pub fn without_bit(w: u64, k: u64) -> u64
 
 // ---- One page of a set: bit page % 64 of the row's word page / 64.
 
-// Where that word stands. A row's words are counted here, and not its pages, since these may be too many to count.
+// Where that word stands. It counts words and not pages, since 64 times as many need not fit a u64.
 fn word_of(row: u64, page: PhysPage) -> usize
     requires { ⌜ (page .0 < PAGES) × ((row + 1) * SET_WORDS < 18446744073709551616) ⌝ }
     ensures { λ r. ⌜ r ≡ (row * PAGES + page .0) / 64 ⌝ }
@@ -103,12 +107,12 @@ pub fn lowest_free(sets: &[u64], pages: u64) -> Lowest
     requires { ⌜ (pages ≤ PAGES) × (SET_WORDS ≤ length (now sets)) ⌝ }
     ensures { λ r. ⌜ r ≡ lowestFree (now (sets .entry)) pages ⌝ }
 {
-    let mut page: u64 = 0;
-    while page < pages {
-        if holds(sets, POOL, PhysPage(page)) {
-            return Lowest::Page(PhysPage(page));
+    let mut lowest: u64 = 0;
+    while lowest < pages {
+        if holds(sets, POOL, PhysPage(lowest)) {
+            return Lowest::Page(PhysPage(lowest));
         }
-        page += 1;
+        lowest += 1;
     }
     Lowest::Nothing
 }

@@ -1,16 +1,13 @@
-use borrow.Author.Needs.{needs}
-use Prim.Native.Nat.{ℕ, _≤_, _<_, _-_, _+_}
-use mathlib.Core.Path.{_≡_, refl, sym, ap, _∙_}
-use native.Mathlib.Omega.{arith}
-use lib.ListN.{length, getD, drop, take}
+-- `pages::free_count` meets its contract: the count so far is that of the pages passed.
+use Prim.Native.Nat.{_≤_, _-_}
 use mathlib.Core.Logic.{⊎-elim}
+use mathlib.Core.Path.{_≡_, sym, _∙_}
+use native.Mathlib.Omega.{arith}
+use borrow.Author.Needs.{needs}
 use Rattle.pages.specs.Rows.{freeCount}
 use Rattle.pages.specs.RowLaws.{freeCount-held, freeCount-passed, freeCount-le}
 use Rattle.pages.proofs.free_count.Statement.{statement}
 use Rattle.pages.proofs.free_count.Tie as tie
-use Rattle.pages.proofs.free_count.Reads as reads
-use Rattle.pages.proofs.free_count.Lts as lts
-use Rattle.pages.proofs.holds.Reads as holds-reads
 
 abbrev Inv-loop : tie.InvT-loop
 Inv-loop sets pages count₀ page₀ count page = (page ≤ pages) × (count ≡ freeCount sets page)
@@ -36,14 +33,9 @@ loop-less c = search needs
 
 loop-again : tie.Need-loop-again Inv-loop μ-loop
 loop-again c =
-    let sets = c .before .before .before .before .before .args .sets .now in
-    let page = c .before .before .before .loop .page in
-    (
+    let held = sym (c .before .holds .ensures) in (
       omega arith,
-      ⊎-elim
-      (λ w. omega (arith, freeCount-held sets page (sym (c .before .holds .ensures) ∙ w .0 .taken)))
-      (λ w. omega (arith, freeCount-passed sets page (sym (c .before .holds .ensures) ∙ w .0 .left)))
-      (c .if1 .came),
+      ⊎-elim (λ w. omega (arith, freeCount-held _ _ (held ∙ w .0 .taken))) (λ w. omega (arith, freeCount-passed _ _ (held ∙ w .0 .left))) (c .if1 .came),
     )
 
 returns : tie.Need-returns Inv-loop μ-loop

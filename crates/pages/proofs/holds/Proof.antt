@@ -19,7 +19,7 @@ has-bit-requires c κs = search needs
 
 returns : tie.Need-returns
 unfolding contains
-returns c = rw (c .has-bit .ensures, c .before .before .before .word-of .ensures, place-bit (c .before .before .before .before .before .args .row) (c .before .before .before .before .before .args .page .0))
+returns c = rw (c .has-bit .ensures, c .before .before .before .word-of .ensures, place-bit)
 
 pub holds-spec : {M : Type 1} → statement M
 holds-spec =

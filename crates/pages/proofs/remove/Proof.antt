@@ -28,7 +28,7 @@ same-length c = search needs
 
 returns : tie.Need-returns
 unfolding delete
-returns c = rw (c .without-bit .ensures, c .before .before .before .word-of .ensures, place-bit (c .before .before .before .before .before .args .row) (c .before .before .before .before .before .args .page .0))
+returns c = rw (c .without-bit .ensures, c .before .before .before .word-of .ensures, place-bit)
 
 pub remove-spec : {M : Type 1} → statement M
 remove-spec =
