@@ -14,10 +14,16 @@ use lib.Pow.{pow-add, pow-lt, pow-pos, shl-exact, shr-shr, shr-lt, split, high, 
 use lib.Seq.{getD-set-same, getD-set-other, set-out}
 use Rattle.pages.specs.Bits.{bit, hasBit, withBit, withoutBit, contains, insert, delete}
 
--- a test is true or false
+-- ---- one of two cases
 pub decide : (t : Bool) → (t ≡ true) ⊎ (t ≡ false)
 decide true = inl refl
 decide false = inr refl
+
+pub equal-or : (a b : ℕ) → (a ≡ b) ⊎ (a ≡ b → ⊥)
+equal-or a b = ⊎-elim (λ t. inl (eqb-true a b t)) (λ f. inr (eqb-false a b f)) (decide (eqb a b))
+
+pub below-or : (a b : ℕ) → (a < b) ⊎ (b ≤ a)
+below-or a b = ⊎-elim (λ t. inl (ltb-true a b t)) (λ f. inr (ltb-false a b f)) (decide (ltb a b))
 
 -- ---- one bit
 pub bit-lt : (w k : ℕ) → bit w k < 2
@@ -62,18 +68,16 @@ module _ (w k b : ℕ) (l : b < 2) where
   put-same = rw put-high (omega arith)
 
   put-other : (j : ℕ) → (j ≡ k → ⊥) → bit (put w k b) j ≡ bit w j
-  put-other j n = ⊎-elim below above (decide (ltb j k))
+  put-other j n = ⊎-elim below above (below-or j k)
     where
-      below : ltb j k ≡ true → bit (put w k b) j ≡ bit w j
-      below t =
-          let h = ltb-true j k t in
+      below : j < k → bit (put w k b) j ≡ bit w j
+      below h =
           let e : k - j - 1 + 1 + j ≡ k = omega arith in
           let read : (v : ℕ) → v % 2 ^ k / 2 ^ j % 2 ≡ bit v j = λ v. rw e at (bit-below v j (k - j - 1)) in
           sym (read (put w k b)) ∙ rw put-low (read w)
 
-      above : ltb j k ≡ false → bit (put w k b) j ≡ bit w j
-      above f =
-          let h = ltb-false j k f in
+      above : k ≤ j → bit (put w k b) j ≡ bit w j
+      above h =
           let e : k + 1 + (j - k - 1) ≡ j = omega arith in
           let read : (v : ℕ) → v / 2 ^ k / 2 / 2 ^ (j - k - 1) % 2 ≡ bit v j = λ v. rw e at (bit-above v k (j - k - 1)) in
           sym (read (put w k b)) ∙ rw put-half (read w)
@@ -117,11 +121,13 @@ pub and-not-bit : (w k : ℕ) → w < 2 ^ 64 → k < 64 → bitAnd w (2 ^ 64 - 1
 and-not-bit w k l h =
     let e : 63 - k + (1 + k) ≡ 64 = omega arith in
     let two : 2 ^ (1 + k) ≡ 2 * 2 ^ k = pow-add 2 1 k in
-    let mask : 2 ^ 64 - 1 - 2 ^ k ≡ (2 ^ (63 - k) - 1) * 2 ^ (1 + k) + (2 ^ k - 1) = omega (arith, rw e at (ones-split (63 - k) (1 + k))) in
-    let top : bitAnd (w / 2 ^ (1 + k)) (2 ^ (63 - k) - 1) ≡ w / 2 ^ (1 + k) =
-    and-mask (w / 2 ^ (1 + k)) (63 - k) ∙ mod-eq-of-lt (shr-lt (63 - k) (1 + k) (rw e l)) in
-    let bottom : bitAnd (w % 2 ^ (1 + k)) (2 ^ k - 1) ≡ w % 2 ^ k = and-mask (w % 2 ^ (1 + k)) k ∙ mod-mod-pow w 1 k in
-    let both = and-block (1 + k) (w / 2 ^ (1 + k)) (2 ^ (63 - k) - 1) (w % 2 ^ (1 + k)) (2 ^ k - 1) (mod-lt w (pow-pos (1 + k))) (omega (arith, pow-pos k)) in
+    let ones = rw e at (ones-split (63 - k) (1 + k)) in
+    let mask : 2 ^ 64 - 1 - 2 ^ k ≡ (2 ^ (63 - k) - 1) * 2 ^ (1 + k) + (2 ^ k - 1) = omega arith in
+    let hi = w / 2 ^ (1 + k) in
+    let lo = w % 2 ^ (1 + k) in
+    let top : bitAnd hi (2 ^ (63 - k) - 1) ≡ hi = and-mask hi (63 - k) ∙ mod-eq-of-lt (shr-lt (63 - k) (1 + k) (rw e l)) in
+    let bottom : bitAnd lo (2 ^ k - 1) ≡ w % 2 ^ k = and-mask lo k ∙ mod-mod-pow w 1 k in
+    let both = and-block (1 + k) hi (2 ^ (63 - k) - 1) lo (2 ^ k - 1) (mod-lt w (pow-pos (1 + k))) (omega (arith, pow-pos k)) in
     rw (split w (1 + k), top, bottom, ← mask) at both ∙ omega (arith, split w (1 + k), mod-pow-add w 1 k)
 
 -- ---- widths
@@ -145,46 +151,41 @@ module _ (ws : List ℕ) (i : ℕ) where
   set-same v h = rw (getD-set-same ws (i / 64) v 0 h)
 
   -- and where it differs in i's bit alone, nothing else changes
-  set-other : (j v : ℕ) → (j ≡ i → ⊥) → ((k : ℕ) → (k ≡ i % 64 → ⊥) → hasBit v k ≡ hasBit (getD ws (i / 64) 0) k) → contains (set ws (i / 64) v) j ≡ contains ws j
+  set-other : (j v : ℕ) → (j ≡ i → ⊥) → ((k : ℕ) → (k ≡ i % 64 → ⊥) → hasBit v k ≡ hasBit (getD ws (i / 64) 0) k) →
+      contains (set ws (i / 64) v) j ≡ contains ws j
   unfolding contains
-  set-other j v n same = ⊎-elim (λ t. ⊎-elim (here t) outside (decide (ltb (i / 64) (length ws)))) there (decide (eqb (j / 64) (i / 64)))
+  set-other j v n same = ⊎-elim (λ e. ⊎-elim (here e) outside (below-or (i / 64) (length ws))) there (equal-or (j / 64) (i / 64))
     where
-      there : eqb (j / 64) (i / 64) ≡ false → contains (set ws (i / 64) v) j ≡ contains ws j
-      there f = rw (getD-set-other ws (i / 64) (j / 64) v 0 (eqb-false (j / 64) (i / 64) f))
+      here : j / 64 ≡ i / 64 → i / 64 < length ws → contains (set ws (i / 64) v) j ≡ contains ws j
+      here e h = rw (e, getD-set-same ws (i / 64) v 0 h) (same (j % 64) (λ q. n (omega arith)))
 
-      here : eqb (j / 64) (i / 64) ≡ true → ltb (i / 64) (length ws) ≡ true → contains (set ws (i / 64) v) j ≡ contains ws j
-      here t l =
-          let e = eqb-true (j / 64) (i / 64) t in
-          rw (e, getD-set-same ws (i / 64) v 0 (ltb-true (i / 64) (length ws) l)) (same (j % 64) (λ q. n (omega arith)))
+      outside : length ws ≤ i / 64 → contains (set ws (i / 64) v) j ≡ contains ws j
+      outside h = rw (set-out ws (i / 64) v h)
 
-      outside : ltb (i / 64) (length ws) ≡ false → contains (set ws (i / 64) v) j ≡ contains ws j
-      outside f = rw (set-out ws (i / 64) v (ltb-false (i / 64) (length ws) f))
+      there : (j / 64 ≡ i / 64 → ⊥) → contains (set ws (i / 64) v) j ≡ contains ws j
+      there d = rw (getD-set-other ws (i / 64) (j / 64) v 0 d)
 
   pub contains-insert-same : i < 64 * length ws → contains (insert ws i) i ≡ true
   unfolding insert
-  contains-insert-same h = set-same (withBit (getD ws (i / 64) 0) (i % 64)) (omega arith) ∙ hasBit-with-same (getD ws (i / 64) 0) (i % 64)
+  contains-insert-same h = set-same _ (omega arith) ∙ hasBit-with-same (getD ws (i / 64) 0) (i % 64)
 
   pub contains-insert-other : (j : ℕ) → (j ≡ i → ⊥) → contains (insert ws i) j ≡ contains ws j
   unfolding insert
-  contains-insert-other j n = set-other j (withBit (getD ws (i / 64) 0) (i % 64)) n (hasBit-with-other (getD ws (i / 64) 0) (i % 64))
+  contains-insert-other j n = set-other j _ n (hasBit-with-other (getD ws (i / 64) 0) (i % 64))
 
   pub contains-delete-same : contains (delete ws i) i ≡ false
   unfolding delete
-  contains-delete-same = ⊎-elim within outside (decide (ltb (i / 64) (length ws)))
+  contains-delete-same = ⊎-elim within outside (below-or (i / 64) (length ws))
     where
-      within : ltb (i / 64) (length ws) ≡ true → contains (delete ws i) i ≡ false
-      within t =
-          set-same (withoutBit (getD ws (i / 64) 0) (i % 64)) (ltb-true (i / 64) (length ws) t)
-          ∙ hasBit-without-same (getD ws (i / 64) 0) (i % 64)
+      within : i / 64 < length ws → contains (delete ws i) i ≡ false
+      within h = set-same _ h ∙ hasBit-without-same (getD ws (i / 64) 0) (i % 64)
 
-      outside : ltb (i / 64) (length ws) ≡ false → contains (delete ws i) i ≡ false
-      outside f =
-          let h = ltb-false (i / 64) (length ws) f in
-          rw (set-out ws (i / 64) (withoutBit (getD ws (i / 64) 0) (i % 64)) h) (contains-out (omega arith))
+      outside : length ws ≤ i / 64 → contains (delete ws i) i ≡ false
+      outside h = rw (set-out ws (i / 64)) (contains-out (omega arith))
 
   pub contains-delete-other : (j : ℕ) → (j ≡ i → ⊥) → contains (delete ws i) j ≡ contains ws j
   unfolding delete
-  contains-delete-other j n = set-other j (withoutBit (getD ws (i / 64) 0) (i % 64)) n (hasBit-without-other (getD ws (i / 64) 0) (i % 64))
+  contains-delete-other j n = set-other j _ n (hasBit-without-other (getD ws (i / 64) 0) (i % 64))
 
   pub length-insert : length (insert ws i) ≡ length ws
   unfolding insert

@@ -16,6 +16,8 @@ use Rattle.numbers.specs.declared.PhysPage.{PhysPage}
 use Rattle.table.specs.Scan.{countBelow, lowest, lowestFrom}
 use Rattle.pages.specs.BitLaws.{
   decide,
+  equal-or,
+  below-or,
   contains-insert-same,
   contains-insert-other,
   contains-delete-same,
@@ -65,7 +67,11 @@ module _ (p : ℕ → Bool) where
 
   count-none : (n : ℕ) → countBelow p n ≡ 0 → (k : ℕ) → k < n → p k ≡ false
   count-none zero e k l = absurd (omega arith)
-  count-none (suc n) e k l = ⊎-elim (λ t. absurd (omega (arith, rw t at e))) (λ f. below-more _ n (count-none n (rw f at e)) f k (omega arith)) (decide (p n))
+  count-none (suc n) e k l =
+      ⊎-elim
+      (λ t. absurd (omega (arith, rw t at e)))
+      (λ f. below-more _ n (count-none n (rw f at e)) f k (omega arith))
+      (decide (p n))
 
   -- what the search of the n numbers from i on says of where it ends
   record Ends (i n stop : ℕ) : Type 0 where
@@ -80,21 +86,19 @@ module _ (p : ℕ → Bool) where
       found : p i ≡ true → Ends i (suc n) (lowestFrom p i (suc n))
       found t = rw t (record { within = omega arith; below = λ k a b. absurd (omega arith); here = λ h. t })
 
+      low : Ends (suc i) n (lowestFrom p (suc i) n) → p i ≡ false → (k : ℕ) → i ≤ k → k < lowestFrom p (suc i) n → p k ≡ false
+      low e f k a b = ⊎-elim (λ q. rw q f) (λ d. e .below k (omega arith) b) (equal-or k i)
+
       later : Ends (suc i) n (lowestFrom p (suc i) n) → p i ≡ false → Ends i (suc n) (lowestFrom p i (suc n))
-      later e f =
-          let low : (k : ℕ) → i ≤ k → k < lowestFrom p (suc i) n → p k ≡ false =
-          λ k a b. ⊎-elim (λ t. rw (eqb-true k i t) f) (λ g. let d = eqb-false k i g in e .below k (omega arith) b) (decide (eqb k i)) in
-          rw f (record { within = omega (arith, e .within); below = low; here = λ h. e .here (omega arith) })
+      later e f = rw f (record { within = omega (arith, e .within); below = low e f; here = λ h. e .here (omega arith) })
 
   none-lowest : (n : ℕ) → countBelow p n ≡ 0 → lowest p n ≡ n
-  none-lowest n e = ⊎-elim (λ t. eqb-true (lowest p n) n t) passes (decide (eqb (lowest p n) n))
+  none-lowest n e = ⊎-elim passes (λ h. omega (arith, ends 0 n .within)) (below-or (lowest p n) n)
     where
-      passes : eqb (lowest p n) n ≡ false → lowest p n ≡ n
-      passes f =
-          let d = eqb-false (lowest p n) n f in
-          let w = ends 0 n .within in
+      passes : lowest p n < n → lowest p n ≡ n
+      passes h =
           let t = ends 0 n .here (omega arith) in
-          let u = count-none n e (lowest p n) (omega arith) in
+          let f = count-none n e (lowest p n) h in
           absurd (let z : _≡_ {A = ℕ} 0 1 = cc in omega arith)
 
 module _ (p q : ℕ → Bool) where
@@ -103,19 +107,16 @@ module _ (p q : ℕ → Bool) where
   count-alike (suc n) h = rw (h n (omega arith), count-alike n (λ k l. h k (omega arith)))
 
   -- one number fewer passes q than p
-  count-one : (i n : ℕ) → i < n → p i ≡ true → q i ≡ false → ((k : ℕ) → (k ≡ i → ⊥) → q k ≡ p k) → countBelow q n + 1 ≡ countBelow p n
+  count-one : (i n : ℕ) → i < n → p i ≡ true → q i ≡ false → ((k : ℕ) → (k ≡ i → ⊥) → q k ≡ p k) →
+      countBelow q n + 1 ≡ countBelow p n
   count-one i zero l t f h = absurd (omega arith)
-  count-one i (suc n) l t f h = ⊎-elim last (earlier (λ g. count-one i n g t f h)) (decide (eqb n i))
+  count-one i (suc n) l t f h = ⊎-elim last (earlier (λ g. count-one i n g t f h)) (equal-or n i)
     where
-      last : eqb n i ≡ true → countBelow q (suc n) + 1 ≡ countBelow p (suc n)
-      last y =
-          let e = eqb-true n i y in
-          let e′ = count-alike n (λ k g. h k (omega arith)) in
-          rw (e, t, f, ← e) (omega arith)
+      last : n ≡ i → countBelow q (suc n) + 1 ≡ countBelow p (suc n)
+      last e = let r = count-alike n (λ k g. h k (omega arith)) in rw (e, t, f, ← e) (omega arith)
 
-      earlier : (i < n → countBelow q n + 1 ≡ countBelow p n) → eqb n i ≡ false → countBelow q (suc n) + 1 ≡ countBelow p (suc n)
-      earlier r y =
-          let d = eqb-false n i y in
+      earlier : (i < n → countBelow q n + 1 ≡ countBelow p n) → (n ≡ i → ⊥) → countBelow q (suc n) + 1 ≡ countBelow p (suc n)
+      earlier r d =
           let e = r (omega arith) in
           rw (h n d) (⊎-elim (λ g. rw g (omega arith)) (λ g. rw g (omega arith)) (decide (p n)))
 
@@ -143,7 +144,11 @@ at-end : (n stop : ℕ) → lowestOf n stop ≡ Nothing → stop ≡ n
 at-end n stop e = ⊎-elim (λ t. eqb-true stop n t) (λ f. absurd (page-nothing _ (rw f at e))) (decide (eqb stop n))
 
 at-page : (n stop : ℕ) (page : PhysPage) → lowestOf n stop ≡ Page page → (stop ≡ page .0) × (stop ≡ n → ⊥)
-at-page n stop page e = ⊎-elim (λ t. absurd (page-nothing page (sym (rw t at e)))) (λ f. let e′ = rw f at e in (cc, eqb-false stop n f)) (decide (eqb stop n))
+at-page n stop page e =
+    ⊎-elim
+    (λ t. absurd (page-nothing page (sym (rw t at e))))
+    (λ f. let e′ = rw f at e in (cc, eqb-false stop n f))
+    (decide (eqb stop n))
 
 module _ (sets : List ℕ) (n : ℕ) where
   -- the count, one page further
@@ -178,7 +183,8 @@ module _ (sets : List ℕ) (n : ℕ) where
       record { within = omega arith; held = rw (z .0) at (r .here (omega arith)); lower = λ k l. r .below k (omega arith) (omega arith) }
 
 module _ (sets : List ℕ) (page n : ℕ) (h : page < n) where
-  pub freeCount-add : page < PAGES → SET_WORDS ≤ length sets → holds sets poolRow page ≡ false → freeCount (add sets poolRow page) n ≡ freeCount sets n + 1
+  pub freeCount-add : page < PAGES → SET_WORDS ≤ length sets → holds sets poolRow page ≡ false →
+      freeCount (add sets poolRow page) n ≡ freeCount sets n + 1
   unfolding freeCount
   freeCount-add b l f =
       sym (count-one (inPool (add sets poolRow page)) (inPool sets) page n h (holds-add-same sets poolRow page b (omega arith)) f
@@ -191,6 +197,7 @@ module _ (sets : List ℕ) (page n : ℕ) (h : page < n) where
       (λ k d. contains-delete-other sets (poolRow * PAGES + page) (poolRow * PAGES + k) (λ e. d (omega arith)))
 
 -- sets that agree in the pool below n
-pub freeCount-alike : (sets sets′ : List ℕ) (n : ℕ) → ((k : ℕ) → k < n → holds sets′ poolRow k ≡ holds sets poolRow k) → freeCount sets′ n ≡ freeCount sets n
+pub freeCount-alike : (sets sets′ : List ℕ) (n : ℕ) → ((k : ℕ) → k < n → holds sets′ poolRow k ≡ holds sets poolRow k) →
+    freeCount sets′ n ≡ freeCount sets n
 unfolding freeCount
 freeCount-alike sets sets′ n h = count-alike (inPool sets) (inPool sets′) n h

@@ -33,9 +33,12 @@ loop-less c = search needs
 
 loop-again : tie.Need-loop-again Inv-loop μ-loop
 loop-again c =
-    let held = sym (c .before .holds .ensures) in (
+    let test = sym (c .before .holds .ensures) in (
       omega arith,
-      ⊎-elim (λ w. omega (arith, freeCount-held _ _ (held ∙ w .0 .taken))) (λ w. omega (arith, freeCount-passed _ _ (held ∙ w .0 .left))) (c .if1 .came),
+      ⊎-elim
+          (λ w. omega (arith, freeCount-held _ _ (test ∙ w .0 .taken)))
+          (λ w. omega (arith, freeCount-passed _ _ (test ∙ w .0 .left)))
+          (c .if1 .came),
     )
 
 returns : tie.Need-returns Inv-loop μ-loop

@@ -26,7 +26,8 @@ unfolding lowestFree
 returns c =
     let n = c .before .before .before .before .before .args .pages in
     let h : c .before .before .before .loop .lowest < n = omega arith in
-    lowest-page n _ h ∙ ap (lowestOf n) (rise-found _ _ _ (c .before .before .before .loop .inv) h (sym (c .before .holds .ensures) ∙ c .if1 .taken))
+    let found = rise-found _ _ _ (c .before .before .before .loop .inv) h (sym (c .before .holds .ensures) ∙ c .if1 .taken) in
+    lowest-page n _ h ∙ ap (lowestOf n) found
 
 add-lowest : tie.Need-add-lowest Inv-loop μ-loop
 add-lowest c = search needs
