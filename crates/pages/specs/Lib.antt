@@ -1,3 +1,5 @@
 -- Sets of pages as bits of words: definitions, then laws.
 pub mod Bits
 pub mod Rows
+pub mod BitLaws
+pub mod RowLaws

@@ -1,0 +1,60 @@
+-- `pages::lowest_free` meets its contract: the loop is the search of `Rising` for a page in the pool.
+use Prim.Native.Nat.{_<_, _-_}
+use mathlib.Core.Path.{_≡_, sym, ap, _∙_}
+use native.Mathlib.Omega.{arith}
+use borrow.Author.Needs.{needs}
+use Rattle.table.specs.Loops.{Rising, rise-start, rise-next, rise-found, rise-none}
+use Rattle.pages.specs.Rows.{lowestOf, lowestFree}
+use Rattle.pages.specs.RowLaws.{inPool, lowest-page, lowest-nothing}
+use Rattle.pages.proofs.lowest_free.Statement.{statement}
+use Rattle.pages.proofs.lowest_free.Tie as tie
+
+abbrev Inv-loop : tie.InvT-loop
+Inv-loop sets pages lowest₀ lowest = Rising (inPool sets) pages lowest
+
+abbrev μ-loop : tie.MeasureT-loop
+μ-loop sets pages lowest₀ lowest = pages - lowest
+
+loop-holds : tie.Need-loop-holds Inv-loop μ-loop
+loop-holds c = rise-start _ _
+
+holds-requires : tie.Need-holds-requires Inv-loop μ-loop
+holds-requires c κs = search needs
+
+returns : tie.Need-returns Inv-loop μ-loop
+unfolding lowestFree
+returns c =
+    let n = c .before .before .before .before .before .args .pages in
+    let h : c .before .before .before .loop .lowest < n = omega arith in
+    let found = rise-found _ _ _ (c .before .before .before .loop .inv) h (sym (c .before .holds .ensures) ∙ c .if1 .taken) in
+    lowest-page n _ h ∙ ap (lowestOf n) found
+
+add-lowest : tie.Need-add-lowest Inv-loop μ-loop
+add-lowest c = search needs
+
+loop-less : tie.Need-loop-less Inv-loop μ-loop
+loop-less c = search needs
+
+loop-again : tie.Need-loop-again Inv-loop μ-loop
+loop-again c = rise-next _ _ _ (c .before .before .before .loop .inv) (omega arith) (sym (c .before .holds .ensures) ∙ c .if1 .left)
+
+returns-2 : tie.Need-returns-2 Inv-loop μ-loop
+unfolding lowestFree
+returns-2 c =
+    let n = c .before .before .before .args .pages in
+    let e : n ≡ c .before .loop .lowest = omega arith in
+    lowest-nothing n ∙ ap (lowestOf n) (e ∙ rise-none _ _ _ (c .before .loop .inv) (omega arith))
+
+pub lowest-free-spec : {M : Type 1} → statement M
+lowest-free-spec =
+    tie.close
+    (tie.spec
+    Inv-loop
+    μ-loop
+    loop-holds
+    holds-requires
+    returns
+    add-lowest
+    loop-less
+    loop-again
+    returns-2)
