@@ -10,7 +10,7 @@ use borrow.Author.Count.{below-more}
 use borrow.Author.Tests.{eq-eqb, ne-eqb, eqb-true, eqb-false}
 use lib.Dec.{eqb}
 use lib.ListN.{length}
-use Rattle.numbers.specs.Limits.{PAGES, SET_WORDS}
+use Rattle.numbers.specs.Limits.{PAGES, SET-WORDS}
 use Rattle.numbers.specs.declared.Lowest.the-variants.{Page, Nothing}
 use Rattle.numbers.specs.declared.PhysPage.{PhysPage}
 use Rattle.table.specs.Scan.{countBelow, lowest, lowestFrom}
@@ -33,7 +33,7 @@ pub place-bit : (row page : ℕ) → (row * PAGES + page) % 64 ≡ page % 64
 place-bit row page = omega arith
 
 module _ (sets : List ℕ) (row page : ℕ) where
-  pub holds-add-same : page < PAGES → (row + 1) * SET_WORDS ≤ length sets → holds (add sets row page) row page ≡ true
+  pub holds-add-same : page < PAGES → (row + 1) * SET-WORDS ≤ length sets → holds (add sets row page) row page ≡ true
   holds-add-same h l = contains-insert-same sets (row * PAGES + page) (omega arith)
 
   pub holds-remove-same : holds (remove sets row page) row page ≡ false
@@ -183,7 +183,7 @@ module _ (sets : List ℕ) (n : ℕ) where
       record { within = omega arith; held = rw (z .0) at (r .here (omega arith)); lower = λ k l. r .below k (omega arith) (omega arith) }
 
 module _ (sets : List ℕ) (page n : ℕ) (h : page < n) where
-  pub freeCount-add : page < PAGES → SET_WORDS ≤ length sets → holds sets poolRow page ≡ false →
+  pub freeCount-add : page < PAGES → SET-WORDS ≤ length sets → holds sets poolRow page ≡ false →
       freeCount (add sets poolRow page) n ≡ freeCount sets n + 1
   unfolding freeCount
   freeCount-add b l f =

@@ -2,7 +2,7 @@
 ghost use mathlib.Core.Path.{_≡_};
 ghost use Prim.Native.Nat.{_+_, _*_, _/_, _<_, _≤_};
 ghost use lib.ListN.{length};
-ghost use Rattle.numbers.specs.Limits.{PAGES, SET_WORDS};
+ghost use Rattle.numbers.specs.Limits.{PAGES, SET-WORDS};
 ghost use Rattle.pages.specs.Bits.{hasBit, withBit, withoutBit};
 ghost use Rattle.pages.specs.Rows.{cpuRow, dmaRow, holds, add, remove, freeCount, lowestFree};
 use numbers::Lowest;
@@ -56,14 +56,14 @@ pub fn without_bit(w: u64, k: u64) -> u64
 
 // Where that word stands. It counts words and not pages, since 64 times as many need not fit a u64.
 fn word_of(row: u64, page: PhysPage) -> usize
-    requires { ⌜ (page .0 < PAGES) × ((row + 1) * SET_WORDS < 18446744073709551616) ⌝ }
+    requires { ⌜ (page .0 < PAGES) × ((row + 1) * SET-WORDS < 18446744073709551616) ⌝ }
     ensures { λ r. ⌜ r ≡ (row * PAGES + page .0) / 64 ⌝ }
 {
     row as usize * SET_WORDS + (page.0 / 64) as usize
 }
 
 pub fn holds(sets: &[u64], row: u64, page: PhysPage) -> bool
-    requires { ⌜ (page .0 < PAGES) × ((row + 1) * SET_WORDS ≤ length (now sets)) ⌝ }
+    requires { ⌜ (page .0 < PAGES) × ((row + 1) * SET-WORDS ≤ length (now sets)) ⌝ }
     ensures { λ r. ⌜ r ≡ holds (now (sets .entry)) row (page .0) ⌝ }
 {
     let at = word_of(row, page);
@@ -71,7 +71,7 @@ pub fn holds(sets: &[u64], row: u64, page: PhysPage) -> bool
 }
 
 pub fn add(sets: &mut [u64], row: u64, page: PhysPage)
-    requires { ⌜ (page .0 < PAGES) × ((row + 1) * SET_WORDS ≤ length (now sets)) ⌝ }
+    requires { ⌜ (page .0 < PAGES) × ((row + 1) * SET-WORDS ≤ length (now sets)) ⌝ }
     ensures { λ _. ⌜ now (sets .exit) ≡ add (now (sets .entry)) row (page .0) ⌝ }
 {
     let at = word_of(row, page);
@@ -79,7 +79,7 @@ pub fn add(sets: &mut [u64], row: u64, page: PhysPage)
 }
 
 pub fn remove(sets: &mut [u64], row: u64, page: PhysPage)
-    requires { ⌜ (page .0 < PAGES) × ((row + 1) * SET_WORDS ≤ length (now sets)) ⌝ }
+    requires { ⌜ (page .0 < PAGES) × ((row + 1) * SET-WORDS ≤ length (now sets)) ⌝ }
     ensures { λ _. ⌜ now (sets .exit) ≡ remove (now (sets .entry)) row (page .0) ⌝ }
 {
     let at = word_of(row, page);
@@ -89,7 +89,7 @@ pub fn remove(sets: &mut [u64], row: u64, page: PhysPage)
 // ---- The free pages of a machine of so many pages: those in the pool. Each visits every page.
 
 pub fn free_count(sets: &[u64], pages: u64) -> u64
-    requires { ⌜ (pages ≤ PAGES) × (SET_WORDS ≤ length (now sets)) ⌝ }
+    requires { ⌜ (pages ≤ PAGES) × (SET-WORDS ≤ length (now sets)) ⌝ }
     ensures { λ r. ⌜ r ≡ freeCount (now (sets .entry)) pages ⌝ }
 {
     let mut count: u64 = 0;
@@ -104,7 +104,7 @@ pub fn free_count(sets: &[u64], pages: u64) -> u64
 }
 
 pub fn lowest_free(sets: &[u64], pages: u64) -> Lowest
-    requires { ⌜ (pages ≤ PAGES) × (SET_WORDS ≤ length (now sets)) ⌝ }
+    requires { ⌜ (pages ≤ PAGES) × (SET-WORDS ≤ length (now sets)) ⌝ }
     ensures { λ r. ⌜ r ≡ lowestFree (now (sets .entry)) pages ⌝ }
 {
     let mut lowest: u64 = 0;
