@@ -1,5 +1,6 @@
 -- What a reader must believe: the machine, in the paper's order.
 pub mod State
+pub mod Header
 pub mod Views
 pub mod Valid
 pub mod Effect
