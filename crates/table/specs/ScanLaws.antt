@@ -167,7 +167,7 @@ module _ (p : ℕ → Bool) where
   pub lowest-found : (n : ℕ) → lowest p n < n → (p (lowest p n) ≡ true) × ((k : ℕ) → k < lowest p n → p k ≡ false)
   lowest-found n h = let r = from-lowest 0 n in (r .passes (omega arith), λ k l. r .before k (omega arith) l)
 
-  pub lowest-none : (n : ℕ) → lowest p n ≡ n → (k : ℕ) → k < n → p k ≡ false
+  pub lowest-none : (n : ℕ) → n ≤ lowest p n → (k : ℕ) → k < n → p k ≡ false
   lowest-none n e k h = from-lowest 0 n .before k (omega arith) (omega arith)
 
 -- ---- the words that pass, emptied

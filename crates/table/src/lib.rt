@@ -14,12 +14,12 @@ pub enum Found {
 pub fn find(words: &[u64], key: u64) -> Found
     ensures { λ r. ⌜ r ≡ find keyOf (now (words .entry)) key ⌝ }
 {
-    let mut i = 0;
-    while i < words.len() {
-        if numbers::key_of(words[i]) == key {
-            return Found::At(i);
+    let mut spot = 0;
+    while spot < words.len() {
+        if numbers::key_of(words[spot]) == key {
+            return Found::At(spot);
         }
-        i += 1;
+        spot += 1;
     }
     Found::Nothing
 }
@@ -39,12 +39,12 @@ pub fn lookup(words: &[u64], key: u64) -> u64
 pub fn lowest_free(words: &[u64]) -> Found
     ensures { λ r. ⌜ r ≡ lowestFree (now (words .entry)) ⌝ }
 {
-    let mut i = 0;
-    while i < words.len() {
-        if words[i] == 0 {
-            return Found::At(i);
+    let mut spot = 0;
+    while spot < words.len() {
+        if words[spot] == 0 {
+            return Found::At(spot);
         }
-        i += 1;
+        spot += 1;
     }
     Found::Nothing
 }
@@ -68,8 +68,8 @@ pub fn free_entries(words: &[u64]) -> u64
 pub fn place(words: &[u64], key: u64) -> Found
     ensures { λ r. ⌜ r ≡ place keyOf (now (words .entry)) key ⌝ }
 {
-    let there = find(words, key);
-    match there {
+    let old = find(words, key);
+    match old {
         Found::At(i) => Found::At(i),
         Found::Nothing => lowest_free(words),
     }
@@ -79,8 +79,8 @@ pub fn place(words: &[u64], key: u64) -> Found
 pub fn put(words: &mut [u64], key: u64, word: u64)
     ensures { λ r. ⌜ now (words .exit) ≡ put keyOf (now (words .entry)) key word ⌝ }
 {
-    let spot = place(words, key);
-    if let Found::At(i) = spot {
+    let there = place(words, key);
+    if let Found::At(i) = there {
         words[i] = word;
     }
 }

@@ -11,10 +11,10 @@ use Rattle.table.proofs.find.Statement.{statement}
 use Rattle.table.proofs.find.Tie as tie
 
 abbrev Inv-loop : tie.InvT-loop
-Inv-loop words key i₀ i = Seeking (hasKey keyOf key) words i
+Inv-loop words key spot₀ spot = Seeking (hasKey keyOf key) words spot
 
 abbrev μ-loop : tie.MeasureT-loop
-μ-loop words key i₀ i = length words - i
+μ-loop words key spot₀ spot = length words - spot
 
 loop-holds : tie.Need-loop-holds Inv-loop μ-loop
 loop-holds c = seek-start _ _
@@ -34,8 +34,8 @@ returns c =
     let t = c .before .before .before in
     seek-found _ _ _ (t .before .loop .inv) (t .loop-test .taken) (eq-eqb _ _ (sym (c .before .key-of .ensures) ∙ c .if1 .taken))
 
-add-i : tie.Need-add-i Inv-loop μ-loop
-add-i c = search needs
+add-spot : tie.Need-add-spot Inv-loop μ-loop
+add-spot c = search needs
 
 loop-less : tie.Need-loop-less Inv-loop μ-loop
 loop-less c = search needs
@@ -60,7 +60,7 @@ find-spec =
     shared-slice-read-key-of
     key-of-requires
     returns
-    add-i
+    add-spot
     loop-less
     loop-again
     returns-2)

@@ -9,10 +9,10 @@ use Rattle.table.proofs.lowest_free.Statement.{statement}
 use Rattle.table.proofs.lowest_free.Tie as tie
 
 abbrev Inv-loop : tie.InvT-loop
-Inv-loop words i₀ i = Seeking isEmpty words i
+Inv-loop words spot₀ spot = Seeking isEmpty words spot
 
 abbrev μ-loop : tie.MeasureT-loop
-μ-loop words i₀ i = length words - i
+μ-loop words spot₀ spot = length words - spot
 
 loop-holds : tie.Need-loop-holds Inv-loop μ-loop
 loop-holds c = seek-start _ _
@@ -29,8 +29,8 @@ returns c =
     let t = c .before .before in
     seek-found _ _ _ (t .before .loop .inv) (t .loop-test .taken) (eq-eqb _ _ (c .if1 .taken))
 
-add-i : tie.Need-add-i Inv-loop μ-loop
-add-i c = search needs
+add-spot : tie.Need-add-spot Inv-loop μ-loop
+add-spot c = search needs
 
 loop-less : tie.Need-loop-less Inv-loop μ-loop
 loop-less c = search needs
@@ -54,7 +54,7 @@ lowest-free-spec =
     mul-if1
     shared-slice-read-if1
     returns
-    add-i
+    add-spot
     loop-less
     loop-again
     returns-2)

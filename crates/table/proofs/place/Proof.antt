@@ -7,8 +7,8 @@ use Rattle.table.proofs.place.Tie as tie
 find-requires : tie.Need-find-requires
 find-requires c κs = search needs
 
-enum-known-there : tie.Need-enum-known-there
-enum-known-there c = search needs
+enum-known-old : tie.Need-enum-known-old
+enum-known-old c = search needs
 
 enum-told : tie.Need-enum-told
 enum-told c = search needs
@@ -18,7 +18,7 @@ lowest-free-requires c κs = search needs
 
 returns : tie.Need-returns
 unfolding place
-returns c = rw (← c .before .before .before .find .ensures, c .before .there .given .1)
+returns c = rw (← c .before .before .before .find .ensures, c .before .old .given .1)
 
 returns-2 : tie.Need-returns-2
 unfolding place
@@ -27,4 +27,4 @@ returns-2 c = rw (← c .before .before .before .find .ensures, c .before .enum-
 pub place-spec : {M : Type 1} → statement M
 place-spec =
     tie.close
-    (tie.spec find-requires enum-known-there enum-told lowest-free-requires returns returns-2)
+    (tie.spec find-requires enum-known-old enum-told lowest-free-requires returns returns-2)

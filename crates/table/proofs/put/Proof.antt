@@ -13,13 +13,13 @@ use Rattle.table.proofs.put.Tie as tie
 place-requires : tie.Need-place-requires
 place-requires c κs = search needs
 
-enum-known-spot : tie.Need-enum-known-spot
-enum-known-spot c = search needs
+enum-known-there : tie.Need-enum-known-there
+enum-known-there c = search needs
 
-found : (c : tie.After-known-told) → place keyOf (c .before .before .before .before .before .before .args .words .now) (c .before .before .before .before .before .before .args .key) ≡ At (c .before .spot .given .0 .0)
-found c = sym (c .before .before .before .place .ensures) ∙ c .before .spot .given .1
+found : (c : tie.After-known-told) → place keyOf (c .before .before .before .before .before .before .args .words .now) (c .before .before .before .before .before .before .args .key) ≡ At (c .before .there .given .0 .0)
+found c = sym (c .before .before .before .place .ensures) ∙ c .before .there .given .1
 
-within : (c : tie.After-known-told) → c .before .spot .given .0 .0 < length (c .before .before .before .before .before .before .args .words .now)
+within : (c : tie.After-known-told) → c .before .there .given .0 .0 < length (c .before .before .before .before .before .before .args .words .now)
 within c = place-within keyOf _ _ _ (found c)
 
 mul-words : tie.Need-mul-words
@@ -50,7 +50,7 @@ put-spec =
     tie.close
     (tie.spec
     place-requires
-    enum-known-spot
+    enum-known-there
     mul-words
     slice-write-words
     enum-told
