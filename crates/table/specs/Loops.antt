@@ -1,15 +1,14 @@
 -- What holds at the head of a loop, a record for each shape of loop: how it begins, what a turn keeps, and what it gives where the loop is left.
-use Prim.Native.Nat.{ℕ, zero, suc, _+_, _-_, _≤_, _<_}
+use Prim.Native.Nat.{ℕ, suc, _+_, _-_, _≤_, _<_}
 use mathlib.Core.Bool.{Bool, true, false}
 use mathlib.Core.List.{List, [], _∷_, _++_, map, append-nil}
 use mathlib.Core.Path.{_≡_, refl, sym, ap, _∙_}
 use native.Mathlib.Numerals.{add-one}
 use native.Mathlib.Omega.{arith}
 use borrow.Author.Fill.{fill-none, fill-more}
-use lib.ListN.{length, getD, set, take, drop, replicate, length-set, length-append, length-drop, length-map, drop-of-length-le}
+use lib.ListN.{length, getD, set, take, drop, replicate, length-set, length-map, drop-of-length-le}
 use lib.Seq.{drop-length, drop-cons, take-suc, take-all, length-take-le, getD-at, set-at, append-snoc}
 use Rattle.table.specs.Scan.{first, firstFrom, any, lowest, lowestFrom, count, cleared, wipe, repeat, anyFrom, anyBelow, countBelow}
-use Rattle.table.specs.declared.Found.{Found}
 use Rattle.table.specs.declared.Found.the-variants.{At, Nothing}
 
 less : (n i : ℕ) → i < n → n - i ≡ suc (n - (i + 1))

@@ -11,12 +11,17 @@ use borrow.Author.Tests.{eqb-true, eqb-false}
 use Rattle.numbers.specs.Choice.{if_then_else_}
 use Rattle.table.specs.Scan.{first, firstFrom, any, count, cleared, wipe, lowest, lowestFrom, anyFrom, anyBelow}
 use Rattle.table.specs.Table.{Has}
-use Rattle.table.specs.declared.Found.{Found}
 use Rattle.table.specs.declared.Found.the-variants.{At, Nothing}
 
 pub cases : (t : Bool) → (t ≡ true) ⊎ (t ≡ false)
 cases true = inl refl
 cases false = inr refl
+
+pub equal : (a b : ℕ) → (a ≡ b) ⊎ (a ≡ b → ⊥)
+equal a b = ⊎-elim (λ t. inl (eqb-true a b t)) (λ f. inr (eqb-false a b f)) (cases (eqb a b))
+
+pub found-never : (i : ℕ) → At i ≡ Nothing → ⊥
+found-never i e = let z : _≡_ {A = ℕ} 0 1 = cc in omega arith
 
 -- ---- the first word that passes
 -- i is the first place whose word passes
@@ -25,62 +30,46 @@ pub record IsFirst (p : ℕ → Bool) (ws : List ℕ) (i : ℕ) : Type 0 where
   pub passes : p (getD ws i 0) ≡ true
   pub before : (k : ℕ) → k < i → p (getD ws k 0) ≡ false
 
--- a search of all but the first word, told from the list's start
-abbrev up : Found → Found
-up (At i) = At (suc i)
-up Nothing = Nothing
-
-up-at : (f : Found) (i : ℕ) → up f ≡ At i → (j : ℕ) × (i ≡ suc j) × (f ≡ At j)
-up-at (At j) i e = (j, cc, refl)
-up-at Nothing i e = let z : _≡_ {A = ℕ} 0 1 = cc in absurd (omega arith)
-
-up-none : (f : Found) → up f ≡ Nothing → f ≡ Nothing
-up-none (At j) e = let z : _≡_ {A = ℕ} 0 1 = cc in absurd (omega arith)
-up-none Nothing e = refl
-
 module _ (p : ℕ → Bool) where
-  shifted : (o : ℕ) (ws : List ℕ) → firstFrom p (suc o) ws ≡ up (firstFrom p o ws)
-  shifted o [] = refl
-  shifted o (w ∷ ws) = ⊎-elim (λ t. rw t) (λ f. rw f (shifted (suc o) ws)) (cases (p w))
-
-  first-cons : (w : ℕ) (ws : List ℕ) → first p (w ∷ ws) ≡ (if p w then At 0 else up (first p ws))
-  first-cons w ws = rw (shifted 0 ws)
-
-  first-at-cons : (w : ℕ) (ws : List ℕ) (i : ℕ) → ((j : ℕ) → first p ws ≡ At j → IsFirst p ws j) → (t : Bool) → p w ≡ t → (if t then At 0 else up (first p ws)) ≡ At i → IsFirst p (w ∷ ws) i
-  first-at-cons w ws i ih true t e =
-      let z : 0 ≡ i = cc in
-      rw (← z) (record { within = omega arith; passes = t; before = λ k h. absurd (omega arith) })
-  first-at-cons w ws i ih false t e =
-      let (j, s, q) = up-at (first p ws) i e in
-      let r = ih j q in
-      rw s (record { within = omega arith; passes = r .passes; before = earlier j (r .before) })
+  -- each law first for the words from o on
+  from-at : (o : ℕ) (ws : List ℕ) (i : ℕ) → firstFrom p o ws ≡ At i → (j : ℕ) × (i ≡ o + j) × IsFirst p ws j
+  from-at o [] i e = absurd (found-never i (sym e))
+  from-at o (w ∷ ws) i e =
+      ⊎-elim (λ t. let z : At o ≡ At i = rw t at e in let q : o ≡ i = cc in (0, omega arith, record { within = omega arith; passes = t; before = λ k h. absurd (omega arith) }))
+      (λ f. let (j, s, r) = from-at (suc o) ws i (rw f at e) in (suc j, omega arith, record { within = omega arith; passes = r .passes; before = earlier j f (r .before) }))
+      (cases (p w))
     where
-      earlier : (j : ℕ) → ((k : ℕ) → k < j → p (getD ws k 0) ≡ false) → (k : ℕ) → k < suc j → p (getD (w ∷ ws) k 0) ≡ false
-      earlier j b zero h = t
-      earlier j b (suc k) h = b k (omega arith)
+      earlier : (j : ℕ) → p w ≡ false → ((k : ℕ) → k < j → p (getD ws k 0) ≡ false) → (k : ℕ) → k < suc j → p (getD (w ∷ ws) k 0) ≡ false
+      earlier j f b zero h = f
+      earlier j f b (suc k) h = b k (omega arith)
 
   pub first-at : (ws : List ℕ) (i : ℕ) → first p ws ≡ At i → IsFirst p ws i
-  first-at [] i e = let z : _≡_ {A = ℕ} 0 1 = cc in absurd (omega arith)
-  first-at (w ∷ ws) i e = first-at-cons w ws i (first-at ws) (p w) refl (sym (first-cons w ws) ∙ e)
+  first-at ws i e = let (j, s, r) = from-at 0 ws i e in let z : i ≡ j = omega arith in rw z r
 
-  first-none-cons : (w : ℕ) (ws : List ℕ) → (first p ws ≡ Nothing → (k : ℕ) → k < length ws → p (getD ws k 0) ≡ false) → (t : Bool) → p w ≡ t → (if t then At 0 else up (first p ws)) ≡ Nothing → (k : ℕ) → k < length (w ∷ ws) → p (getD (w ∷ ws) k 0) ≡ false
-  first-none-cons w ws ih true t e k h = let z : _≡_ {A = ℕ} 0 1 = cc in absurd (omega arith)
-  first-none-cons w ws ih false t e zero h = t
-  first-none-cons w ws ih false t e (suc k) h = ih (up-none (first p ws) e) k (omega arith)
+  from-none : (o : ℕ) (ws : List ℕ) → firstFrom p o ws ≡ Nothing → (k : ℕ) → k < length ws → p (getD ws k 0) ≡ false
+  from-none o [] e k h = absurd (omega arith)
+  from-none o (w ∷ ws) e zero h = ⊎-elim (λ t. absurd (found-never o (rw t at e))) (λ f. f) (cases (p w))
+  from-none o (w ∷ ws) e (suc k) h =
+      ⊎-elim (λ t. absurd (found-never o (rw t at e))) (λ f. from-none (suc o) ws (rw f at e) k (omega arith)) (cases (p w))
 
   pub first-none : (ws : List ℕ) → first p ws ≡ Nothing → (k : ℕ) → k < length ws → p (getD ws k 0) ≡ false
-  first-none [] e k h = absurd (omega arith)
-  first-none (w ∷ ws) e k h = first-none-cons w ws (first-none ws) (p w) refl (sym (first-cons w ws) ∙ e) k h
+  first-none ws e = from-none 0 ws e
+
+  from-is : (o : ℕ) (ws : List ℕ) (i : ℕ) → IsFirst p ws i → firstFrom p o ws ≡ At (o + i)
+  from-is o [] i r = absurd (omega arith)
+  from-is o (w ∷ ws) zero r = rw (r .passes) (ap At (omega arith))
+  from-is o (w ∷ ws) (suc i) r =
+      rw (r .before 0 (omega arith), from-is (suc o) ws i (record { within = omega arith; passes = r .passes; before = λ k h. r .before (suc k) (omega arith) })) (ap At (omega arith))
 
   pub first-is : (ws : List ℕ) (i : ℕ) → IsFirst p ws i → first p ws ≡ At i
-  first-is [] i r = absurd (omega arith)
-  first-is (w ∷ ws) zero r = rw (r .passes)
-  first-is (w ∷ ws) (suc i) r =
-      first-cons w ws ∙ rw (r .before 0 (omega arith), first-is ws i (record { within = omega arith; passes = r .passes; before = λ k h. r .before (suc k) (omega arith) }))
+  first-is ws i r = from-is 0 ws i r ∙ ap At (omega arith)
+
+  from-lacks : (o : ℕ) (ws : List ℕ) → ((k : ℕ) → k < length ws → p (getD ws k 0) ≡ false) → firstFrom p o ws ≡ Nothing
+  from-lacks o [] h = refl
+  from-lacks o (w ∷ ws) h = rw (h 0 (omega arith)) (from-lacks (suc o) ws (λ k l. h (suc k) (omega arith)))
 
   pub first-lacks : (ws : List ℕ) → ((k : ℕ) → k < length ws → p (getD ws k 0) ≡ false) → first p ws ≡ Nothing
-  first-lacks [] h = refl
-  first-lacks (w ∷ ws) h = first-cons w ws ∙ rw (h 0 (omega arith), first-lacks ws (λ k l. h (suc k) (omega arith)))
+  first-lacks ws h = from-lacks 0 ws h
 
   -- a store that neither brings nor takes a word that passes changes no search
   pub first-set : (o : ℕ) (ws : List ℕ) (i w : ℕ) → p w ≡ false → p (getD ws i 0) ≡ false → firstFrom p o (set ws i w) ≡ firstFrom p o ws
@@ -117,26 +106,23 @@ module _ (p : ℕ → Bool) where
 
 -- ---- whether a number below n passes, and the lowest that does
 module _ (p : ℕ → Bool) where
-  from-here : (i n k : ℕ) → i ≤ k → k < i + n → p k ≡ true → anyFrom p i n ≡ true
-  from-here i zero k l h e = absurd (omega arith)
-  from-here i (suc n) k l h e =
-      ⊎-elim (λ t. rw t) (λ f. rw f (from-here (suc i) n k (later f) (omega arith) e)) (cases (p i))
-    where
-      later : p i ≡ false → suc i ≤ k
-      later f = ⊎-elim (λ q. absurd (true≢false (sym e ∙ rw (eqb-true k i q) f))) (λ q. let z = eqb-false k i q in omega arith) (cases (eqb k i))
+  any-from-here : (i n k : ℕ) → i ≤ k → k < i + n → p k ≡ true → anyFrom p i n ≡ true
+  any-from-here i zero k l h e = absurd (omega arith)
+  any-from-here i (suc n) k l h e =
+      ⊎-elim (λ t. rw t) (λ f. rw f (⊎-elim (λ q. absurd (true≢false (sym e ∙ rw q f))) (λ q. any-from-here (suc i) n k (omega arith) (omega arith) e) (equal k i))) (cases (p i))
 
-  from-at : (i n : ℕ) → anyFrom p i n ≡ true → (k : ℕ) × (k < i + n) × (p k ≡ true)
-  from-at i zero e = absurd (true≢false (sym e))
-  from-at i (suc n) e = ⊎-elim (λ t. (i, omega arith, t)) (λ f. let (k, h, t) = from-at (suc i) n (rw f at e) in (k, omega arith, t)) (cases (p i))
+  any-from-at : (i n : ℕ) → anyFrom p i n ≡ true → (k : ℕ) × (k < i + n) × (p k ≡ true)
+  any-from-at i zero e = absurd (true≢false (sym e))
+  any-from-at i (suc n) e = ⊎-elim (λ t. (i, omega arith, t)) (λ f. let (k, h, t) = any-from-at (suc i) n (rw f at e) in (k, omega arith, t)) (cases (p i))
 
   pub below-any : (n k : ℕ) → k < n → p k ≡ true → anyBelow p n ≡ true
-  below-any n k h t = from-here 0 n k (omega arith) (omega arith) t
+  below-any n k h t = any-from-here 0 n k (omega arith) (omega arith) t
 
   pub any-below-false : (n k : ℕ) → anyBelow p n ≡ false → k < n → p k ≡ false
   any-below-false n k e h = ⊎-elim (λ t. absurd (true≢false (sym (below-any n k h t) ∙ e))) (λ f. f) (cases (p k))
 
   pub any-below-true : (n : ℕ) → anyBelow p n ≡ true → (k : ℕ) × (k < n) × (p k ≡ true)
-  any-below-true n e = let (k, h, t) = from-at 0 n e in (k, omega arith, t)
+  any-below-true n e = let (k, h, t) = any-from-at 0 n e in (k, omega arith, t)
 
   record FromLowest (i n r : ℕ) : Type 0 where
     above : i ≤ r
@@ -158,7 +144,7 @@ module _ (p : ℕ → Bool) where
             above = omega arith;
             within = omega arith;
             passes = λ h. r .passes (omega arith);
-            before = λ k l h. ⊎-elim (λ q. rw (eqb-true k i q) f) (λ q. let z = eqb-false k i q in r .before k (omega arith) h) (cases (eqb k i));
+            before = λ k l h. ⊎-elim (λ q. rw q f) (λ q. r .before k (omega arith) h) (equal k i);
           })
 
   pub lowest-within : (n : ℕ) → lowest p n ≤ n
@@ -213,10 +199,12 @@ module _ (p : ℕ → Bool) where
   count-set (x ∷ ws) zero w h = omega (arith, count-cons w ws, count-cons x ws)
   count-set (x ∷ ws) (suc i) w h = omega (arith, count-set ws i w (omega arith), count-cons x (set ws i w), count-cons x ws)
 
+  count-from : (o : ℕ) (ws : List ℕ) → 0 < count p ws → (i : ℕ) × (firstFrom p o ws ≡ At i)
+  count-from o [] h = absurd (omega arith)
+  count-from o (w ∷ ws) h = ⊎-elim (λ t. (o, rw t)) (λ f. let (i, e) = count-from (suc o) ws (rw f at h) in (i, rw f e)) (cases (p w))
+
   pub count-found : (ws : List ℕ) → 0 < count p ws → (i : ℕ) × (first p ws ≡ At i)
-  count-found [] h = absurd (omega arith)
-  count-found (w ∷ ws) h =
-      ⊎-elim (λ t. (0, rw t)) (λ f. let (i, e) = count-found ws (rw f at h) in (suc i, first-cons p w ws ∙ rw (f, e))) (cases (p w))
+  count-found ws h = count-from 0 ws h
 
   pub found-count : (ws : List ℕ) (i : ℕ) → i < length ws → p (getD ws i 0) ≡ true → 0 < count p ws
   found-count [] i h t = absurd (omega arith)

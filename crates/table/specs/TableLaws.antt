@@ -1,18 +1,18 @@
 -- Laws of tables, for any way of reading a word's key, any capacity and any place.
-use Prim.Native.Nat.{ℕ, zero, suc, _+_, _≤_, _<_}
+use Prim.Native.Nat.{ℕ, _+_, _≤_, _<_}
 use mathlib.Core.Bool.{Bool, true, false, true≢false}
-use mathlib.Core.List.{List, [], _∷_}
-use mathlib.Core.Path.{_≡_, refl, sym, ap, _∙_}
+use mathlib.Core.List.{List}
+use mathlib.Core.Path.{_≡_, refl, sym, _∙_}
 use mathlib.Core.Logic.{_⊎_, inl, inr, ⊎-elim}
 use native.Mathlib.Omega.{arith}
-use lib.Dec.{eqb, ltb}
+use lib.Dec.{ltb}
 use lib.ListN.{length, getD, set, length-set}
 use lib.Seq.{getD-set-same, getD-set-other}
 use borrow.Author.Tests.{eq-eqb, ne-eqb, eqb-true, eqb-false, ltb-true, ltb-false}
 use Rattle.numbers.specs.Choice.{if_then_else_}
-use Rattle.table.specs.Scan.{first, firstFrom, count, cleared, wipe}
-use Rattle.table.specs.ScanLaws.{cases, IsFirst, first-at, first-none, first-is, first-lacks, first-set, first-map, length-wipe, wipe-at, count-set, count-found, found-count, count-wipe, at-most-one}
-use Rattle.table.specs.Table.{isEmpty, lowestFree, freeEntries, orElse, isFound, setAt, wordAt, Has, hasKey, find, lookup, place, put, erase, Distinct}
+use Rattle.table.specs.Scan.{first, cleared, wipe}
+use Rattle.table.specs.ScanLaws.{cases, equal, IsFirst, first-at, first-none, first-is, first-lacks, first-set, first-map, length-wipe, wipe-at, count-set, count-found, found-count, count-wipe, at-most-one}
+use Rattle.table.specs.Table.{isEmpty, lowestFree, freeEntries, orElse, setAt, wordAt, Has, hasKey, find, lookup, place, put, erase, Distinct}
 use Rattle.table.specs.declared.Found.{Found}
 use Rattle.table.specs.declared.Found.the-variants.{At, Nothing}
 
@@ -21,7 +21,7 @@ pub has-set-new : (ws : List ℕ) (i w : ℕ) → i < length ws → (w ≡ 0 →
 has-set-new ws i w h n = record { spot = i; within = rw length-set h; holds = getD-set-same ws i w 0 h; filled = n }
 
 pub has-set-inv : (ws : List ℕ) (i w u : ℕ) → Has (set ws i w) u → (u ≡ w) ⊎ Has ws u
-has-set-inv ws i w u r = ⊎-elim (λ t. inl (new (eqb-true (r .spot) i t))) (λ f. inr (old (eqb-false (r .spot) i f))) (cases (eqb (r .spot) i))
+has-set-inv ws i w u r = ⊎-elim (λ t. inl (new t)) (λ f. inr (old f)) (equal (r .spot) i)
   where
     h : r .spot < length ws
     h = rw length-set at (r .within)
@@ -65,8 +65,8 @@ module _ (keyOf : ℕ → ℕ) where
   unfolding find
   find-none ws k e j h = eqb-false (keyOf (getD ws j 0)) k (first-none (hasKey keyOf k) ws e j h)
 
-  -- one law for both answers of a search
-  lookup-case : (ws : List ℕ) (k : ℕ) (P : ℕ → Type 0) → ((i : ℕ) → find keyOf ws k ≡ At i → P (getD ws i 0)) → (find keyOf ws k ≡ Nothing → P 0) → P (lookup keyOf ws k)
+  -- what holds for both answers of a search holds of lookup
+  pub lookup-case : (ws : List ℕ) (k : ℕ) (P : ℕ → Type 0) → ((i : ℕ) → find keyOf ws k ≡ At i → P (getD ws i 0)) → (find keyOf ws k ≡ Nothing → P 0) → P (lookup keyOf ws k)
   unfolding lookup
   lookup-case ws k P at none = go (find keyOf ws k) refl
     where
@@ -77,6 +77,15 @@ module _ (keyOf : ℕ → ℕ) where
   lookup-is : (ws : List ℕ) (k i : ℕ) → IsFirst (hasKey keyOf k) ws i → lookup keyOf ws k ≡ getD ws i 0
   unfolding lookup find
   lookup-is ws k i r = rw (first-is (hasKey keyOf k) ws i r)
+
+  -- where a search and the words of its key stay, lookup does
+  lookup-kept : (ws next : List ℕ) (k : ℕ) → first (hasKey keyOf k) next ≡ first (hasKey keyOf k) ws → ((j : ℕ) → hasKey keyOf k (getD ws j 0) ≡ true → getD next j 0 ≡ getD ws j 0) → lookup keyOf next k ≡ lookup keyOf ws k
+  unfolding lookup find
+  lookup-kept ws next k e same = rw e (go (first (hasKey keyOf k) ws) refl)
+    where
+      go : (f : Found) → first (hasKey keyOf k) ws ≡ f → wordAt next f ≡ wordAt ws f
+      go (At j) q = same j (first-at (hasKey keyOf k) ws j q .passes)
+      go Nothing q = refl
 
   pub lookup-has : (ws : List ℕ) (k : ℕ) → (lookup keyOf ws k ≡ 0 → ⊥) → Has ws (lookup keyOf ws k) × (keyOf (lookup keyOf ws k) ≡ k)
   lookup-has ws k = lookup-case ws k (λ w. (w ≡ 0 → ⊥) → Has ws w × (keyOf w ≡ k)) (λ i e n. there i (find-at ws k i e) n) (λ e n. absurd (n refl))
@@ -156,7 +165,7 @@ module _ (keyOf : ℕ → ℕ) where
   -- whatever word was replaced
   pub distinct-set : (ws : List ℕ) (k i w : ℕ) → keyOf w ≡ k → Alone ws k i → Distinct keyOf ws → Distinct keyOf (set ws i w)
   unfolding Distinct
-  distinct-set ws k i w e only d a b l h = ⊎-elim (λ t. first-is-new (eqb-true a i t)) (λ f. ⊎-elim (λ t. second-is-new (eqb-false a i f) (eqb-true b i t)) (λ g. neither (eqb-false a i f) (eqb-false b i g)) (cases (eqb b i))) (cases (eqb a i))
+  distinct-set ws k i w e only d a b l h = ⊎-elim first-is-new (λ n. ⊎-elim (second-is-new n) (neither n) (equal b i)) (equal a i)
     where
       goal : Type 0
       goal = keyOf (getD (set ws i w) a 0) ≡ keyOf (getD (set ws i w) b 0) → keyOf (getD (set ws i w) b 0) ≡ 0
@@ -177,8 +186,8 @@ module _ (keyOf : ℕ → ℕ) where
       neither n m = rw (getD-set-other ws i a w 0 n, getD-set-other ws i b w 0 m) (d a b l h′)
 
   -- ---- put
-  -- one law for a place and for a full table
-  put-case : (ws : List ℕ) (k w : ℕ) (P : List ℕ → Type 0) → ((i : ℕ) → place keyOf ws k ≡ At i → P (set ws i w)) → P ws → P (put keyOf ws k w)
+  -- what holds of a store at the place, and of a table that stays as it is, holds of put
+  pub put-case : (ws : List ℕ) (k w : ℕ) (P : List ℕ → Type 0) → ((i : ℕ) → place keyOf ws k ≡ At i → P (set ws i w)) → P ws → P (put keyOf ws k w)
   unfolding put
   put-case ws k w P at full = go (place keyOf ws k) refl
     where
@@ -266,18 +275,14 @@ module _ (keyOf : ℕ → ℕ) where
     lookup-none ws k w o e r q = find-none ws k (lookup-nothing ws k o e) (r .spot) (r .within) (rw (r .holds) q)
 
     pub lookup-set-other : (ws : List ℕ) (k i w other : ℕ) → keyOf w ≡ k → Fits ws k i → 0 < other → (k ≡ other → ⊥) → lookup keyOf (set ws i w) other ≡ lookup keyOf ws other
-    unfolding lookup find
-    lookup-set-other ws k i w other e f o n = rw (first-set (hasKey keyOf other) 0 ws i w new old) (go (first (hasKey keyOf other) ws) refl)
+    lookup-set-other ws k i w other e f o n =
+        lookup-kept ws (set ws i w) other (first-set (hasKey keyOf other) 0 ws i w new old) (λ j t. getD-set-other ws i j w 0 (λ s. true≢false (sym t ∙ rw s old)))
       where
         new : hasKey keyOf other w ≡ false
         new = ne-eqb (keyOf w) other (λ q. n (sym e ∙ q))
 
         old : hasKey keyOf other (getD ws i 0) ≡ false
         old = ⊎-elim (λ t. ne-eqb (keyOf (getD ws i 0)) other (λ q. n (sym t ∙ q))) (λ t. rw t (empty-lacks other o)) f
-
-        go : (g : Found) → first (hasKey keyOf other) ws ≡ g → wordAt (set ws i w) g ≡ wordAt ws g
-        go (At j) q = getD-set-other ws i j w 0 (λ s. true≢false (sym (first-at (hasKey keyOf other) ws j q .passes) ∙ rw s old))
-        go Nothing q = refl
 
     pub lookup-put-other : (ws : List ℕ) (k w other : ℕ) → keyOf w ≡ k → 0 < other → (k ≡ other → ⊥) → lookup keyOf (put keyOf ws k w) other ≡ lookup keyOf ws other
     lookup-put-other ws k w other e o n =
@@ -295,15 +300,11 @@ module _ (keyOf : ℕ → ℕ) where
         none i l = rw (wipe-at p ws i) (gone (getD ws i 0))
 
     pub lookup-wipe-other : (p : ℕ → Bool) (ws : List ℕ) (k : ℕ) → 0 < k → ((w : ℕ) → keyOf w ≡ k → p w ≡ false) → lookup keyOf (wipe p ws) k ≡ lookup keyOf ws k
-    unfolding lookup find
-    lookup-wipe-other p ws k o none = rw (first-map (hasKey keyOf k) (cleared p) kept 0 ws) (go (first (hasKey keyOf k) ws) refl)
+    lookup-wipe-other p ws k o none =
+        lookup-kept ws (wipe p ws) k (first-map (hasKey keyOf k) (cleared p) kept 0 ws) (λ j t. wipe-at p ws j ∙ rw (none (getD ws j 0) (eqb-true _ _ t)))
       where
         kept : (w : ℕ) → hasKey keyOf k (cleared p w) ≡ hasKey keyOf k w
         kept w = ⊎-elim (λ t. rw t (empty-lacks k o ∙ sym (ne-eqb (keyOf w) k (λ q. true≢false (sym t ∙ none w q))))) (λ f. rw f) (cases (p w))
-
-        go : (f : Found) → first (hasKey keyOf k) ws ≡ f → wordAt (wipe p ws) f ≡ wordAt ws f
-        go (At j) q = wipe-at p ws j ∙ rw (none (getD ws j 0) (eqb-true _ _ (first-at (hasKey keyOf k) ws j q .passes)))
-        go Nothing q = refl
 
     pub lookup-erase-same : (ws : List ℕ) (k : ℕ) → 0 < k → lookup keyOf (erase keyOf ws k) k ≡ 0
     unfolding erase

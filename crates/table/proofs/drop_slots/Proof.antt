@@ -2,10 +2,10 @@
 use borrow.Author.Needs.{needs}
 use Prim.Native.Nat.{_-_}
 use mathlib.Core.Logic.{⊎-elim}
-use mathlib.Core.Path.{_≡_, sym, _∙_}
+use mathlib.Core.Path.{sym, _∙_}
 use native.Mathlib.Omega.{arith}
 use borrow.Author.Tests.{eq-eqb, ne-eqb}
-use lib.ListN.{length, getD}
+use lib.ListN.{length}
 use Rattle.numbers.specs.Packing.{addressOf}
 use Rattle.table.specs.Loops.{Wiping, wipe-start, wipe-read, wipe-hit, wipe-miss, wipe-end, Tallying, tally-start, tally-hit, tally-miss, tally-end}
 use Rattle.table.specs.Table.{erase, hasKey}

@@ -1,7 +1,7 @@
 -- `table::lookup` meets its contract. A place that was found is within the table.
 use borrow.Author.Needs.{needs, scaled-fits}
 use Prim.Native.Nat.{_<_}
-use mathlib.Core.Path.{_≡_, sym, _∙_}
+use mathlib.Core.Path.{sym, _∙_}
 use lib.ListN.{length}
 use Rattle.numbers.specs.Packing.{keyOf}
 use Rattle.table.specs.Table.{lookup}
