@@ -90,18 +90,18 @@ module _ (p : ℕ → Bool) (n : ℕ) where
   try-no i r h = rw (r .rest, none-left n i h)
 
 -- ---- does the steps 0, 1, .. below n, each on what the one before left
-pub record Repeating {A : Type 0} (f : ℕ → A → A) (n : ℕ) (first now : A) (i : ℕ) : Type 0 where
+pub record Repeating {A : Type 0} (f : ℕ → A → A) (n : ℕ) (start now : A) (i : ℕ) : Type 0 where
   pub place : i ≤ n
-  pub rest : repeat f 0 n first ≡ repeat f i (n - i) now
+  pub rest : repeat f 0 n start ≡ repeat f i (n - i) now
 
-module _ {A : Type 0} (f : ℕ → A → A) (n : ℕ) (first : A) where
-  pub repeat-start : Repeating f n first first 0
+module _ {A : Type 0} (f : ℕ → A → A) (n : ℕ) (start : A) where
+  pub repeat-start : Repeating f n start start 0
   repeat-start = record { place = omega arith; rest = let z : n - 0 ≡ n = omega arith in rw z }
 
-  pub repeat-next : (now next : A) (i : ℕ) → Repeating f n first now i → i < n → next ≡ f i now → Repeating f n first next (i + 1)
+  pub repeat-next : (now next : A) (i : ℕ) → Repeating f n start now i → i < n → next ≡ f i now → Repeating f n start next (i + 1)
   repeat-next now next i r h e = record { place = omega arith; rest = r .rest ∙ rw (less n i h, add-one i, e) }
 
-  pub repeat-end : (now : A) (i : ℕ) → Repeating f n first now i → n ≤ i → now ≡ repeat f 0 n first
+  pub repeat-end : (now : A) (i : ℕ) → Repeating f n start now i → n ≤ i → now ≡ repeat f 0 n start
   repeat-end now i r h = rw (r .rest, none-left n i h)
 
 -- the same on words that keep their length, which a loop over a slice has to know
@@ -164,7 +164,7 @@ module _ (p : ℕ → Bool) (n : ℕ) where
   count-end m i r h = let e : i ≡ n = omega arith in rw e at (r .sum)
 
 -- ---- empties the words that pass
--- the first i words are edited, the later ones are as they were
+-- the first i words are edited, and the later ones are as they were
 abbrev edited : (ℕ → ℕ) → ℕ → List ℕ → List ℕ
 edited f i ws = map f (take i ws) ++ drop i ws
 
@@ -197,7 +197,7 @@ module _ (p : ℕ → Bool) (ws : List ℕ) where
   pub wipe-start : Wiping p ws ws 0
   wipe-start = record { place = omega arith; same = refl; list = refl }
 
-  -- the word that a turn reads is still the first one
+  -- the word that a turn reads is the one that was there at first
   pub wipe-read : (now : List ℕ) (i : ℕ) → Wiping p ws now i → i < length now → getD now i 0 ≡ getD ws i 0
   wipe-read now i r l = rw (r .list) (edit-read (cleared p) ws i (omega arith))
 
