@@ -2,3 +2,5 @@
 pub mod Scan
 pub mod Table
 pub mod Loops
+pub mod ScanLaws
+pub mod TableLaws
