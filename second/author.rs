@@ -86,7 +86,11 @@ impl Author {
     /// Writes a row in a given spelling and applies it.
     pub fn row_as(&mut self, row: &Row, spelling: &str) -> Answer {
         self.line(spelling);
-        if self.alive { self.machine.apply(row) } else { Answer::refused(1) }
+        if self.alive {
+            self.machine.apply(row)
+        } else {
+            Answer::refused(1)
+        }
     }
 
     pub fn free(&mut self) {

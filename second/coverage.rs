@@ -42,12 +42,14 @@ type Point = (u64, &'static str);
 
 /// Reasons and brims, each with the operations that must reach it.
 const POINTS: &[(&[u64], &[&str])] = &[
-    (&[0], &["start 0", "start 0, empty span at N", "start 0, all pages shared", "start 0, 32 units"]),
-    (&[0], &["start 0, units differ only in mark", "start 0, unit repeats", "start 0, unit in shared span"]),
+    (&[0], &["start 0", "start 0, empty span at N", "start 0, all pages shared"]),
+    (&[0], &["start 0, 32 units", "start 0, units differ only in mark"]),
+    (&[0], &["start 0, unit repeats", "start 0, unit in shared span"]),
     (&[0], &["start 1, N 0", "start 1, N over 1024", "start 1 before 2 and 3"]),
-    (&[0], &["start 2, over 32 units", "start 2, unit VM", "start 2, unit access", "start 2, unit mark"]),
-    (&[0], &["start 2, last field before first span", "start 3, unit count 0", "start 3, unit guest span"]),
-    (&[0], &["start 3, unit page span", "start 3, wrapping", "start 3, shared span past N"]),
+    (&[0], &["start 2, over 32 units", "start 2, unit VM", "start 2, unit access"]),
+    (&[0], &["start 2, unit mark", "start 2, last field before first span"]),
+    (&[0], &["start 3, unit count 0", "start 3, unit guest span", "start 3, unit page span"]),
+    (&[0], &["start 3, wrapping", "start 3, shared span past N"]),
     (&[0], &["start 3, empty shared span above N", "free", "free none", "free refused"]),
     (&[0], &["operation 0", "operation 27", "operation over 32 bits"]),
     (&[2], &["13 CPU pages alone", "13 DMA pages alone", "13 borrower's CPU mapping"]),
@@ -61,14 +63,16 @@ const POINTS: &[(&[u64], &[&str])] = &[
     (&[6], &["0 owner first", "0 borrower first", "0 though the owner maps it"]),
     (&[6], &["11 owner first", "11 borrower first", "12 same VM"]),
     (&[7], &["0 on its own page", "0 on a borrowed page", "6 in pool", "6 another VM's page"]),
-    (&[7], &["6 shared span", "6 its own DMA page"]),
+    (&[7], &["6 shared span", "6 its own DMA page", "6 a pair of others"]),
     (&[8], &["0 on its own DMA page", "0 on the shared span", "6 its own CPU page"]),
     (&[8], &["6 in pool", "6 another VM's page"]),
     (&[7, 8], &["0 replaces", "0 replaces, map full", "0 on the last free entry"]),
-    (&[7, 8, 9, 10, 12, 14], &["drops one slot", "drops several slots", "keeps another VM's slot"]),
-    (&[11, 12, 13, 14], &["3 count 0", "3 past the last guest page", "3 past the last page", "3 wrapping"]),
-    (&[11, 12, 13, 14], &["8 VM alone", "8 guest alone", "8 page alone", "8 count alone"]),
-    (&[11, 12, 13, 14], &["8 access alone", "8 mark alone", "0 one page", "0 several pages"]),
+    (&[7, 8, 9, 10, 12, 14], &["drops one slot", "drops several slots"]),
+    (&[7, 8, 9, 10, 12, 14], &["keeps another VM's slot"]),
+    (&[11, 12, 13, 14], &["3 count 0", "3 past the last guest page", "3 past the last page"]),
+    (&[11, 12, 13, 14], &["3 wrapping", "8 VM alone", "8 guest alone", "8 page alone"]),
+    (&[11, 12, 13, 14], &["8 count alone", "8 access alone", "8 mark alone"]),
+    (&[11, 12, 13, 14], &["0 one page", "0 several pages"]),
     (&[11, 13], &["14 with free entries left", "14 on an empty map", "0 fills the map"]),
     (&[11], &["6 a VM's page", "6 shared span", "0 on its own DMA pages"]),
     (&[12, 14], &["9 absent", "9 other page", "9 other access", "9 other generation"]),
@@ -156,7 +160,9 @@ impl Coverage {
             }
         }
         let points = POINTS.iter().flat_map(|(operations, names)| {
-            operations.iter().flat_map(|&operation| names.iter().map(move |&name| (operation, name)))
+            operations
+                .iter()
+                .flat_map(|&operation| names.iter().map(move |&name| (operation, name)))
         });
         let unmet = points.filter(|point| !self.points.contains_key(point));
         missing.extend(unmet.map(|(operation, name)| format!("operation {operation}: {name}")));
@@ -165,9 +171,9 @@ impl Coverage {
 
     /// Counts a point; a name that `POINTS` doesn't have is a mistake here.
     fn hit(&mut self, operation: u64, name: &'static str, when: bool) {
-        let listed = POINTS.iter().any(|(operations, names)| {
-            operations.contains(&operation) && names.contains(&name)
-        });
+        let listed = POINTS
+            .iter()
+            .any(|(operations, names)| operations.contains(&operation) && names.contains(&name));
         assert!(listed, "no such point: {operation}: {name}");
         if when {
             *self.points.entry((operation, name)).or_default() += 1;
@@ -216,7 +222,8 @@ impl Coverage {
 
     fn start_refused_2(&mut self, setup: &Setup) {
         let units = &setup.units;
-        let bad = |unit: &[u64; 6]| unit[0] >= VMS || unit[4] >= ACCESSES || !(1..=3).contains(&unit[5]);
+        let bad =
+            |unit: &[u64; 6]| unit[0] >= VMS || unit[4] >= ACCESSES || !(1..=3).contains(&unit[5]);
         let order = units.len() > 1 && bad(&units[units.len() - 1]) && units[0][3] == 0;
         self.hit(0, "start 2, over 32 units", units.len() > UNITS);
         self.hit(0, "start 2, unit VM", units.iter().any(|unit| unit[0] >= VMS));
@@ -401,6 +408,7 @@ impl Coverage {
                 if operation == 7 {
                     self.hit(7, "6 shared span", m.shared.contains(page));
                     self.hit(7, "6 its own DMA page", dma);
+                    self.hit(7, "6 a pair of others", m.edge_names(page));
                 } else {
                     self.hit(8, "6 its own CPU page", m.cpu.holds(vm, page));
                 }
@@ -426,7 +434,8 @@ impl Coverage {
     }
 
     fn region_span(&mut self, m: &Machine, operation: u64, region: &Region) {
-        let past = |base, limit| region.count > 0 && !Span { base, count: region.count }.fits(limit);
+        let past =
+            |base, limit| region.count > 0 && !Span { base, count: region.count }.fits(limit);
         let (guest, page) = (past(region.guest, GUESTS), past(region.page, m.pages));
         let wraps = |base: u64| base.checked_add(region.count).is_none();
         self.hit(operation, "3 count 0", region.count == 0);

@@ -251,6 +251,8 @@ fn sharing(a: &mut Author) {
     a.expect(6, &[5, 2, 1, 0]);
     a.expect(0, &[5, 1, 3, 0]);
     a.expect(0, &[5, 2, 1, 1]);
+    a.note("a pair gives nothing to a third VM");
+    a.expect(6, &[7, 3, 8, 1, 3]);
     a.expect(12, &[6, 2, 3, 0]);
     a.expect(0, &[7, 1, 8, 0, 3]);
     a.expect(0, &[7, 2, 8, 0, 3]);
@@ -597,7 +599,11 @@ fn regions_full(a: &mut Author) {
 
 /// For CPU the whole box, whose page 500 is taken; for DMA a region still in.
 fn late_region(insert: u64) -> [u64; 6] {
-    if insert == 11 { [11, 1, 0, 0, 1024, 3] } else { [13, 1, 2000, 500, 100, 3] }
+    if insert == 11 {
+        [11, 1, 0, 0, 1024, 3]
+    } else {
+        [13, 1, 2000, 500, 100, 3]
+    }
 }
 
 /// The numbers of one side's operations.
@@ -613,10 +619,28 @@ struct Numbers {
     write: u64,
 }
 
-const CPU: Numbers =
-    Numbers { map: 7, unmap: 9, insert: 11, remove: 12, run: 15, fill: 17, empty: 19, read: 21, write: 23 };
-const DMA: Numbers =
-    Numbers { map: 8, unmap: 10, insert: 13, remove: 14, run: 16, fill: 18, empty: 20, read: 22, write: 24 };
+const CPU: Numbers = Numbers {
+    map: 7,
+    unmap: 9,
+    insert: 11,
+    remove: 12,
+    run: 15,
+    fill: 17,
+    empty: 19,
+    read: 21,
+    write: 23,
+};
+const DMA: Numbers = Numbers {
+    map: 8,
+    unmap: 10,
+    insert: 13,
+    remove: 14,
+    run: 16,
+    fill: 18,
+    empty: 20,
+    read: 22,
+    write: 24,
+};
 
 /// Fills past 64 slots; the unmaps at the end tell which keys were still held.
 fn caches(a: &mut Author) {
@@ -648,8 +672,14 @@ fn caches(a: &mut Author) {
             a.expect(0, &[side.fill, 6, guest]);
         }
         a.expect(9, &[side.fill, 6, 80]);
-        a.expect(0, &[side.empty, 8]);
-        a.expect(0, &[side.empty, 40]);
+        a.note("so 3, 40, 50 and then 6 and 7, where the hand was");
+        for (slot, guest) in [(3, 70), (40, 71), (50, 72), (6, 73)] {
+            a.expect(0, &[side.empty, slot]);
+            a.expect_drops(0, &[side.unmap, 1, guest]);
+            a.expect(0, &[side.map, 1, guest, page, 3]);
+        }
+        a.expect_drops(1, &[side.unmap, 1, 74]);
+        a.expect(0, &[side.map, 1, 74, page, 3]);
         for guest in (0..80).rev() {
             a.expect(0, &[side.unmap, 1, guest]);
         }
@@ -813,8 +843,8 @@ fn clearing_by_reclaim(a: &mut Author) {
 /// Boxes of many sizes, above all those near whole 64-bit words of pages.
 fn sizes(a: &mut Author) {
     let all = [
-        1, 2, 3, 5, 31, 63, 64, 65, 100, 127, 128, 129, 191, 192, 193, 255, 256, 257, 319, 320, 511,
-        512, 513, 700, 767, 960, 1000, 1023, 1024,
+        1, 2, 3, 5, 31, 63, 64, 65, 100, 127, 128, 129, 191, 192, 193, 255, 256, 257, 319, 320,
+        511, 512, 513, 700, 767, 960, 1000, 1023, 1024,
     ];
     for n in all {
         let count = n.min(512);

@@ -8,22 +8,8 @@ use crate::machine::*;
 use crate::operate::{arguments, Kind, Row};
 
 /// Numbers at which carelessness shows.
-const ODD: [u64; 14] = [
-    7,
-    8,
-    15,
-    16,
-    63,
-    64,
-    511,
-    512,
-    65_535,
-    65_536,
-    IDLE,
-    1 << 32,
-    1 << 63,
-    u64::MAX,
-];
+const ODD: [u64; 14] =
+    [7, 8, 15, 16, 63, 64, 511, 512, 65_535, 65_536, IDLE, 1 << 32, 1 << 63, u64::MAX];
 
 /// How many rows the writer tries for one wanted answer.
 const TRIES: usize = 24;
@@ -35,22 +21,63 @@ enum Mood {
     Grow,
     Shrink,
     Guests,
+    Regions,
+    Fills,
+    Pairs,
+    Maps,
+    Sweep,
 }
 
-/// How often each operation is chosen in a mood, by its number from 1 on.
-fn weights(mood: Mood) -> [u64; 26] {
-    match mood {
-        Mood::Any => {
-            [4, 2, 4, 4, 4, 4, 6, 6, 4, 4, 6, 5, 6, 5, 4, 4, 6, 6, 2, 2, 5, 5, 5, 5, 1, 1]
+impl Mood {
+    /// How often each operation is chosen, by its number from 1 on.
+    fn weights(self) -> [u64; 26] {
+        match self {
+            Mood::Any => {
+                [4, 2, 4, 4, 4, 4, 6, 6, 4, 4, 6, 5, 6, 5, 4, 4, 6, 6, 2, 2, 5, 5, 5, 5, 1, 1]
+            }
+            Mood::Grow => {
+                [5, 0, 6, 0, 6, 0, 12, 12, 0, 0, 8, 0, 8, 0, 4, 4, 4, 4, 0, 0, 1, 1, 4, 4, 0, 0]
+            }
+            Mood::Shrink => {
+                [0, 4, 0, 8, 0, 8, 0, 0, 12, 12, 1, 9, 1, 9, 3, 3, 1, 1, 2, 2, 2, 2, 0, 0, 1, 1]
+            }
+            Mood::Guests => {
+                [0, 0, 0, 0, 1, 1, 2, 2, 1, 1, 1, 1, 1, 1, 3, 3, 6, 6, 1, 1, 9, 9, 9, 9, 1, 1]
+            }
+            Mood::Regions => {
+                [2, 0, 0, 8, 0, 4, 2, 2, 9, 9, 22, 18, 22, 18, 2, 2, 4, 4, 0, 0, 1, 1, 8, 8, 0, 0]
+            }
+            Mood::Fills => {
+                [0, 0, 0, 0, 0, 0, 3, 3, 1, 1, 0, 0, 0, 0, 3, 3, 40, 40, 2, 2, 1, 1, 1, 1, 0, 0]
+            }
+            Mood::Pairs => {
+                [6, 0, 9, 1, 70, 4, 4, 0, 1, 0, 1, 1, 1, 1, 0, 0, 0, 0, 0, 0, 1, 0, 1, 0, 0, 0]
+            }
+            Mood::Maps => {
+                [1, 0, 2, 0, 1, 0, 99, 99, 1, 1, 2, 1, 2, 1, 2, 2, 1, 1, 0, 0, 1, 1, 1, 1, 0, 0]
+            }
+            Mood::Sweep => {
+                [0, 1, 0, 8, 0, 12, 0, 0, 40, 40, 0, 8, 0, 8, 1, 1, 1, 1, 0, 0, 0, 0, 0, 0, 0, 0]
+            }
         }
-        Mood::Grow => {
-            [6, 0, 6, 0, 8, 0, 16, 16, 0, 0, 8, 0, 8, 0, 3, 3, 4, 4, 0, 0, 1, 1, 3, 3, 0, 0]
+    }
+
+    /// How many rows it lasts: long enough to bring its table to the brim.
+    fn length(self) -> u64 {
+        match self {
+            Mood::Any | Mood::Grow | Mood::Shrink | Mood::Guests | Mood::Regions => 120,
+            Mood::Fills | Mood::Pairs => 400,
+            Mood::Maps => 1700,
+            Mood::Sweep => 1000,
         }
-        Mood::Shrink => {
-            [0, 4, 0, 8, 0, 8, 0, 0, 12, 12, 1, 9, 1, 9, 3, 3, 1, 1, 2, 2, 2, 2, 0, 0, 1, 1]
-        }
-        Mood::Guests => {
-            [0, 0, 0, 0, 1, 1, 2, 2, 1, 1, 1, 1, 1, 1, 4, 4, 16, 16, 2, 2, 6, 6, 6, 6, 1, 1]
+    }
+
+    /// How many rows of a hundred want to be accepted.
+    fn accepted(self) -> u64 {
+        match self {
+            Mood::Any | Mood::Guests => 60,
+            Mood::Grow | Mood::Regions => 75,
+            _ => 90,
         }
     }
 }
@@ -60,6 +87,8 @@ struct Writer {
     rng: Rng,
     author: Author,
     mood: Mood,
+    /// How many rows the mood still lasts.
+    left: u64,
     /// Guest pages are mostly taken below this number, so that they meet.
     guests: u64,
 }
@@ -76,13 +105,15 @@ pub fn generate(seed: u64, rows: u64) -> String {
 }
 
 fn generate_sized(rng: Rng, pages: u64, rows: u64) -> String {
-    let mut writer = Writer { rng, author: Author::new(), mood: Mood::Any, guests: 24 };
+    let mut writer = Writer::new(rng);
     writer.open(pages);
     for row in 0..rows {
-        if row % 150 == 0 {
-            writer.change_mood();
-        }
         writer.write_row();
+        writer.left -= 1;
+        if writer.left == 0 {
+            let early = rows >= 2400 && row < 200;
+            writer.change_mood(early);
+        }
         if writer.rng.chance(3) {
             writer.author.free();
         }
@@ -90,8 +121,9 @@ fn generate_sized(rng: Rng, pages: u64, rows: u64) -> String {
     writer.author.text
 }
 
-/// The directed scenarios, then forty random boxes with `rows` rows in all,
-/// each script with its name.
+/// The directed scenarios, random starts, then forty random boxes with about
+/// `rows` rows in all, each script with its name. Four of the boxes have half
+/// of the rows, so that their tables get full.
 pub fn suite(seed: u64, rows: u64) -> Vec<(String, String)> {
     let directed = SCENARIOS.iter().map(|(name, scenario)| {
         let mut author = Author::new();
@@ -103,33 +135,68 @@ pub fn suite(seed: u64, rows: u64) -> Vec<(String, String)> {
     let random = (0..40u64).map(|turn| {
         let mut rng = Rng::new(seed.wrapping_add(turn << 32));
         let own = rng.next();
+        let rows = if turn < 4 { rows / 8 } else { rows.div_ceil(72) };
         let text = match sizes.get(turn as usize) {
-            Some(&pages) => generate_sized(Rng::new(own), pages, rows / 40),
-            None => generate(own, rows / 40),
+            Some(&pages) => generate_sized(Rng::new(own), pages, rows),
+            None => generate(own, rows),
         };
         (format!("random box {turn}"), format!("# random box {turn}\n{text}"))
     });
-    directed.chain(random).collect()
+    let starts = ("random starts".to_string(), random_starts(seed));
+    directed.chain([starts]).chain(random).collect()
+}
+
+/// Many boxes, most of them spoiled in one or two places, with a few rows each.
+fn random_starts(seed: u64) -> String {
+    let mut text = "# random starts\n".to_string();
+    let mut rng = Rng::new(seed);
+    for _ in 0..60 {
+        let most = if rng.chance(80) { 20 } else { PAGES };
+        let pages = 1 + rng.below(most);
+        let mut writer = Writer::new(Rng::new(rng.next()));
+        let (mut size, mut units) = writer.configuration(pages);
+        for _ in 0..rng.below(3) {
+            writer.spoil_start(&mut size, &mut units);
+        }
+        writer.author.open(size[0], size[1], size[2], &units);
+        for row in [[1, 1, 0], [3, 1, 0], [25, 0, 0]] {
+            writer.author.row(&row);
+        }
+        writer.author.free();
+        text.push_str(&writer.author.text);
+    }
+    text
 }
 
 /// Configuration.
 impl Writer {
+    fn new(rng: Rng) -> Self {
+        let (author, mood) = (Author::new(), Mood::Grow);
+        Writer { rng, author, mood, left: mood.length(), guests: 24 }
+    }
+
     fn open(&mut self, pages: u64) {
-        let shared = match self.rng.below(4) {
-            0 => Span { base: self.rng.below(pages + 1), count: 0 },
-            1 => Span { base: pages - 1, count: 1 },
+        let ([pages, base, count], units) = self.configuration(pages);
+        self.author.open(pages, base, count, &units);
+    }
+
+    /// The numbers of a box line, and the units.
+    fn configuration(&mut self, pages: u64) -> ([u64; 3], Vec<[u64; 6]>) {
+        let (base, count) = match self.rng.below(4) {
+            0 => (self.rng.below(pages + 1), 0),
+            1 => (pages - 1, 1),
             _ => {
                 let base = self.rng.below(pages);
-                Span { base, count: self.rng.below((pages - base).min(1 + pages / 4) + 1) }
+                (base, self.rng.below((pages - base).min(1 + pages / 4) + 1))
             }
         };
         let wanted = if self.rng.chance(20) { UNITS as u64 } else { 2 + self.rng.below(14) };
         let mut units: Vec<[u64; 6]> = Vec::new();
-        while (units.len() as u64) < wanted {
+        for _ in 0..wanted {
             let unit = self.unit(pages, &units);
             units.push(unit);
         }
-        self.author.open(pages, shared.base, shared.count, &units);
+        ([pages, base, count], units)
     }
 
     /// A unit, often close to one before it, so that units overlap and differ
@@ -155,10 +222,36 @@ impl Writer {
         unit
     }
 
-    fn change_mood(&mut self) {
-        let moods = [Mood::Any, Mood::Any, Mood::Grow, Mood::Grow, Mood::Shrink, Mood::Guests];
-        self.mood = self.rng.pick(&moods).unwrap_or(Mood::Any);
-        self.guests = self.rng.pick(&[8, 24, 24, 100, GUESTS]).unwrap_or(24);
+    /// Puts an odd number into the box line or a unit, or adds a unit.
+    fn spoil_start(&mut self, size: &mut [u64; 3], units: &mut Vec<[u64; 6]>) {
+        let wrong = self.odd();
+        match self.rng.below(4) {
+            0 => size[self.rng.below(3) as usize] = wrong,
+            1 => units.push([1, 0, 0, wrong, 3, 1]),
+            _ => {
+                let unit = self.rng.below(units.len() as u64) as usize;
+                units[unit][self.rng.below(6) as usize] = wrong;
+            }
+        }
+    }
+
+    /// In the natural turn of moods, or right on to full maps.
+    fn change_mood(&mut self, to_maps: bool) {
+        let common = [Mood::Any, Mood::Grow, Mood::Shrink, Mood::Guests, Mood::Regions];
+        let rare = [Mood::Fills, Mood::Pairs, Mood::Maps];
+        self.mood = match self.mood {
+            _ if to_maps => Mood::Maps,
+            Mood::Maps => Mood::Fills,
+            Mood::Fills | Mood::Pairs => Mood::Sweep,
+            Mood::Sweep => Mood::Regions,
+            _ if self.rng.chance(85) => self.rng.pick(&common).unwrap_or(Mood::Any),
+            _ => self.rng.pick(&rare).unwrap_or(Mood::Any),
+        };
+        self.left = self.mood.length();
+        self.guests = match self.mood {
+            Mood::Maps => GUESTS,
+            _ => self.rng.pick(&[8, 24, 24, 100, GUESTS]).unwrap_or(24),
+        };
     }
 }
 
@@ -183,10 +276,12 @@ impl Writer {
     /// A row of an operation that should give a wanted answer.
     fn aimed(&mut self) -> Row {
         let operation = self.operation();
-        let wanted = match self.rng.below(100) {
-            0..=59 => Some(0),
-            60..=89 => self.rng.pick(refusals(operation)),
-            _ => None,
+        let wanted = if self.rng.chance(self.mood.accepted()) {
+            Some(0)
+        } else if self.rng.chance(80) {
+            self.rng.pick(refusals(operation))
+        } else {
+            None
         };
         let mut row = self.candidate(operation);
         for _ in 0..TRIES {
@@ -202,7 +297,7 @@ impl Writer {
     }
 
     fn operation(&mut self) -> u64 {
-        let weights = weights(self.mood);
+        let weights = self.mood.weights();
         let mut left = self.rng.below(weights.iter().sum());
         for (place, &weight) in weights.iter().enumerate() {
             if left < weight {
@@ -225,7 +320,11 @@ impl Writer {
     }
 
     fn odd(&mut self) -> u64 {
-        if self.rng.chance(20) { self.rng.next() } else { self.rng.pick(&ODD).unwrap_or(0) }
+        if self.rng.chance(20) {
+            self.rng.next()
+        } else {
+            self.rng.pick(&ODD).unwrap_or(0)
+        }
     }
 
     /// One row of an operation, near to what the machine holds.
@@ -234,7 +333,8 @@ impl Writer {
         match operation {
             4 | 5 => self.held_page(&mut row),
             6 => self.stored_pair(&mut row),
-            9 | 10 => self.mapped_key(&mut row),
+            7 | 8 => self.mapped_key(&mut row, 10),
+            9 | 10 => self.mapped_key(&mut row, 85),
             11..=14 => self.unit_region(&mut row),
             17 | 18 | 21..=24 => self.running_port(&mut row),
             _ => self.plain(&mut row),
@@ -324,19 +424,24 @@ impl Writer {
         }
     }
 
-    fn mapped_key(&mut self, row: &mut Row) {
+    /// A key that the map has, `percent` times in a hundred.
+    fn mapped_key(&mut self, row: &mut Row, percent: u64) {
         self.plain(row);
-        let side = if row[0] == 9 { Side::Cpu } else { Side::Dma };
+        let side = if row[0] % 2 == 1 { Side::Cpu } else { Side::Dma };
         let map = &self.author.machine.half(side).software;
         let keys: Vec<(Vm, Guest)> = map.keys().copied().collect();
-        if let (Some((vm, guest)), true) = (self.rng.pick(&keys), self.rng.chance(85)) {
+        if let (Some((vm, guest)), true) = (self.rng.pick(&keys), self.rng.chance(percent)) {
             row[1..3].copy_from_slice(&[vm, guest]);
         }
     }
 
-    /// The five fields of a unit, now and then with one of them changed.
+    /// The five fields of a unit, mostly of a known VM, now and then with one
+    /// of them changed.
     fn unit_region(&mut self, row: &mut Row) {
-        let units = &self.author.machine.units;
+        let m = &self.author.machine;
+        let known = |unit: &&Unit| m.known.contains(&unit.region.vm);
+        let known: Vec<Unit> = m.units.iter().filter(known).copied().collect();
+        let units = if self.rng.chance(85) { &known } else { &m.units };
         let Some(Unit { region, .. }) = self.rng.pick(units) else { return };
         let Region { vm, guest, page, count, access } = region;
         row[1..6].copy_from_slice(&[vm, guest, page, count, access]);
@@ -356,8 +461,12 @@ impl Writer {
         self.plain(row);
         let side = if row[0] % 2 == 1 { Side::Cpu } else { Side::Dma };
         let half = self.author.machine.half(side);
-        let running: Vec<(usize, Vm)> =
-            half.ports.iter().enumerate().filter_map(|(port, vm)| vm.map(|vm| (port, vm))).collect();
+        let running: Vec<(usize, Vm)> = half
+            .ports
+            .iter()
+            .enumerate()
+            .filter_map(|(port, vm)| vm.map(|vm| (port, vm)))
+            .collect();
         let Some((port, vm)) = self.rng.pick(&running) else { return };
         if self.rng.chance(80) {
             row[1] = port as u64;

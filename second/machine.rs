@@ -166,10 +166,7 @@ impl Mark {
     }
 
     pub fn suits(self, side: Side) -> bool {
-        matches!(
-            (self, side),
-            (Mark::Both, _) | (Mark::Cpu, Side::Cpu) | (Mark::Dma, Side::Dma)
-        )
+        matches!((self, side), (Mark::Both, _) | (Mark::Cpu, Side::Cpu) | (Mark::Dma, Side::Dma))
     }
 }
 

@@ -6,7 +6,8 @@ use std::process::ExitCode;
 use second::coverage::Coverage;
 use second::{generate, script};
 
-const USAGE: &str = "usage: second run | check | generate SEED ROWS | suite SEED ROWS | coverage SEED ROWS";
+const USAGE: &str =
+    "usage: second run | check | generate SEED ROWS | suite SEED ROWS | coverage SEED ROWS";
 
 /// The whole suite as one script.
 fn suite_text(seed: u64, rows: u64) -> String {

@@ -158,7 +158,11 @@ fn decode(row: &Row, pages: u64) -> Option<Operation> {
 type Verdict = Result<(), Answer>;
 
 fn refuse(number: u64, when: bool) -> Verdict {
-    if when { Err(Answer::refused(number)) } else { Ok(()) }
+    if when {
+        Err(Answer::refused(number))
+    } else {
+        Ok(())
+    }
 }
 
 /// Refuses with the lowest index of the region for which `fails` holds.
@@ -173,7 +177,11 @@ fn refuse_lowest(number: u64, region: &Region, fails: impl Fn(u64) -> bool) -> V
 impl Machine {
     /// One operation, with the test for validity.
     pub fn operate(&mut self, row: &Row) -> Answer {
-        if valid::is_valid(self) { self.apply(row) } else { Answer::refused(1) }
+        if valid::is_valid(self) {
+            self.apply(row)
+        } else {
+            Answer::refused(1)
+        }
     }
 
     /// A sequence of rows, an answer of four numbers for each; gives the
@@ -311,8 +319,8 @@ impl Machine {
         refuse_lowest(10, region, |i| map.contains_key(&region.key(i)))?;
         refuse_lowest(7, region, |i| {
             let page = region.page + i;
-            let claimed = side == Side::Dma
-                && (self.cpu.other_holds(vm, page) || self.shared.contains(page));
+            let claimed =
+                side == Side::Dma && (self.cpu.other_holds(vm, page) || self.shared.contains(page));
             claimed || self.dma.other_holds(vm, page)
         })?;
         let free = ENTRIES.saturating_sub(map.len()) as u64;
@@ -323,9 +331,7 @@ impl Machine {
         self.judge_region(side, region)?;
         let half = self.half(side);
         refuse_lowest(6, region, |i| !half.holds(region.vm, region.page + i))?;
-        refuse_lowest(9, region, |i| {
-            half.software.get(&region.key(i)) != Some(&region.entry(i))
-        })?;
+        refuse_lowest(9, region, |i| half.software.get(&region.key(i)) != Some(&region.entry(i)))?;
         refuse_lowest(11, region, |i| {
             let (own, page) = (region.key(i), region.page + i);
             let mut entries = half.software.iter();

@@ -217,8 +217,7 @@ mod entries {
             })
             .collect();
         let (mut single, mut joined) = (eight(&[1, 2]), eight(&[1, 2]));
-        let answers: Vec<u64> =
-            rows.iter().flat_map(|row| single.operate(row).numbers()).collect();
+        let answers: Vec<u64> = rows.iter().flat_map(|row| single.operate(row).numbers()).collect();
         let mut room = vec![0; rows.len() * 4];
         assert_eq!(joined.sequence(&rows.concat(), &mut room), 0);
         assert_eq!(room, answers);
@@ -270,7 +269,10 @@ mod effects {
             assert_eq!(go(&mut m, &[17, 2, 100 + guest]), 0);
         }
         let guest_in = |m: &Machine, slot: usize| m.cpu.cache.slots[slot].map(|s| s.guest);
-        assert_eq!((guest_in(&m, 0), guest_in(&m, 63), m.cpu.cache.hand), (Some(100), Some(163), 0));
+        assert_eq!(
+            (guest_in(&m, 0), guest_in(&m, 63), m.cpu.cache.hand),
+            (Some(100), Some(163), 0)
+        );
         assert_eq!(go(&mut m, &[17, 2, 164]), 0);
         assert_eq!((guest_in(&m, 0), m.cpu.cache.hand), (Some(164), 1));
         assert_eq!(go(&mut m, &[17, 2, 110]), 0);
@@ -375,20 +377,48 @@ mod validity {
         ("unit spans fit", |m| m.units[0].region.guest = u64::MAX),
         ("shared span fits", |m| m.shared.count = 2),
         ("shared span fits", |m| m.shared = Span { base: 9, count: 0 }),
-        ("known VMs in range", |m| { m.known.insert(16); }),
-        ("only known VMs hold pages", |m| { m.known.remove(&2); }),
-        ("only known VMs hold pages", |m| { m.cpu.owned.insert(9, BTreeSet::from([5])); }),
-        ("only known VMs hold pages", |m| { m.dma.owned.insert(9, BTreeSet::from([5])); }),
-        ("ownership covers the known VMs", |m| { m.known.insert(9); }),
-        ("ownership covers the known VMs", |m| { m.dma.owned.remove(&2); }),
-        ("ownership covers the known VMs", |m| { m.cpu.owned.insert(9, BTreeSet::new()); }),
-        ("no page at N or above", |m| { m.pool.insert(8); }),
-        ("no page at N or above", |m| { m.cpu.owned.get_mut(&1).unwrap().insert(8); }),
-        ("no page at N or above", |m| { m.dma.owned.get_mut(&1).unwrap().insert(1024); }),
-        ("every page in exactly one place", |m| { m.pool.remove(&5); }),
-        ("every page in exactly one place", |m| { m.pool.insert(0); }),
-        ("every page in exactly one place", |m| { m.pool.insert(7); }),
-        ("every page in exactly one place", |m| { m.cpu.owned.get_mut(&2).unwrap().insert(0); }),
+        ("known VMs in range", |m| {
+            m.known.insert(16);
+        }),
+        ("only known VMs hold pages", |m| {
+            m.known.remove(&2);
+        }),
+        ("only known VMs hold pages", |m| {
+            m.cpu.owned.insert(9, BTreeSet::from([5]));
+        }),
+        ("only known VMs hold pages", |m| {
+            m.dma.owned.insert(9, BTreeSet::from([5]));
+        }),
+        ("ownership covers the known VMs", |m| {
+            m.known.insert(9);
+        }),
+        ("ownership covers the known VMs", |m| {
+            m.dma.owned.remove(&2);
+        }),
+        ("ownership covers the known VMs", |m| {
+            m.cpu.owned.insert(9, BTreeSet::new());
+        }),
+        ("no page at N or above", |m| {
+            m.pool.insert(8);
+        }),
+        ("no page at N or above", |m| {
+            m.cpu.owned.get_mut(&1).unwrap().insert(8);
+        }),
+        ("no page at N or above", |m| {
+            m.dma.owned.get_mut(&1).unwrap().insert(1024);
+        }),
+        ("every page in exactly one place", |m| {
+            m.pool.remove(&5);
+        }),
+        ("every page in exactly one place", |m| {
+            m.pool.insert(0);
+        }),
+        ("every page in exactly one place", |m| {
+            m.pool.insert(7);
+        }),
+        ("every page in exactly one place", |m| {
+            m.cpu.owned.get_mut(&2).unwrap().insert(0);
+        }),
         ("every page in exactly one place", |m| m.shared.count = 0),
         ("every page in exactly one place", |m| m.shared = Span { base: 6, count: 2 }),
         ("at most 512 entries a map", |m| {
@@ -404,10 +434,18 @@ mod validity {
         ("map numbers in range", |m| {
             put(&mut m.cpu, (1, 0), Entry { generation: 65_536, ..entry(0) });
         }),
-        ("map numbers in range", |m| { m.dma.walker.insert((1, 0), entry(8)); }),
-        ("walker equals software", |m| { m.cpu.software.remove(&(1, 17)); }),
-        ("walker equals software", |m| { m.dma.walker.insert((1, 0), entry(0)); }),
-        ("walker equals software", |m| { m.cpu.walker.insert((1, 17), entry(2)); }),
+        ("map numbers in range", |m| {
+            m.dma.walker.insert((1, 0), entry(8));
+        }),
+        ("walker equals software", |m| {
+            m.cpu.software.remove(&(1, 17));
+        }),
+        ("walker equals software", |m| {
+            m.dma.walker.insert((1, 0), entry(0));
+        }),
+        ("walker equals software", |m| {
+            m.cpu.walker.insert((1, 17), entry(2));
+        }),
         ("mapped VMs known", |m| put(&mut m.cpu, (9, 0), entry(0))),
         ("mapped VMs known", |m| put(&mut m.dma, (9, 0), entry(7))),
         ("entries target what their VM may map", |m| put(&mut m.cpu, (2, 0), entry(0))),
@@ -417,14 +455,30 @@ mod validity {
         ("entries target what their VM may map", |m| put(&mut m.dma, (2, 0), entry(0))),
         ("entries target what their VM may map", |m| m.pairs.clear()),
         ("at most 128 pairs", |m| m.pairs.extend((0..129).map(|page| (1, 2, page)))),
-        ("pairs join two different known VMs", |m| { m.pairs.insert((1, 1, 0)); }),
-        ("pairs join two different known VMs", |m| { m.pairs.insert((1, 9, 0)); }),
-        ("pairs join two different known VMs", |m| { m.pairs.insert((1, 16, 0)); }),
-        ("pairs join two different known VMs", |m| { m.pairs.insert((2, 1, 3)); }),
-        ("pair pages owned by an end", |m| { m.pairs.insert((1, 2, 5)); }),
-        ("pair pages owned by an end", |m| { m.pairs.insert((1, 2, 7)); }),
-        ("pair pages owned by an end", |m| { m.pairs.insert((1, 2, 8)); }),
-        ("DMA pages held by one VM", |m| { m.dma.owned.get_mut(&2).unwrap().insert(0); }),
+        ("pairs join two different known VMs", |m| {
+            m.pairs.insert((1, 1, 0));
+        }),
+        ("pairs join two different known VMs", |m| {
+            m.pairs.insert((1, 9, 0));
+        }),
+        ("pairs join two different known VMs", |m| {
+            m.pairs.insert((1, 16, 0));
+        }),
+        ("pairs join two different known VMs", |m| {
+            m.pairs.insert((2, 1, 3));
+        }),
+        ("pair pages owned by an end", |m| {
+            m.pairs.insert((1, 2, 5));
+        }),
+        ("pair pages owned by an end", |m| {
+            m.pairs.insert((1, 2, 7));
+        }),
+        ("pair pages owned by an end", |m| {
+            m.pairs.insert((1, 2, 8));
+        }),
+        ("DMA pages held by one VM", |m| {
+            m.dma.owned.get_mut(&2).unwrap().insert(0);
+        }),
         ("DMA pages own CPU pages or in the pool", |m| {
             m.dma.owned.get_mut(&2).unwrap().insert(3);
         }),
@@ -509,34 +563,66 @@ mod format {
 
     #[test]
     fn a_refused_box_refuses_every_row() {
-        says("box 0 0 0\n1 1\n99\nfree\n1 1", &[
-            "start 1", "1 0 0 0", "1 0 0 0", "free refused 1", "1 0 0 0",
-        ]);
+        says(
+            "box 0 0 0\n1 1\n99\nfree\n1 1",
+            &["start 1", "1 0 0 0", "1 0 0 0", "free refused 1", "1 0 0 0"],
+        );
     }
 
     #[test]
     fn spellings_of_a_row() {
         says("box 8 7 1\r\n1 1\r\n", &["start 0", "0 0 0 0"]);
-        says("\t box\t8 7   1 \n \t1\t\t001 # x\n01 1#y\n1 1 7 7 7 7 7 7\n", &[
-            "start 0", "0 0 0 0", "5 0 0 0", "5 0 0 0",
-        ]);
-        says("box 8 7 1\n1\n15 0 idle\n16 7 idle 5\n015 0 idle\n15 0 4294967295\n", &[
-            "start 0", "0 0 0 0", "0 0 0 0", "0 0 0 0", "0 0 0 0", "0 0 0 0",
-        ]);
-        says("box 8 7 1\n1 18446744073709551615\n1 00000000000000000000000000000001", &[
-            "start 0", "2 0 0 0", "0 0 0 0",
-        ]);
+        says(
+            "\t box\t8 7   1 \n \t1\t\t001 # x\n01 1#y\n1 1 7 7 7 7 7 7\n",
+            &["start 0", "0 0 0 0", "5 0 0 0", "5 0 0 0"],
+        );
+        says(
+            "box 8 7 1\n1\n15 0 idle\n16 7 idle 5\n015 0 idle\n15 0 4294967295\n",
+            &["start 0", "0 0 0 0", "0 0 0 0", "0 0 0 0", "0 0 0 0", "0 0 0 0"],
+        );
+        says(
+            "box 8 7 1\n1 18446744073709551615\n1 00000000000000000000000000000001",
+            &["start 0", "2 0 0 0", "0 0 0 0"],
+        );
     }
 
     #[test]
     fn lines_that_cannot_be_read_end_the_run() {
         let bad = [
-            "1 -1", "1 +1", "1 0x1", "1 1.0", "x", "Box 8 7 1", "free 1", "frees", "idle", "15 idle",
-            "15 0 0 idle", "14 0 idle", "15 0 Idle", "idle 0 0", "1 1 1 1 1 1 1 1 1",
-            "1 18446744073709551616", "18446744073709551616", "1 99999999999999999999999999", "box",
-            "box 8 7", "box 8 7 1 0", "box 8 7 x", "box 8 7 18446744073709551616", "unit",
-            "unit 1 0 0 1 1", "unit 1 0 0 1 1 1 1", "unit 1 0 0 1 1 idle", "1\r1", "1,1",
-            "1 1 ;", "\u{b}1 1", "1\u{a0}1", "box8 7 1", "1 free",
+            "1 -1",
+            "1 +1",
+            "1 0x1",
+            "1 1.0",
+            "x",
+            "Box 8 7 1",
+            "free 1",
+            "frees",
+            "idle",
+            "15 idle",
+            "15 0 0 idle",
+            "14 0 idle",
+            "15 0 Idle",
+            "idle 0 0",
+            "1 1 1 1 1 1 1 1 1",
+            "1 18446744073709551616",
+            "18446744073709551616",
+            "1 99999999999999999999999999",
+            "box",
+            "box 8 7",
+            "box 8 7 1 0",
+            "box 8 7 x",
+            "box 8 7 18446744073709551616",
+            "unit",
+            "unit 1 0 0 1 1",
+            "unit 1 0 0 1 1 1 1",
+            "unit 1 0 0 1 1 idle",
+            "1\r1",
+            "1,1",
+            "1 1 ;",
+            "\u{b}1 1",
+            "1\u{a0}1",
+            "box8 7 1",
+            "1 free",
         ];
         for line in bad {
             let start = format!("box 8 7 1\n{line}\n1 1\n");
@@ -552,12 +638,14 @@ mod format {
             says(&format!("# c\n{line}\nbox 8 7 1\n"), &["line 2: not understood"]);
         }
         let unit = "unit 1 0 0 1 1 1";
-        says(&format!("box 8 7 1\n{unit}\n1 1\n{unit}\n"), &[
-            "start 0", "0 0 0 0", "line 4: not understood",
-        ]);
-        says(&format!("box 8 7 1\nfree\n{unit}\n"), &[
-            "start 0", "free 7 0", "line 3: not understood",
-        ]);
+        says(
+            &format!("box 8 7 1\n{unit}\n1 1\n{unit}\n"),
+            &["start 0", "0 0 0 0", "line 4: not understood"],
+        );
+        says(
+            &format!("box 8 7 1\nfree\n{unit}\n"),
+            &["start 0", "free 7 0", "line 3: not understood"],
+        );
     }
 
     #[test]

@@ -97,9 +97,7 @@ fn entry_in_range(m: &Machine, entry: &Entry) -> bool {
 }
 
 fn map_in_range(m: &Machine, map: &Map) -> bool {
-    map.iter().all(|(&(vm, guest), entry)| {
-        vm < VMS && guest < GUESTS && entry_in_range(m, entry)
-    })
+    map.iter().all(|(&(vm, guest), entry)| vm < VMS && guest < GUESTS && entry_in_range(m, entry))
 }
 
 fn entry_targets(m: &Machine) -> bool {
@@ -112,9 +110,9 @@ fn entry_targets(m: &Machine) -> bool {
 
 /// The lower end comes first, so that no pair is kept in both orders.
 fn pair_ends(m: &Machine) -> bool {
-    m.pairs.iter().all(|(low, high, _)| {
-        low < high && m.known.contains(low) && m.known.contains(high)
-    })
+    m.pairs
+        .iter()
+        .all(|(low, high, _)| low < high && m.known.contains(low) && m.known.contains(high))
 }
 
 fn pair_pages(m: &Machine) -> bool {
