@@ -8,11 +8,13 @@ use crate::operate::{arguments, Kind};
 const HUGE: u64 = u64::MAX;
 
 /// Every scenario with its name.
-pub const SCENARIOS: [(&str, fn(&mut Author)); 19] = [
+pub const SCENARIOS: [(&str, fn(&mut Author)); 21] = [
     ("starts that are refused", refused_starts),
     ("starts at the edge", edge_starts),
     ("numbers out of range", ranges),
+    ("the last numbers in range", limits),
     ("life of a VM", vm_life),
+    ("CPUs and devices", running),
     ("assign and reclaim", pages),
     ("share and unshare", sharing),
     ("128 pairs", pairs_full),
@@ -152,6 +154,28 @@ fn ranges(a: &mut Author) {
     }
 }
 
+/// The last number in range and the first out of it, for each kind of argument.
+fn limits(a: &mut Author) {
+    open(a, 8, 7, 1, &[[15, 0, 0, 1, 7, 3]]);
+    let rows: [[&[u64]; 2]; 11] = [
+        [&[1, 15], &[1, 16]],
+        [&[3, 15, 6], &[3, 15, 8]],
+        [&[7, 15, 65_535, 6, 7, 65_535], &[7, 15, 65_536, 6, 7, 65_535]],
+        [&[8, 15, 65_535, 7, 7, 65_535], &[8, 15, 65_535, 8, 7, 65_535]],
+        [&[7, 15, 65_534, 6, 7, 65_535], &[7, 15, 65_534, 6, 8, 65_535]],
+        [&[8, 15, 65_534, 7, 7, 65_535], &[8, 15, 65_534, 7, 7, 65_536]],
+        [&[11, 15, 0, 0, 1, 7], &[11, 15, 0, 0, 1, 8]],
+        [&[15, 7, 15], &[15, 8, 15]],
+        [&[17, 7, 65_535], &[17, 7, 65_536]],
+        [&[19, 63], &[19, 64]],
+        [&[23, 7, 65_535, 511, HUGE], &[23, 7, 65_535, 512, HUGE]],
+    ];
+    for [last, over] in rows {
+        a.expect(0, last);
+        a.expect(2, over);
+    }
+}
+
 fn vm_life(a: &mut Author) {
     open(a, 8, 7, 1, &[[1, 16, 0, 3, 3, 3]]);
     a.expect(4, &[2, 1]);
@@ -187,7 +211,12 @@ fn vm_life(a: &mut Author) {
     }
     a.note("an unmap ends no claim: the DMA pages stay");
     a.expect(13, &[2, 1]);
-    a.expect(0, &[2, 0]);
+}
+
+/// CPUs and devices go to known VMs and to idle.
+fn running(a: &mut Author) {
+    open(a, 8, 7, 1, &[]);
+    add(a, &[1]);
     a.expect(4, &[15, 0, 0]);
     a.expect(4, &[16, 0, 0]);
     add(a, &[0]);
@@ -195,6 +224,18 @@ fn vm_life(a: &mut Author) {
     a.expect(0, &[15, 0, 1]);
     a.expect(0, &[16, 0, 0]);
     a.expect(0, &[16, 0, 1]);
+    a.expect(0, &[2, 0]);
+    a.expect(13, &[2, 1]);
+    a.note("idle is one number, and a VM's only in 15 and 16");
+    for port in 0..8 {
+        a.expect(0, &[15, port, IDLE]);
+        a.expect(0, &[16, port, IDLE]);
+        a.expect(2, &[15, port, IDLE - 1]);
+        a.expect(2, &[16, port, IDLE + 1]);
+    }
+    a.expect(2, &[1, IDLE]);
+    a.expect(2, &[15, IDLE, IDLE]);
+    a.expect(0, &[2, 1]);
 }
 
 fn pages(a: &mut Author) {
@@ -383,33 +424,7 @@ fn region_units(a: &mut Author) {
     }
     add(a, &[1, 2]);
     for operation in 11..=14 {
-        for [guest, page, count] in [
-            [GUESTS - 2, 0, 3],
-            [GUESTS, 0, 1],
-            [HUGE, 0, 1],
-            [HUGE - 1, 0, 3],
-            [16, 6, 3],
-            [16, 8, 1],
-            [16, HUGE, 1],
-            [16, HUGE, 2],
-            [16, 0, HUGE],
-            [16, 1, HUGE],
-            [1, 0, GUESTS],
-        ] {
-            a.expect(3, &[operation, 1, guest, page, count, 3]);
-        }
-        for [vm, guest, page, count, access] in [
-            [2, 16, 0, 3, 3],
-            [1, 17, 0, 3, 3],
-            [1, 16, 1, 3, 3],
-            [1, 16, 0, 2, 3],
-            [1, 16, 0, 3, 1],
-            [1, 16, 6, 2, 3],
-            [1, GUESTS - 2, 6, 2, 3],
-        ] {
-            a.expect(8, &[operation, vm, guest, page, count, access]);
-        }
-        a.expect(4, &[operation, 4, 8, 3, 1, 7]);
+        bad_regions(a, operation);
     }
     a.note("a unit's mark must suit");
     a.expect(8, &[13, 1, 32, 4, 2, 3]);
@@ -418,6 +433,39 @@ fn region_units(a: &mut Author) {
     a.expect(8, &[12, 1, 32, 4, 2, 5]);
     a.expect(0, &[11, 1, 32, 4, 2, 3]);
     a.expect(0, &[13, 1, 32, 4, 2, 5]);
+}
+
+/// Spans that do not fit, and regions of which no unit has all five fields.
+fn bad_regions(a: &mut Author, operation: u64) {
+    let spans = [
+        [GUESTS - 2, 0, 3],
+        [GUESTS, 0, 1],
+        [HUGE, 0, 1],
+        [HUGE - 1, 0, 3],
+        [16, 6, 3],
+        [16, 8, 1],
+        [16, HUGE, 1],
+        [16, HUGE, 2],
+        [16, 0, HUGE],
+        [16, 1, HUGE],
+        [1, 0, GUESTS],
+    ];
+    for [guest, page, count] in spans {
+        a.expect(3, &[operation, 1, guest, page, count, 3]);
+    }
+    let strangers = [
+        [2, 16, 0, 3, 3],
+        [1, 17, 0, 3, 3],
+        [1, 16, 1, 3, 3],
+        [1, 16, 0, 2, 3],
+        [1, 16, 0, 3, 1],
+        [1, 16, 6, 2, 3],
+        [1, GUESTS - 2, 6, 2, 3],
+    ];
+    for [vm, guest, page, count, access] in strangers {
+        a.expect(8, &[operation, vm, guest, page, count, access]);
+    }
+    a.expect(4, &[operation, 4, 8, 3, 1, 7]);
 }
 
 fn cpu_regions(a: &mut Author) {
@@ -671,23 +719,27 @@ fn caches(a: &mut Author) {
         for guest in 70..75 {
             a.expect(0, &[side.fill, 6, guest]);
         }
-        a.expect(9, &[side.fill, 6, 80]);
-        a.note("so 3, 40, 50 and then 6 and 7, where the hand was");
-        for (slot, guest) in [(3, 70), (40, 71), (50, 72), (6, 73)] {
-            a.expect(0, &[side.empty, slot]);
-            a.expect_drops(0, &[side.unmap, 1, guest]);
-            a.expect(0, &[side.map, 1, guest, page, 3]);
-        }
-        a.expect_drops(1, &[side.unmap, 1, 74]);
-        a.expect(0, &[side.map, 1, 74, page, 3]);
-        for guest in (0..80).rev() {
-            a.expect(0, &[side.unmap, 1, guest]);
-        }
-        a.expect(9, &[side.fill, 0, 0]);
-        for port in 0..8 {
-            a.expect(0, &[side.run, port, IDLE]);
-            a.expect(15, &[side.fill, port, 0]);
-        }
+        show_slots(a, &side);
+    }
+}
+
+/// Guests 70 to 74 went into slots 3, 40, 50 and then to the hand at 6 and 7:
+/// once its slot is emptied by number, an unmap drops nothing.
+fn show_slots(a: &mut Author, side: &Numbers) {
+    a.expect(9, &[side.fill, 6, 80]);
+    for (slot, guest) in [(3, 70), (40, 71), (50, 72), (6, 73)] {
+        a.expect(0, &[side.empty, slot]);
+        a.expect_drops(0, &[side.unmap, 1, guest]);
+    }
+    a.expect_drops(1, &[side.unmap, 1, 74]);
+    a.note("what the hand did not take is still there");
+    for guest in (0..70).chain(75..80).rev() {
+        a.expect(0, &[side.unmap, 1, guest]);
+    }
+    a.expect(9, &[side.fill, 0, 0]);
+    for port in 0..8 {
+        a.expect(0, &[side.run, port, IDLE]);
+        a.expect(15, &[side.fill, port, 0]);
     }
 }
 
@@ -702,14 +754,8 @@ fn drops(a: &mut Author) {
                 a.expect(0, &[side.fill, port, guest]);
             }
         };
-        for s in [&side, &other] {
-            a.expect(0, &[s.insert, 1, 16, 0, 3, 3]);
-            a.expect(0, &[s.insert, 2, 16, 3, 3, 3]);
-            for (port, vm) in [(0, 1), (1, 1), (2, 1), (3, 2)] {
-                a.expect(0, &[s.run, port, vm]);
-            }
-            a.expect(0, &[s.fill, 3, 16]);
-        }
+        two_regions(a, &side);
+        two_regions(a, &other);
         a.expect(0, &[other.fill, 0, 16]);
         a.expect_drops(0, &own);
         fills(a, &[[0, 16], [0, 17]]);
@@ -736,6 +782,17 @@ fn drops(a: &mut Author) {
     }
 }
 
+/// Regions of VMs 1 and 2 at guest 16, ports 0 to 2 on VM 1, port 3 on VM 2
+/// with one slot filled.
+fn two_regions(a: &mut Author, side: &Numbers) {
+    a.expect(0, &[side.insert, 1, 16, 0, 3, 3]);
+    a.expect(0, &[side.insert, 2, 16, 3, 3, 3]);
+    for (port, vm) in [(0, 1), (1, 1), (2, 1), (3, 2)] {
+        a.expect(0, &[side.run, port, vm]);
+    }
+    a.expect(0, &[side.fill, 3, 16]);
+}
+
 fn accesses(a: &mut Author) {
     for side in [CPU, DMA] {
         open(a, 8, 7, 1, &[[1, 16, 0, 3, 7, 3], [2, 16, 3, 1, 3, 3]]);
@@ -760,14 +817,7 @@ fn accesses(a: &mut Author) {
         a.expect_word(0, &[side.read, 7, 18, 510]);
         a.expect(2, &[side.read, 7, 18, 512]);
         a.expect(2, &[side.write, 7, 18, 512, 1]);
-        for access in 0..8 {
-            a.expect(0, &[side.map, 1, 16, 0, access, 3]);
-            for _ in 0..2 {
-                a.expect(if access & 1 == 0 { 16 } else { 0 }, &[side.read, 7, 16, 511]);
-                a.expect(if access & 2 == 0 { 16 } else { 0 }, &[side.write, 7, 16, 511, access]);
-                a.expect(0, &[side.fill, 7, 16]);
-            }
-        }
+        access_bits(a, &side);
     }
     a.note("devices of two VMs meet on the shared span");
     a.expect(0, &[8, 1, 30, 7, 3]);
@@ -776,6 +826,19 @@ fn accesses(a: &mut Author) {
     a.expect(0, &[16, 0, 2]);
     a.expect_word(77, &[22, 0, 31, 9]);
     a.expect(16, &[24, 0, 31, 9, 78]);
+}
+
+/// Read needs bit 1 and write bit 2, by the walker and then by a slot.
+fn access_bits(a: &mut Author, side: &Numbers) {
+    let answers = [(16, 16), (0, 16), (16, 0), (0, 0), (16, 16), (0, 16), (16, 0), (0, 0)];
+    for (access, (read, write)) in (0..8).zip(answers) {
+        a.expect(0, &[side.map, 1, 16, 0, access, 3]);
+        for _ in 0..2 {
+            a.expect(read, &[side.read, 7, 16, 511]);
+            a.expect(write, &[side.write, 7, 16, 511, access]);
+            a.expect(0, &[side.fill, 7, 16]);
+        }
+    }
 }
 
 /// A page is cleared when its VM's last claim ends, and not before.

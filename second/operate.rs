@@ -235,12 +235,7 @@ impl Machine {
                 refuse(6, !self.pool.contains(&page))?;
                 refuse(7, self.dma.other_holds(vm, page))
             }
-            Reclaim(vm, page) => {
-                self.known_or_4(vm)?;
-                refuse(6, !self.cpu.holds(vm, page))?;
-                let mapped = self.cpu.software.values().any(|entry| entry.page == page);
-                refuse(11, mapped || self.edge_names(page))
-            }
+            Reclaim(vm, page) => self.judge_reclaim(vm, page),
             Share(left, right, page) => self.judge_share(left, right, page),
             Unshare(left, right, page) => self.judge_unshare(left, right, page),
             Map(side, vm, guest, entry) => {
@@ -283,6 +278,13 @@ impl Machine {
         };
         let edges = self.pairs.iter().any(|&(low, high, _)| low == vm || high == vm);
         in_use(&self.cpu) || in_use(&self.dma) || edges
+    }
+
+    fn judge_reclaim(&self, vm: Vm, page: Page) -> Verdict {
+        self.known_or_4(vm)?;
+        refuse(6, !self.cpu.holds(vm, page))?;
+        let mapped = self.cpu.software.values().any(|entry| entry.page == page);
+        refuse(11, mapped || self.edge_names(page))
     }
 
     fn judge_share(&self, left: Vm, right: Vm, page: Page) -> Verdict {

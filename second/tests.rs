@@ -586,45 +586,46 @@ mod format {
         );
     }
 
+    const UNREADABLE: &[&str] = &[
+        "1 -1",
+        "1 +1",
+        "1 0x1",
+        "1 1.0",
+        "x",
+        "Box 8 7 1",
+        "free 1",
+        "frees",
+        "idle",
+        "15 idle",
+        "15 0 0 idle",
+        "14 0 idle",
+        "15 0 Idle",
+        "idle 0 0",
+        "1 1 1 1 1 1 1 1 1",
+        "1 18446744073709551616",
+        "18446744073709551616",
+        "1 99999999999999999999999999",
+        "box",
+        "box 8 7",
+        "box 8 7 1 0",
+        "box 8 7 x",
+        "box 8 7 18446744073709551616",
+        "unit",
+        "unit 1 0 0 1 1",
+        "unit 1 0 0 1 1 1 1",
+        "unit 1 0 0 1 1 idle",
+        "1\r1",
+        "1,1",
+        "1 1 ;",
+        "\u{b}1 1",
+        "1\u{a0}1",
+        "box8 7 1",
+        "1 free",
+    ];
+
     #[test]
     fn lines_that_cannot_be_read_end_the_run() {
-        let bad = [
-            "1 -1",
-            "1 +1",
-            "1 0x1",
-            "1 1.0",
-            "x",
-            "Box 8 7 1",
-            "free 1",
-            "frees",
-            "idle",
-            "15 idle",
-            "15 0 0 idle",
-            "14 0 idle",
-            "15 0 Idle",
-            "idle 0 0",
-            "1 1 1 1 1 1 1 1 1",
-            "1 18446744073709551616",
-            "18446744073709551616",
-            "1 99999999999999999999999999",
-            "box",
-            "box 8 7",
-            "box 8 7 1 0",
-            "box 8 7 x",
-            "box 8 7 18446744073709551616",
-            "unit",
-            "unit 1 0 0 1 1",
-            "unit 1 0 0 1 1 1 1",
-            "unit 1 0 0 1 1 idle",
-            "1\r1",
-            "1,1",
-            "1 1 ;",
-            "\u{b}1 1",
-            "1\u{a0}1",
-            "box8 7 1",
-            "1 free",
-        ];
-        for line in bad {
+        for line in UNREADABLE {
             let start = format!("box 8 7 1\n{line}\n1 1\n");
             says(&start, &["start 0", "line 2: not understood"]);
             let later = format!("box 8 7 1\n\n1 1\n# c\n{line}\r\n1 1\nfree\n");
