@@ -732,8 +732,15 @@ fn show_slots(a: &mut Author, side: &Numbers) {
         a.expect_drops(0, &[side.unmap, 1, guest]);
     }
     a.expect_drops(1, &[side.unmap, 1, 74]);
+    a.note("the lowest empty slot is taken also where the one at the hand is empty");
+    for slot in [8, 2] {
+        a.expect(0, &[side.empty, slot]);
+    }
+    a.expect(0, &[side.fill, 5, 75]);
+    a.expect(0, &[side.empty, 2]);
+    a.expect_drops(0, &[side.unmap, 1, 75]);
     a.note("what the hand did not take is still there");
-    for guest in (0..70).chain(75..80).rev() {
+    for guest in (0..70).chain(76..80).rev() {
         a.expect(0, &[side.unmap, 1, guest]);
     }
     a.expect(9, &[side.fill, 0, 0]);

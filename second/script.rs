@@ -288,7 +288,12 @@ pub fn check(
 }
 
 /// What `check` asks of the state after one row.
-fn look(before: &Machine, after: &Machine, alive: bool, answer: Answer) -> Result<(), String> {
+pub(crate) fn look(
+    before: &Machine,
+    after: &Machine,
+    alive: bool,
+    answer: Answer,
+) -> Result<(), String> {
     if answer.number != 0 && before != after {
         return Err(format!("refused with {} and yet changed", answer.number));
     }

@@ -6,7 +6,7 @@ use crate::coverage::Coverage;
 use crate::generate::{generate, suite};
 use crate::machine::*;
 use crate::operate::{Answer, Row};
-use crate::script::{check, run, Event, Events};
+use crate::script::{check, look, run, Event, Events};
 use crate::valid::{broken, CLAUSES};
 
 const UNITS_OF_TABLE: [[u64; 6]; 2] = [[1, 16, 0, 3, 3, 3], [2, 16, 2, 2, 3, 1]];
@@ -693,6 +693,17 @@ mod generated {
             assert_eq!(verdict, Ok(()), "{name}");
             assert_eq!(output_of(script.as_bytes()).as_bytes(), output, "{name}");
         }
+    }
+
+    #[test]
+    fn a_check_sees_a_change_and_an_invalid_state() {
+        let (before, mut after) = (with_u1(), with_u1());
+        after.memory[0] = 1;
+        assert_eq!(look(&before, &after, true, Answer::default()), Ok(()));
+        assert!(look(&before, &after, true, Answer::refused(4)).is_err());
+        after.pool.clear();
+        assert!(look(&before, &after, true, Answer::default()).is_err());
+        assert!(look(&before, &before, false, Answer::refused(1)).is_err());
     }
 
     #[test]
