@@ -1,0 +1,965 @@
+//! The directed part of the suite: scenarios written by hand, each row with
+//! the answer that the machine's paper gives it.
+
+use crate::author::Author;
+use crate::machine::{GUESTS, IDLE};
+use crate::operate::{arguments, Kind};
+
+const HUGE: u64 = u64::MAX;
+
+/// Every scenario with its name.
+pub const SCENARIOS: [(&str, fn(&mut Author)); 21] = [
+    ("starts that are refused", refused_starts),
+    ("starts at the edge", edge_starts),
+    ("numbers out of range", ranges),
+    ("the last numbers in range", limits),
+    ("life of a VM", vm_life),
+    ("CPUs and devices", running),
+    ("assign and reclaim", pages),
+    ("share and unshare", sharing),
+    ("128 pairs", pairs_full),
+    ("CPU maps", cpu_maps),
+    ("DMA maps", dma_maps),
+    ("512 entries", maps_full),
+    ("region spans and units", region_units),
+    ("CPU regions", cpu_regions),
+    ("DMA regions", dma_regions),
+    ("regions in full maps", regions_full),
+    ("caches", caches),
+    ("dropped slots", drops),
+    ("guest accesses", accesses),
+    ("clearing", clearing),
+    ("sizes", sizes),
+];
+
+/// Opens a box whose start must be accepted.
+fn open(a: &mut Author, pages: u64, base: u64, count: u64, units: &[[u64; 6]]) {
+    assert_eq!(a.open(pages, base, count, units), 0);
+}
+
+/// Opens a box whose start must be refused, and shows that nothing works in it.
+fn refused(a: &mut Author, number: u64, size: [u64; 3], units: &[[u64; 6]]) {
+    assert_eq!(a.open(size[0], size[1], size[2], units), number, "{size:?} {units:?}");
+    for row in [[1, 1, 0], [15, 0, IDLE], [25, 0, 0], [0, 0, 0], [7, HUGE, HUGE]] {
+        a.expect(1, &row);
+    }
+    a.free();
+}
+
+/// Adds VMs.
+fn add(a: &mut Author, vms: &[u64]) {
+    for &vm in vms {
+        a.expect(0, &[1, vm]);
+    }
+}
+
+fn refused_starts(a: &mut Author) {
+    let unit = [1, 16, 0, 3, 3, 3];
+    for pages in [0, 1025, 1 << 55, HUGE] {
+        refused(a, 1, [pages, 0, 0], &[unit]);
+    }
+    refused(a, 1, [0, 9, 1], &[[16, 16, 0, 3, 3, 3]]);
+    refused(a, 2, [8, 7, 1], &[unit; 33]);
+    refused(a, 2, [8, 7, 1], &[unit; 40]);
+    for bad in [[16, 16, 0, 3, 3, 3], [IDLE, 16, 0, 3, 3, 3], [1, 16, 0, 3, 8, 3]] {
+        refused(a, 2, [8, 7, 1], &[unit, bad]);
+    }
+    for mark in [0, 4, HUGE] {
+        refused(a, 2, [8, 7, 1], &[[1, 16, 0, 3, 3, mark]]);
+    }
+    refused(a, 2, [8, 9, 1], &[[1, 16, 0, 0, 3, 3], [1, 16, 0, 3, 3, 4]]);
+    let spans = [
+        [1, 16, 0, 0, 3, 3],
+        [1, GUESTS - 1, 0, 2, 3, 3],
+        [1, GUESTS, 0, 1, 3, 3],
+        [1, HUGE, 0, 1, 3, 3],
+        [1, 16, 6, 3, 3, 3],
+        [1, 16, 8, 1, 3, 3],
+        [1, 16, HUGE, 2, 3, 3],
+        [1, 16, 1, HUGE, 3, 3],
+    ];
+    for bad in spans {
+        refused(a, 3, [8, 7, 1], &[unit, bad]);
+    }
+    for [base, count] in [[7, 2], [8, 1], [0, 9], [9, 0], [HUGE, 0], [HUGE, 1], [1, HUGE]] {
+        refused(a, 3, [8, base, count], &[unit]);
+    }
+    // Every row of a refused box answers 1, whatever its operation.
+    refused(a, 3, [8, 0, 9], &[]);
+    for operation in 1..=26 {
+        a.expect(1, &[operation, 1, 16, 0, 3, 3]);
+    }
+}
+
+fn edge_starts(a: &mut Author) {
+    a.note("an empty shared span may lie at N");
+    open(a, 8, 8, 0, &[]);
+    a.free();
+    a.note("every page shared: none is free");
+    open(a, 8, 0, 8, &[[1, 0, 0, 8, 7, 3]]);
+    a.free();
+    add(a, &[1]);
+    a.expect(6, &[3, 1, 0]);
+    a.expect_at(6, 0, &[11, 1, 0, 0, 8, 7]);
+    a.expect_at(7, 0, &[13, 1, 0, 0, 8, 7]);
+    a.note("units at the very end, repeated, and some that differ only in mark");
+    let last = [15, GUESTS - 2, 6, 2, 7, 3];
+    let mut units = vec![last, last];
+    units.extend((0..15).flat_map(|vm| [[vm, 0, vm % 8, 1, 1, 1], [vm, 0, vm % 8, 1, 1, 2]]));
+    open(a, 8, 0, 0, &units);
+    add(a, &[15, 3]);
+    a.expect(0, &[11, 15, GUESTS - 2, 6, 2, 7]);
+    a.expect(0, &[13, 15, GUESTS - 2, 6, 2, 7]);
+    a.expect(0, &[11, 3, 0, 3, 1, 1]);
+    a.expect(0, &[13, 3, 0, 3, 1, 1]);
+    a.expect(0, &[12, 3, 0, 3, 1, 1]);
+    a.expect(0, &[14, 3, 0, 3, 1, 1]);
+    a.note("one page, and it can be taken");
+    open(a, 1, 1, 0, &[]);
+    add(a, &[0]);
+    a.expect(0, &[3, 0, 0]);
+    a.free();
+    a.expect(2, &[3, 0, 1]);
+}
+
+/// Each argument of each operation alone out of range, at its limit and far above.
+fn ranges(a: &mut Author) {
+    for pages in [8, 1024] {
+        open(a, pages, 7, 1, &[[1, 16, 0, 3, 3, 3]]);
+        add(a, &[0, 1]);
+        for operation in 1..=26 {
+            let kinds = arguments(operation).expect("a known operation");
+            for (place, kind) in kinds.iter().enumerate() {
+                let Some(limit) = kind.limit(pages) else { continue };
+                for bad in [limit, limit + 1, IDLE, IDLE + 1, 1 << 48, HUGE] {
+                    let mut row = [operation, 0, 0, 0, 0, 0];
+                    row[place + 1] = bad;
+                    let idle = *kind == Kind::Target && bad == IDLE;
+                    a.expect(if idle { 0 } else { 2 }, &row);
+                }
+            }
+        }
+        a.note("2 comes before all else; a region's spans are never judged by it");
+        a.expect(2, &[11, 16, HUGE, HUGE, 0, 0]);
+        a.expect(2, &[11, 9, HUGE, HUGE, 0, 8]);
+        a.expect(3, &[11, 9, HUGE, HUGE, 0, 7]);
+        a.expect(2, &[5, 9, 9, pages]);
+        for operation in [0, 27, 28, 255, 256 + 1, IDLE, 1 << 32, (1 << 32) + 1, HUGE] {
+            a.expect(2, &[operation, 1]);
+        }
+        a.note("numbers past the arguments are ignored");
+        a.expect(0, &[1, 2, HUGE, HUGE, HUGE, HUGE, HUGE, HUGE]);
+        a.expect(0, &[25, HUGE, HUGE, HUGE, HUGE, HUGE, HUGE, HUGE]);
+        a.expect(0, &[26, HUGE]);
+    }
+}
+
+/// The last number in range and the first out of it, for each kind of argument.
+fn limits(a: &mut Author) {
+    open(a, 8, 7, 1, &[[15, 0, 0, 1, 7, 3]]);
+    let rows: [[&[u64]; 2]; 11] = [
+        [&[1, 15], &[1, 16]],
+        [&[3, 15, 6], &[3, 15, 8]],
+        [&[7, 15, 65_535, 6, 7, 65_535], &[7, 15, 65_536, 6, 7, 65_535]],
+        [&[8, 15, 65_535, 7, 7, 65_535], &[8, 15, 65_535, 8, 7, 65_535]],
+        [&[7, 15, 65_534, 6, 7, 65_535], &[7, 15, 65_534, 6, 8, 65_535]],
+        [&[8, 15, 65_534, 7, 7, 65_535], &[8, 15, 65_534, 7, 7, 65_536]],
+        [&[11, 15, 0, 0, 1, 7], &[11, 15, 0, 0, 1, 8]],
+        [&[15, 7, 15], &[15, 8, 15]],
+        [&[17, 7, 65_535], &[17, 7, 65_536]],
+        [&[19, 63], &[19, 64]],
+        [&[23, 7, 65_535, 511, HUGE], &[23, 7, 65_535, 512, HUGE]],
+    ];
+    for [last, over] in rows {
+        a.expect(0, last);
+        a.expect(2, over);
+    }
+}
+
+fn vm_life(a: &mut Author) {
+    open(a, 8, 7, 1, &[[1, 16, 0, 3, 3, 3]]);
+    a.expect(4, &[2, 1]);
+    add(a, &[1, 2, 15, 0]);
+    a.expect(5, &[1, 1]);
+    a.expect(0, &[2, 15]);
+    a.expect(4, &[2, 15]);
+    a.note("13 by each reason alone");
+    a.expect(0, &[3, 1, 0]);
+    a.expect(13, &[2, 1]);
+    a.expect(0, &[5, 1, 2, 0]);
+    a.expect(13, &[2, 2]);
+    a.expect(0, &[7, 2, 9, 0, 1]);
+    a.expect(13, &[2, 2]);
+    a.expect(0, &[9, 2, 9]);
+    a.expect(13, &[2, 2]);
+    a.expect(0, &[6, 2, 1, 0]);
+    a.expect(0, &[2, 2]);
+    a.expect(0, &[4, 1, 0]);
+    a.expect(0, &[15, 7, 1]);
+    a.expect(13, &[2, 1]);
+    a.expect(0, &[15, 7, IDLE]);
+    a.expect(0, &[16, 7, 1]);
+    a.expect(13, &[2, 1]);
+    a.expect(0, &[16, 7, IDLE]);
+    a.expect(0, &[8, 1, 9, 7, 1]);
+    a.expect(13, &[2, 1]);
+    a.expect(0, &[10, 1, 9]);
+    a.expect(0, &[13, 1, 16, 0, 3, 3]);
+    a.expect(13, &[2, 1]);
+    for guest in 16..19 {
+        a.expect(0, &[10, 1, guest]);
+    }
+    a.note("an unmap ends no claim: the DMA pages stay");
+    a.expect(13, &[2, 1]);
+}
+
+/// CPUs and devices go to known VMs and to idle.
+fn running(a: &mut Author) {
+    open(a, 8, 7, 1, &[]);
+    add(a, &[1]);
+    a.expect(4, &[15, 0, 0]);
+    a.expect(4, &[16, 0, 0]);
+    add(a, &[0]);
+    a.expect(0, &[15, 0, 0]);
+    a.expect(0, &[15, 0, 1]);
+    a.expect(0, &[16, 0, 0]);
+    a.expect(0, &[16, 0, 1]);
+    a.expect(0, &[2, 0]);
+    a.expect(13, &[2, 1]);
+    a.note("idle is one number, and a VM's only in 15 and 16");
+    for port in 0..8 {
+        a.expect(0, &[15, port, IDLE]);
+        a.expect(0, &[16, port, IDLE]);
+        a.expect(2, &[15, port, IDLE - 1]);
+        a.expect(2, &[16, port, IDLE + 1]);
+    }
+    a.expect(2, &[1, IDLE]);
+    a.expect(2, &[15, IDLE, IDLE]);
+    a.expect(0, &[2, 1]);
+}
+
+fn pages(a: &mut Author) {
+    open(a, 8, 7, 1, &[[1, 16, 0, 3, 3, 2]]);
+    a.expect(4, &[3, 1, 0]);
+    a.expect(4, &[4, 1, 0]);
+    add(a, &[1, 2, 3]);
+    a.expect(6, &[3, 1, 7]);
+    a.expect(0, &[3, 1, 6]);
+    a.expect(6, &[3, 1, 6]);
+    a.expect(6, &[3, 2, 6]);
+    a.expect(6, &[4, 2, 6]);
+    a.expect(6, &[4, 1, 5]);
+    a.expect(6, &[4, 1, 7]);
+    a.expect(0, &[13, 1, 16, 0, 3, 3]);
+    a.note("a DMA page lies in the pool: its own VM may have it, another not");
+    a.expect(7, &[3, 2, 0]);
+    a.expect(0, &[3, 1, 0]);
+    a.expect(6, &[3, 2, 0]);
+    a.note("11 by a mapping, by an edge, by both, then neither");
+    a.expect(0, &[7, 1, 5, 6, 7]);
+    a.expect(11, &[4, 1, 6]);
+    a.expect(0, &[5, 1, 2, 6]);
+    a.expect(11, &[4, 1, 6]);
+    a.expect(0, &[9, 1, 5]);
+    a.expect(11, &[4, 1, 6]);
+    a.expect(0, &[6, 1, 2, 6]);
+    a.expect(0, &[4, 1, 6]);
+    a.expect(6, &[4, 1, 6]);
+    a.note("a DMA mapping does not keep a page from being reclaimed");
+    a.expect(0, &[4, 1, 0]);
+    a.free();
+}
+
+fn sharing(a: &mut Author) {
+    open(a, 8, 7, 1, &[]);
+    add(a, &[1, 2, 3]);
+    a.expect(0, &[3, 1, 0]);
+    a.expect(0, &[3, 2, 1]);
+    for operation in [5, 6] {
+        a.expect(4, &[operation, 9, 1, 0]);
+        a.expect(4, &[operation, 1, 9, 0]);
+        a.expect(4, &[operation, 9, 9, 0]);
+        a.expect(12, &[operation, 1, 1, 0]);
+    }
+    a.note("12 comes before 6");
+    a.expect(12, &[5, 1, 1, 5]);
+    a.expect(6, &[5, 1, 2, 5]);
+    a.expect(6, &[5, 1, 2, 7]);
+    a.expect(6, &[5, 2, 1, 0]);
+    a.expect(12, &[6, 1, 2, 0]);
+    a.expect(0, &[5, 1, 2, 0]);
+    a.expect(0, &[5, 1, 2, 0]);
+    a.expect(6, &[5, 2, 1, 0]);
+    a.expect(0, &[5, 1, 3, 0]);
+    a.expect(0, &[5, 2, 1, 1]);
+    a.note("a pair gives nothing to a third VM");
+    a.expect(6, &[7, 3, 8, 1, 3]);
+    a.expect(12, &[6, 2, 3, 0]);
+    a.expect(0, &[7, 1, 8, 0, 3]);
+    a.expect(0, &[7, 2, 8, 0, 3]);
+    a.expect(11, &[6, 1, 2, 0]);
+    a.expect(11, &[6, 2, 1, 0]);
+    a.note("another borrower's mapping does not count, nor the owner's");
+    a.expect(0, &[6, 1, 3, 0]);
+    a.expect(12, &[6, 3, 1, 0]);
+    a.expect(0, &[9, 2, 8]);
+    a.expect(0, &[6, 2, 1, 0]);
+    a.expect(6, &[7, 2, 8, 0, 3]);
+    a.expect(0, &[6, 1, 2, 1]);
+}
+
+fn pairs_full(a: &mut Author) {
+    open(a, 12, 12, 0, &[]);
+    for vm in 0..16 {
+        a.expect(0, &[1, vm]);
+    }
+    for page in 0..10 {
+        a.expect(0, &[3, page, page]);
+    }
+    let all = (0..9).flat_map(|page| (0..16).map(move |vm| (page, vm)));
+    for (page, vm) in all.filter(|(page, vm)| page != vm).take(128) {
+        a.expect(0, &[5, page, vm, page]);
+    }
+    a.note("128 pairs: no more, but a stored one may be shared again");
+    a.expect(14, &[5, 9, 1, 9]);
+    a.expect(0, &[5, 0, 1, 0]);
+    a.expect(0, &[5, 3, 2, 3]);
+    a.expect(6, &[5, 1, 0, 0]);
+    a.expect(6, &[5, 9, 1, 8]);
+    a.expect(12, &[5, 9, 9, 9]);
+    a.expect(0, &[6, 2, 3, 3]);
+    a.expect(0, &[5, 9, 1, 9]);
+    a.expect(14, &[5, 3, 2, 3]);
+}
+
+fn cpu_maps(a: &mut Author) {
+    open(a, 8, 7, 1, &[[1, 16, 3, 1, 3, 2]]);
+    for operation in [7, 9] {
+        a.expect(4, &[operation, 1, 5]);
+    }
+    add(a, &[1, 2]);
+    a.expect(9, &[9, 1, 5]);
+    a.expect(6, &[7, 1, 5, 0, 7]);
+    a.expect(6, &[7, 1, 5, 7, 7]);
+    a.expect(0, &[13, 1, 16, 3, 1, 3]);
+    a.expect(6, &[7, 1, 5, 3, 7]);
+    a.expect(0, &[3, 1, 0]);
+    a.expect(6, &[7, 2, 5, 0, 7]);
+    a.expect(0, &[7, 1, GUESTS - 1, 0, 7, 65_535]);
+    a.expect(0, &[7, 1, 0, 0, 0, 0]);
+    a.expect(0, &[5, 1, 2, 0]);
+    a.expect(0, &[7, 2, 5, 0, 7, 1]);
+    a.expect(0, &[7, 2, 5, 0, 7, 2]);
+    a.expect(9, &[9, 1, 5]);
+    a.expect(9, &[9, 2, 6]);
+    a.expect(0, &[9, 2, 5]);
+    a.expect(9, &[9, 2, 5]);
+    a.note("software and device maps are apart");
+    a.expect(9, &[10, 1, 0]);
+    a.expect(0, &[9, 1, GUESTS - 1]);
+}
+
+fn dma_maps(a: &mut Author) {
+    open(a, 8, 7, 1, &[[1, 16, 0, 2, 3, 3]]);
+    for operation in [8, 10] {
+        a.expect(4, &[operation, 1, 5]);
+    }
+    add(a, &[1, 2]);
+    a.expect(9, &[10, 1, 5]);
+    a.expect(6, &[8, 1, 5, 0, 7]);
+    a.expect(0, &[3, 1, 3]);
+    a.expect(0, &[3, 2, 4]);
+    a.note("owning a page, or borrowing it, gives no DMA");
+    a.expect(0, &[5, 2, 1, 4]);
+    a.expect(6, &[8, 1, 5, 3, 7]);
+    a.expect(6, &[8, 1, 5, 4, 7]);
+    a.expect(0, &[13, 1, 16, 0, 2, 3]);
+    a.expect(6, &[8, 2, 5, 0, 7]);
+    a.expect(0, &[8, 1, 5, 0, 7, 9]);
+    a.expect(0, &[8, 1, 5, 1, 1, 65_535]);
+    a.expect(0, &[8, 2, 5, 7, 3]);
+    a.expect(9, &[9, 2, 5]);
+    a.expect(0, &[10, 1, 5]);
+    a.expect(9, &[10, 1, 5]);
+    a.expect(0, &[10, 2, 5]);
+}
+
+/// Both maps to their brim, one entry at a time.
+fn maps_full(a: &mut Author) {
+    open(a, 8, 7, 1, &[[1, 60_000, 1, 2, 3, 1], [1, 60_000, 2, 1, 3, 2]]);
+    add(a, &[1, 2]);
+    a.expect(0, &[3, 1, 0]);
+    a.expect(0, &[5, 1, 2, 0]);
+    for (map, unmap, page) in [(7, 9, 0), (8, 10, 7)] {
+        for guest in 0..512 {
+            a.expect(0, &[map, 1 + guest % 2, guest * 128, page, 3, guest]);
+        }
+        a.expect(14, &[map, 1, 1, page, 3]);
+        a.expect(14, &[map, 2, 0, page, 3]);
+        a.note("6 comes before 14, and a replacement needs no free entry");
+        a.expect(6, &[map, 1, 1, 5, 3]);
+        a.expect(0, &[map, 1, 0, page, 1, 5]);
+        a.expect(0, &[map, 2, 511 * 128, page, 5, 0]);
+        a.note("an emptied entry counts as free");
+        a.expect(0, &[unmap, 2, 128]);
+        a.expect(0, &[map, 1, 1, page, 3]);
+        a.expect(14, &[map, 2, 128, page, 3]);
+        a.expect(0, &[unmap, 1, 1]);
+    }
+    a.note("one entry free in each map: two do not fit, one does");
+    a.expect(14, &[11, 1, 60_000, 1, 2, 3]);
+    a.expect(0, &[13, 1, 60_000, 2, 1, 3]);
+    a.expect(14, &[8, 1, 1, 7, 1]);
+}
+
+/// Refusals 3, 4 and 8 of all four region operations.
+fn region_units(a: &mut Author) {
+    let units = [[1, 16, 0, 3, 3, 3], [1, 32, 4, 2, 3, 1], [1, 32, 4, 2, 5, 2], [4, 8, 3, 1, 7, 3]];
+    open(a, 8, 7, 1, &units);
+    for operation in 11..=14 {
+        a.note("3 comes before 4, and 4 before 8");
+        a.expect(3, &[operation, 1, 16, 0, 0, 3]);
+        a.expect(4, &[operation, 1, 16, 0, 3, 3]);
+        a.expect(4, &[operation, 1, 17, 0, 3, 3]);
+    }
+    add(a, &[1, 2]);
+    for operation in 11..=14 {
+        bad_regions(a, operation);
+    }
+    a.note("a unit's mark must suit");
+    a.expect(8, &[13, 1, 32, 4, 2, 3]);
+    a.expect(8, &[14, 1, 32, 4, 2, 3]);
+    a.expect(8, &[11, 1, 32, 4, 2, 5]);
+    a.expect(8, &[12, 1, 32, 4, 2, 5]);
+    a.expect(0, &[11, 1, 32, 4, 2, 3]);
+    a.expect(0, &[13, 1, 32, 4, 2, 5]);
+}
+
+/// Spans that do not fit, and regions of which no unit has all five fields.
+fn bad_regions(a: &mut Author, operation: u64) {
+    let spans = [
+        [GUESTS - 2, 0, 3],
+        [GUESTS, 0, 1],
+        [HUGE, 0, 1],
+        [HUGE - 1, 0, 3],
+        [16, 6, 3],
+        [16, 8, 1],
+        [16, HUGE, 1],
+        [16, HUGE, 2],
+        [16, 0, HUGE],
+        [16, 1, HUGE],
+        [1, 0, GUESTS],
+    ];
+    for [guest, page, count] in spans {
+        a.expect(3, &[operation, 1, guest, page, count, 3]);
+    }
+    let strangers = [
+        [2, 16, 0, 3, 3],
+        [1, 17, 0, 3, 3],
+        [1, 16, 1, 3, 3],
+        [1, 16, 0, 2, 3],
+        [1, 16, 0, 3, 1],
+        [1, 16, 6, 2, 3],
+        [1, GUESTS - 2, 6, 2, 3],
+    ];
+    for [vm, guest, page, count, access] in strangers {
+        a.expect(8, &[operation, vm, guest, page, count, access]);
+    }
+    a.expect(4, &[operation, 4, 8, 3, 1, 7]);
+}
+
+fn cpu_regions(a: &mut Author) {
+    let units = [[1, 16, 0, 3, 3, 3], [2, 16, 1, 3, 3, 3], [1, 40, 5, 3, 7, 1], [3, 0, 2, 1, 3, 2]];
+    open(a, 8, 7, 1, &units);
+    let (first, second) = ([11, 1, 16, 0, 3, 3], [11, 2, 16, 1, 3, 3]);
+    add(a, &[1, 2, 3]);
+    a.expect_at(6, 0, &[12, 1, 16, 0, 3, 3]);
+    a.expect_at(6, 2, &[11, 1, 40, 5, 3, 7]);
+    a.expect(0, &[3, 2, 1]);
+    a.expect_at(6, 1, &first);
+    a.expect(0, &[4, 2, 1]);
+    a.note("6 is sought in the whole region before 10, and 10 before 7");
+    a.expect(0, &[3, 1, 6]);
+    a.expect(0, &[7, 1, 16, 6, 1]);
+    a.expect(0, &[7, 1, 17, 6, 1]);
+    a.expect(0, &[3, 2, 2]);
+    a.expect_at(6, 2, &first);
+    a.expect(0, &[4, 2, 2]);
+    a.expect_at(10, 0, &first);
+    a.expect(0, &[9, 1, 16]);
+    a.expect_at(10, 1, &first);
+    a.expect(0, &[13, 3, 0, 2, 1, 3]);
+    a.expect_at(10, 1, &first);
+    a.expect(0, &[9, 1, 17]);
+    a.expect_at(7, 2, &first);
+    a.expect_at(7, 1, &second);
+    a.expect(0, &[14, 3, 0, 2, 1, 3]);
+    a.expect(0, &[13, 1, 16, 0, 3, 3]);
+    a.expect_at(7, 0, &second);
+    a.expect(0, &first);
+    a.expect_at(6, 0, &first);
+    a.expect(0, &[14, 1, 16, 0, 3, 3]);
+    remove_cpu_region(a);
+}
+
+/// The refusals of operation 12, with U1 of VM 1 in at guest 16, pages 0 to 2.
+fn remove_cpu_region(a: &mut Author) {
+    let remove = [12, 1, 16, 0, 3, 3];
+    a.note("9: absent, or another page, access or generation");
+    a.expect(0, &[9, 1, 18]);
+    a.expect_at(9, 2, &remove);
+    for entry in [[1, 3, 0], [2, 7, 0], [2, 3, 1]] {
+        a.expect(0, &[7, 1, 18, entry[0], entry[1], entry[2]]);
+        a.expect_at(9, 2, &remove);
+    }
+    a.expect(0, &[7, 1, 16, 0, 1]);
+    a.expect_at(9, 0, &remove);
+    a.note("6 is sought in the whole region before 9");
+    a.expect(0, &[9, 1, 17]);
+    a.expect(0, &[4, 1, 1]);
+    a.expect_at(6, 1, &remove);
+    a.expect(0, &[3, 1, 1]);
+    a.expect_at(9, 0, &remove);
+    for index in 0..3 {
+        a.expect(0, &[7, 1, 16 + index, index, 3]);
+    }
+    a.note("11: another mapping, of its own or a borrower, or an edge");
+    a.expect(0, &[7, 1, 100, 2, 1]);
+    a.expect_at(11, 2, &remove);
+    a.expect(0, &[5, 1, 2, 1]);
+    a.expect_at(11, 1, &remove);
+    a.expect(0, &[7, 2, 16, 1, 3]);
+    a.expect_at(11, 1, &remove);
+    a.expect(0, &[9, 2, 16]);
+    a.expect(0, &[6, 1, 2, 1]);
+    a.expect_at(11, 2, &remove);
+    a.expect(0, &[9, 1, 100]);
+    a.expect(0, &remove);
+    a.expect_at(6, 0, &remove);
+    a.free();
+}
+
+fn dma_regions(a: &mut Author) {
+    let units = [
+        [1, 16, 0, 3, 3, 3],
+        [2, 16, 2, 3, 3, 3],
+        [1, 40, 5, 3, 7, 2],
+        [1, 60, 1, 1, 3, 2],
+        [3, 0, 4, 1, 3, 2],
+    ];
+    open(a, 8, 7, 1, &units);
+    let (first, second, span) = ([13, 1, 16, 0, 3, 3], [13, 2, 16, 2, 3, 3], [13, 1, 40, 5, 3, 7]);
+    add(a, &[1, 2, 3]);
+    a.expect_at(6, 0, &[14, 1, 16, 0, 3, 3]);
+    a.note("7: the shared span, another VM's CPU page, another VM's DMA page");
+    a.expect_at(7, 2, &span);
+    a.expect(0, &[3, 2, 1]);
+    a.expect_at(7, 1, &first);
+    a.note("10 comes before 7, each sought in the whole region");
+    a.expect(0, &[8, 1, 18, 7, 3]);
+    a.expect_at(10, 2, &first);
+    a.expect(0, &[8, 1, 16, 7, 3]);
+    a.expect_at(10, 0, &first);
+    a.expect(0, &[10, 1, 16]);
+    a.expect(0, &[10, 1, 18]);
+    a.expect_at(7, 1, &first);
+    a.expect(0, &[4, 2, 1]);
+    a.expect(0, &[3, 1, 1]);
+    a.expect(0, &first);
+    a.expect_at(10, 0, &first);
+    a.expect_at(7, 0, &second);
+    a.expect(0, &[13, 3, 0, 4, 1, 3]);
+    a.note("a page may be granted twice to its own VM");
+    a.expect(0, &[13, 1, 60, 1, 1, 3]);
+    remove_dma_region(a);
+    a.expect_at(7, 2, &second);
+    a.expect(0, &[14, 3, 0, 4, 1, 3]);
+    a.expect(0, &second);
+    a.free();
+}
+
+/// The refusals of operation 14, with VM 1 holding pages 0 to 2 at guest 16,
+/// and page 1 at guest 60 besides.
+fn remove_dma_region(a: &mut Author) {
+    let remove = [14, 1, 16, 0, 3, 3];
+    a.expect_at(11, 1, &remove);
+    a.note("9: absent, or another page, access or generation; it comes before 11");
+    a.expect(0, &[10, 1, 18]);
+    a.expect_at(9, 2, &remove);
+    for entry in [[1, 3, 0], [2, 7, 0], [2, 3, 1]] {
+        a.expect(0, &[8, 1, 18, entry[0], entry[1], entry[2]]);
+        a.expect_at(9, 2, &remove);
+    }
+    a.expect(0, &[8, 1, 16, 0, 1]);
+    a.expect_at(9, 0, &remove);
+    a.note("6 is sought in the whole region before 9");
+    a.expect_at(11, 0, &[14, 1, 60, 1, 1, 3]);
+    a.expect(0, &[10, 1, 17]);
+    a.expect(0, &[14, 1, 60, 1, 1, 3]);
+    a.expect_at(6, 1, &remove);
+    a.expect(0, &[13, 1, 60, 1, 1, 3]);
+    for index in 0..3 {
+        a.expect(0, &[8, 1, 16 + index, index, 3]);
+    }
+    a.expect_at(11, 1, &remove);
+    a.note("an edge and a CPU mapping do not keep DMA pages");
+    a.expect(0, &[5, 1, 2, 1]);
+    a.expect(0, &[7, 2, 16, 1, 3]);
+    a.expect(0, &[10, 1, 60]);
+    a.expect(0, &remove);
+    a.expect_at(6, 0, &remove);
+}
+
+/// Regions against the free entries of each map.
+fn regions_full(a: &mut Author) {
+    let units = [
+        [1, 0, 0, 412, 3, 3],
+        [1, 2000, 500, 100, 3, 3],
+        [2, 2000, 700, 101, 3, 3],
+        [1, 0, 0, 512, 3, 3],
+        [1, 0, 0, 513, 3, 3],
+        [1, 0, 0, 1024, 3, 3],
+        [2, 0, 1023, 1, 3, 3],
+    ];
+    for (insert, remove) in [(11, 12), (13, 14)] {
+        open(a, 1024, 0, 0, &units);
+        add(a, &[1, 2]);
+        a.expect(14, &[insert, 1, 0, 0, 513, 3]);
+        a.expect(14, &[insert, 1, 0, 0, 1024, 3]);
+        a.expect(0, &[insert, 1, 0, 0, 512, 3]);
+        a.expect(14, &[insert, 2, 0, 1023, 1, 3]);
+        a.expect(0, &[remove, 1, 0, 0, 512, 3]);
+        a.expect(0, &[insert, 1, 0, 0, 412, 3]);
+        a.expect(14, &[insert, 2, 2000, 700, 101, 3]);
+        a.expect(0, &[insert, 1, 2000, 500, 100, 3]);
+        a.expect(14, &[insert, 2, 2000, 700, 101, 3]);
+        a.note("the index of a late clash");
+        let late = if insert == 11 { 6 } else { 10 };
+        a.expect_at(late, 0, &[insert, 1, 0, 0, 1024, 3]);
+        a.free();
+        a.expect(0, &[remove, 1, 0, 0, 412, 3]);
+        a.expect_at(late, if insert == 11 { 500 } else { 0 }, &late_region(insert));
+        a.expect(0, &[insert, 2, 2000, 700, 101, 3]);
+        a.expect_at(6, 0, &[remove, 1, 0, 0, 412, 3]);
+        a.free();
+    }
+}
+
+/// For CPU the whole box, whose page 500 is taken; for DMA a region still in.
+fn late_region(insert: u64) -> [u64; 6] {
+    if insert == 11 {
+        [11, 1, 0, 0, 1024, 3]
+    } else {
+        [13, 1, 2000, 500, 100, 3]
+    }
+}
+
+/// The numbers of one side's operations.
+struct Numbers {
+    map: u64,
+    unmap: u64,
+    insert: u64,
+    remove: u64,
+    run: u64,
+    fill: u64,
+    empty: u64,
+    read: u64,
+    write: u64,
+}
+
+const CPU: Numbers = Numbers {
+    map: 7,
+    unmap: 9,
+    insert: 11,
+    remove: 12,
+    run: 15,
+    fill: 17,
+    empty: 19,
+    read: 21,
+    write: 23,
+};
+const DMA: Numbers = Numbers {
+    map: 8,
+    unmap: 10,
+    insert: 13,
+    remove: 14,
+    run: 16,
+    fill: 18,
+    empty: 20,
+    read: 22,
+    write: 24,
+};
+
+/// Fills past 64 slots; the unmaps at the end tell which keys were still held.
+fn caches(a: &mut Author) {
+    open(a, 8, 7, 1, &[]);
+    add(a, &[1]);
+    a.expect(0, &[3, 1, 0]);
+    for (side, page) in [(CPU, 0), (DMA, 7)] {
+        for guest in 0..80 {
+            a.expect(0, &[side.map, 1, guest, page, 3, guest]);
+        }
+        for port in 0..8 {
+            a.expect(0, &[side.run, port, 1]);
+        }
+        a.expect(0, &[side.empty, 63]);
+        for guest in 0..64 {
+            a.expect(0, &[side.fill, 0, guest]);
+        }
+        a.expect(0, &[side.fill, 0, 5]);
+        a.note("the hand goes from 0 round to 6");
+        for guest in 0..70 {
+            a.expect(0, &[side.fill, 7, guest]);
+        }
+        a.note("emptied slots go first, the lowest of them, and the hand waits");
+        for slot in [40, 3, 3, 50] {
+            a.expect(0, &[side.empty, slot]);
+        }
+        a.expect(0, &[side.fill, 7, 60]);
+        for guest in 70..75 {
+            a.expect(0, &[side.fill, 6, guest]);
+        }
+        show_slots(a, &side);
+    }
+}
+
+/// Guests 70 to 74 went into slots 3, 40, 50 and then to the hand at 6 and 7:
+/// once its slot is emptied by number, an unmap drops nothing.
+fn show_slots(a: &mut Author, side: &Numbers) {
+    a.expect(9, &[side.fill, 6, 80]);
+    for (slot, guest) in [(3, 70), (40, 71), (50, 72), (6, 73)] {
+        a.expect(0, &[side.empty, slot]);
+        a.expect_drops(0, &[side.unmap, 1, guest]);
+    }
+    a.expect_drops(1, &[side.unmap, 1, 74]);
+    a.note("the lowest empty slot is taken also where the one at the hand is empty");
+    for slot in [8, 2] {
+        a.expect(0, &[side.empty, slot]);
+    }
+    a.expect(0, &[side.fill, 5, 75]);
+    a.expect(0, &[side.empty, 2]);
+    a.expect_drops(0, &[side.unmap, 1, 75]);
+    a.note("what the hand did not take is still there");
+    for guest in (0..70).chain(76..80).rev() {
+        a.expect(0, &[side.unmap, 1, guest]);
+    }
+    a.expect(9, &[side.fill, 0, 0]);
+    for port in 0..8 {
+        a.expect(0, &[side.run, port, IDLE]);
+        a.expect(15, &[side.fill, port, 0]);
+    }
+}
+
+/// Slots dropped by maps, unmaps and region removal, on all ports, of one VM.
+fn drops(a: &mut Author) {
+    for (side, other) in [(CPU, DMA), (DMA, CPU)] {
+        open(a, 8, 7, 1, &[[1, 16, 0, 3, 3, 3], [2, 16, 3, 3, 3, 3]]);
+        add(a, &[1, 2]);
+        let (own, more) = ([side.map, 1, 16, 0, 3], [side.unmap, 1, 16]);
+        let fills = |a: &mut Author, keys: &[[u64; 2]]| {
+            for &[port, guest] in keys {
+                a.expect(0, &[side.fill, port, guest]);
+            }
+        };
+        two_regions(a, &side);
+        two_regions(a, &other);
+        a.expect(0, &[other.fill, 0, 16]);
+        a.expect_drops(0, &own);
+        fills(a, &[[0, 16], [0, 17]]);
+        a.expect_drops(1, &own);
+        fills(a, &[[0, 16], [1, 16], [2, 16]]);
+        a.note("a slot stays when its port goes elsewhere, and counts");
+        a.expect(0, &[side.run, 2, 2]);
+        a.expect_drops(3, &own);
+        a.expect(0, &[side.run, 2, 1]);
+        fills(a, &[[1, 16]]);
+        a.expect_drops(1, &more);
+        a.expect_drops(0, &own);
+        fills(a, &[[1, 16], [2, 16]]);
+        a.expect_drops(2, &more);
+        a.expect_drops(0, &own);
+        a.expect_drops(1, &[side.remove, 1, 16, 0, 3, 3]);
+        a.expect_drops(0, &[side.insert, 1, 16, 0, 3, 3]);
+        fills(a, &[[0, 16], [1, 17], [2, 18], [0, 18]]);
+        a.expect_drops(4, &[side.remove, 1, 16, 0, 3, 3]);
+        a.note("neither the other VM's slot nor the other side's went");
+        a.expect_drops(1, &[side.unmap, 2, 16]);
+        a.expect_drops(1, &[other.unmap, 1, 16]);
+        a.expect_drops(1, &[other.remove, 2, 16, 3, 3, 3]);
+    }
+}
+
+/// Regions of VMs 1 and 2 at guest 16, ports 0 to 2 on VM 1, port 3 on VM 2
+/// with one slot filled.
+fn two_regions(a: &mut Author, side: &Numbers) {
+    a.expect(0, &[side.insert, 1, 16, 0, 3, 3]);
+    a.expect(0, &[side.insert, 2, 16, 3, 3, 3]);
+    for (port, vm) in [(0, 1), (1, 1), (2, 1), (3, 2)] {
+        a.expect(0, &[side.run, port, vm]);
+    }
+    a.expect(0, &[side.fill, 3, 16]);
+}
+
+fn accesses(a: &mut Author) {
+    for side in [CPU, DMA] {
+        open(a, 8, 7, 1, &[[1, 16, 0, 3, 7, 3], [2, 16, 3, 1, 3, 3]]);
+        add(a, &[1, 2]);
+        for operation in [side.fill, side.read, side.write] {
+            a.note("15 comes before 9");
+            a.expect(15, &[operation, 7, 16]);
+        }
+        a.expect(0, &[side.run, 7, 1]);
+        a.expect(0, &[side.insert, 2, 16, 3, 1, 3]);
+        for operation in [side.fill, side.read, side.write] {
+            a.expect(9, &[operation, 7, 16]);
+            a.expect(9, &[operation, 7, GUESTS - 1]);
+        }
+        a.expect(0, &[side.insert, 1, 16, 0, 3, 7]);
+        a.expect_word(0, &[side.read, 7, 16, 0]);
+        a.expect(0, &[side.write, 7, 18, 511, HUGE]);
+        a.expect(0, &[side.fill, 7, 18]);
+        a.expect_word(HUGE, &[side.read, 7, 18, 511]);
+        a.expect(0, &[side.write, 7, 18, 511, 1 << 63]);
+        a.expect_word(1 << 63, &[side.read, 7, 18, 511]);
+        a.expect_word(0, &[side.read, 7, 18, 510]);
+        a.expect(2, &[side.read, 7, 18, 512]);
+        a.expect(2, &[side.write, 7, 18, 512, 1]);
+        access_bits(a, &side);
+    }
+    a.note("devices of two VMs meet on the shared span");
+    a.expect(0, &[8, 1, 30, 7, 3]);
+    a.expect(0, &[8, 2, 31, 7, 1]);
+    a.expect(0, &[24, 7, 30, 9, 77]);
+    a.expect(0, &[16, 0, 2]);
+    a.expect_word(77, &[22, 0, 31, 9]);
+    a.expect(16, &[24, 0, 31, 9, 78]);
+}
+
+/// Read needs bit 1 and write bit 2, by the walker and then by a slot.
+fn access_bits(a: &mut Author, side: &Numbers) {
+    let answers = [(16, 16), (0, 16), (16, 0), (0, 0), (16, 16), (0, 16), (16, 0), (0, 0)];
+    for (access, (read, write)) in (0..8).zip(answers) {
+        a.expect(0, &[side.map, 1, 16, 0, access, 3]);
+        for _ in 0..2 {
+            a.expect(read, &[side.read, 7, 16, 511]);
+            a.expect(write, &[side.write, 7, 16, 511, access]);
+            a.expect(0, &[side.fill, 7, 16]);
+        }
+    }
+}
+
+/// A page is cleared when its VM's last claim ends, and not before.
+fn clearing(a: &mut Author) {
+    open(a, 8, 7, 1, &[[1, 16, 0, 3, 3, 3], [1, 40, 4, 1, 3, 2]]);
+    add(a, &[1, 2]);
+    a.expect(0, &[15, 0, 1]);
+    a.expect(0, &[16, 0, 1]);
+    let region = |operation| [operation, 1, 16, 0, 3, 3];
+    a.note("CPU goes first: the words stay for DMA until that goes too");
+    a.expect(0, &region(11));
+    a.expect(0, &region(13));
+    a.expect(0, &[23, 0, 16, 0, 11]);
+    a.expect(0, &[23, 0, 18, 511, 22]);
+    a.expect(0, &region(12));
+    a.expect_word(11, &[22, 0, 16, 0]);
+    a.expect_word(22, &[22, 0, 18, 511]);
+    a.expect(0, &region(11));
+    a.expect_word(11, &[21, 0, 16, 0]);
+    a.expect(0, &region(12));
+    a.expect(0, &region(14));
+    a.expect(0, &region(11));
+    a.expect_word(0, &[21, 0, 16, 0]);
+    a.expect_word(0, &[21, 0, 18, 511]);
+    a.note("DMA goes first");
+    a.expect(0, &[23, 0, 17, 7, 33]);
+    a.expect(0, &region(13));
+    a.expect(0, &region(14));
+    a.expect_word(33, &[21, 0, 17, 7]);
+    a.expect(0, &region(12));
+    a.expect(0, &region(11));
+    a.expect_word(0, &[21, 0, 17, 7]);
+    clearing_by_reclaim(a);
+}
+
+/// Page 4 by reclaim, with and without a DMA claim; pages 3 and 5 stay.
+fn clearing_by_reclaim(a: &mut Author) {
+    for page in 3..6 {
+        a.expect(0, &[3, 1, page]);
+        a.expect(0, &[7, 1, 100 + page, page, 3]);
+        a.expect(0, &[23, 0, 100 + page, 511, 40 + page]);
+        a.expect(0, &[23, 0, 100 + page, 0, 50 + page]);
+    }
+    a.expect(0, &[13, 1, 40, 4, 1, 3]);
+    a.expect(0, &[9, 1, 104]);
+    a.expect(0, &[4, 1, 4]);
+    a.expect_word(54, &[22, 0, 40, 0]);
+    a.expect(0, &[3, 1, 4]);
+    a.expect(0, &[14, 1, 40, 4, 1, 3]);
+    a.expect(0, &[5, 1, 2, 4]);
+    a.expect(0, &[6, 1, 2, 4]);
+    a.expect(0, &[7, 1, 104, 4, 3]);
+    a.expect_word(54, &[21, 0, 104, 0]);
+    a.expect(0, &[9, 1, 104]);
+    a.expect(0, &[4, 1, 4]);
+    a.expect(0, &[3, 2, 4]);
+    a.expect(0, &[7, 2, 104, 4, 1]);
+    a.expect(0, &[15, 1, 2]);
+    a.expect_word(0, &[21, 1, 104, 0]);
+    a.expect_word(0, &[21, 1, 104, 511]);
+    a.expect_word(43, &[21, 0, 103, 511]);
+    a.expect_word(55, &[21, 0, 105, 0]);
+}
+
+/// Boxes of many sizes, above all those near whole 64-bit words of pages.
+fn sizes(a: &mut Author) {
+    let all = [
+        1, 2, 3, 5, 31, 63, 64, 65, 100, 127, 128, 129, 191, 192, 193, 255, 256, 257, 319, 320,
+        511, 512, 513, 700, 767, 960, 1000, 1023, 1024,
+    ];
+    for n in all {
+        let count = n.min(512);
+        open(a, n, n, 0, &[[1, 16, 0, count, 3, 3], [2, 0, n - 1, 1, 7, 3]]);
+        add(a, &[1, 2]);
+        a.free();
+        a.expect(2, &[3, 2, n]);
+        a.expect(0, &[3, 2, n - 1]);
+        a.expect(0, &[7, 2, 9, n - 1, 7]);
+        a.expect(0, &[15, 0, 2]);
+        a.expect(0, &[23, 0, 9, 511, n]);
+        a.free();
+        if count == n {
+            a.expect_at(6, n - 1, &[11, 1, 16, 0, count, 3]);
+        }
+        a.expect_word(n, &[21, 0, 9, 511]);
+        a.expect(0, &[9, 2, 9]);
+        a.expect(0, &[4, 2, n - 1]);
+        for operation in [11, 13, 12, 14] {
+            a.expect(0, &[operation, 1, 16, 0, count, 3]);
+            a.free();
+        }
+        shared_middle(a, n);
+    }
+}
+
+/// A shared span in the middle of a box, met by a region over the whole box.
+fn shared_middle(a: &mut Author, n: u64) {
+    let (base, length) = (n / 3, n.div_ceil(2));
+    open(a, n, base, length, &[[1, 16, 0, n, 3, 3]]);
+    add(a, &[1]);
+    a.free();
+    a.expect_at(6, base, &[11, 1, 16, 0, n, 3]);
+    a.expect_at(7, base, &[13, 1, 16, 0, n, 3]);
+    a.expect(0, &[8, 1, 0, base, 3]);
+    a.expect(0, &[8, 1, 1, base + length - 1, 3]);
+    a.expect(6, &[3, 1, base + length - 1]);
+    if base > 0 {
+        a.expect(0, &[3, 1, base - 1]);
+        a.expect(6, &[8, 1, 0, base - 1, 3]);
+        a.free();
+    }
+    if base + length < n {
+        a.expect(6, &[8, 1, 0, base + length, 3]);
+        a.expect(0, &[3, 1, base + length]);
+    }
+    a.free();
+}

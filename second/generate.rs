@@ -1,0 +1,502 @@
+//! Random scripts that aim: for most rows the writer wants a certain answer
+//! and tries rows near the state of its own machine until one would give it.
+
+use crate::author::{Author, Rng};
+use crate::coverage::refusals;
+use crate::directed::SCENARIOS;
+use crate::machine::*;
+use crate::operate::{arguments, Kind, Row};
+
+/// Numbers at which carelessness shows.
+const ODD: [u64; 14] =
+    [7, 8, 15, 16, 63, 64, 511, 512, 65_535, 65_536, IDLE, 1 << 32, 1 << 63, u64::MAX];
+
+/// How many rows the writer tries for one wanted answer.
+const TRIES: usize = 24;
+
+/// What the rows of a stretch mostly do.
+#[derive(Clone, Copy, PartialEq, Eq)]
+enum Mood {
+    Any,
+    Grow,
+    Shrink,
+    Guests,
+    Regions,
+    Fills,
+    Pairs,
+    Maps,
+    Sweep,
+}
+
+impl Mood {
+    /// How often each operation is chosen, by its number from 1 on.
+    fn weights(self) -> [u64; 26] {
+        match self {
+            Mood::Any => {
+                [4, 2, 4, 4, 4, 4, 6, 6, 4, 4, 6, 5, 6, 5, 4, 4, 6, 6, 2, 2, 5, 5, 5, 5, 1, 1]
+            }
+            Mood::Grow => {
+                [5, 0, 6, 0, 6, 0, 12, 12, 0, 0, 8, 0, 8, 0, 4, 4, 4, 4, 0, 0, 1, 1, 4, 4, 0, 0]
+            }
+            Mood::Shrink => {
+                [0, 4, 0, 8, 0, 8, 0, 0, 12, 12, 1, 9, 1, 9, 3, 3, 1, 1, 2, 2, 2, 2, 0, 0, 1, 1]
+            }
+            Mood::Guests => {
+                [0, 0, 0, 0, 1, 1, 2, 2, 1, 1, 1, 1, 1, 1, 3, 3, 6, 6, 1, 1, 9, 9, 9, 9, 1, 1]
+            }
+            Mood::Regions => {
+                [2, 0, 0, 8, 0, 4, 2, 2, 9, 9, 22, 18, 22, 18, 2, 2, 4, 4, 0, 0, 1, 1, 8, 8, 0, 0]
+            }
+            Mood::Fills => {
+                [0, 0, 0, 0, 0, 0, 3, 3, 1, 1, 0, 0, 0, 0, 3, 3, 40, 40, 2, 2, 1, 1, 1, 1, 0, 0]
+            }
+            Mood::Pairs => {
+                [6, 0, 9, 1, 70, 4, 4, 0, 1, 0, 1, 1, 1, 1, 0, 0, 0, 0, 0, 0, 1, 0, 1, 0, 0, 0]
+            }
+            Mood::Maps => {
+                [1, 0, 2, 0, 1, 0, 99, 99, 1, 1, 2, 1, 2, 1, 2, 2, 1, 1, 0, 0, 1, 1, 1, 1, 0, 0]
+            }
+            Mood::Sweep => {
+                [0, 1, 0, 8, 0, 12, 0, 0, 40, 40, 0, 8, 0, 8, 1, 1, 1, 1, 0, 0, 0, 0, 0, 0, 0, 0]
+            }
+        }
+    }
+
+    /// How many rows it lasts: long enough to bring its table to the brim.
+    fn length(self) -> u64 {
+        match self {
+            Mood::Any | Mood::Grow | Mood::Shrink | Mood::Guests | Mood::Regions => 120,
+            Mood::Fills | Mood::Pairs => 400,
+            Mood::Maps => 1700,
+            Mood::Sweep => 1000,
+        }
+    }
+
+    /// How many rows of a hundred want to be accepted.
+    fn accepted(self) -> u64 {
+        match self {
+            Mood::Any | Mood::Guests => 60,
+            Mood::Grow | Mood::Regions => 75,
+            _ => 90,
+        }
+    }
+}
+
+/// The writer of one random box.
+struct Writer {
+    rng: Rng,
+    author: Author,
+    mood: Mood,
+    /// How many rows the mood still lasts.
+    left: u64,
+    /// Guest pages are mostly taken below this number, so that they meet.
+    guests: u64,
+}
+
+/// A script of one random box with `rows` rows.
+pub fn generate(seed: u64, rows: u64) -> String {
+    let mut rng = Rng::new(seed);
+    let sizes = [1, 2, 3, 4, 5, 8, 8, 12, 16, 24, 40, 63, 64, 65, 100, 128, 200, 300, 600, 1024];
+    let pages = match rng.pick(&sizes) {
+        Some(size) if rng.chance(80) => size,
+        _ => 1 + rng.below(PAGES),
+    };
+    generate_sized(rng, pages, rows)
+}
+
+fn generate_sized(rng: Rng, pages: u64, rows: u64) -> String {
+    let mut writer = Writer::new(rng);
+    writer.open(pages);
+    for row in 0..rows {
+        writer.write_row();
+        writer.left -= 1;
+        if writer.left == 0 {
+            let early = rows >= 2400 && row < 200;
+            writer.change_mood(early);
+        }
+        if writer.rng.chance(3) {
+            writer.author.free();
+        }
+    }
+    writer.author.text
+}
+
+/// The directed scenarios, random starts, then forty random boxes with about
+/// `rows` rows in all, each script with its name. Four of the boxes have half
+/// of the rows, so that their tables get full.
+pub fn suite(seed: u64, rows: u64) -> Vec<(String, String)> {
+    let directed = SCENARIOS.iter().map(|(name, scenario)| {
+        let mut author = Author::new();
+        author.note(name);
+        scenario(&mut author);
+        (name.to_string(), author.text)
+    });
+    let sizes = [8, 8, 3, 16, 40, 1024, 64, 12, 130, 600, 2, 20, 65, 8, 300, 5, 30, 1, 200, 10];
+    let random = (0..40u64).map(|turn| {
+        let mut rng = Rng::new(seed.wrapping_add(turn << 32));
+        let own = rng.next();
+        let rows = if turn < 4 { rows / 8 } else { rows.div_ceil(72) };
+        let text = match sizes.get(turn as usize) {
+            Some(&pages) => generate_sized(Rng::new(own), pages, rows),
+            None => generate(own, rows),
+        };
+        (format!("random box {turn}"), format!("# random box {turn}\n{text}"))
+    });
+    let starts = ("random starts".to_string(), random_starts(seed));
+    directed.chain([starts]).chain(random).collect()
+}
+
+/// Many boxes, most of them spoiled in one or two places, with a few rows each.
+fn random_starts(seed: u64) -> String {
+    let mut text = "# random starts\n".to_string();
+    let mut rng = Rng::new(seed);
+    for _ in 0..60 {
+        let most = if rng.chance(80) { 20 } else { PAGES };
+        let pages = 1 + rng.below(most);
+        let mut writer = Writer::new(Rng::new(rng.next()));
+        let (mut size, mut units) = writer.configuration(pages);
+        for _ in 0..rng.below(3) {
+            writer.spoil_start(&mut size, &mut units);
+        }
+        writer.author.open(size[0], size[1], size[2], &units);
+        for row in [[1, 1, 0], [3, 1, 0], [25, 0, 0]] {
+            writer.author.row(&row);
+        }
+        writer.author.free();
+        text.push_str(&writer.author.text);
+    }
+    text
+}
+
+/// Configuration.
+impl Writer {
+    fn new(rng: Rng) -> Self {
+        let (author, mood) = (Author::new(), Mood::Grow);
+        Writer { rng, author, mood, left: mood.length(), guests: 24 }
+    }
+
+    fn open(&mut self, pages: u64) {
+        let ([pages, base, count], units) = self.configuration(pages);
+        self.author.open(pages, base, count, &units);
+    }
+
+    /// The numbers of a box line, and the units.
+    fn configuration(&mut self, pages: u64) -> ([u64; 3], Vec<[u64; 6]>) {
+        let (base, count) = match self.rng.below(4) {
+            0 => (self.rng.below(pages + 1), 0),
+            1 => (pages - 1, 1),
+            _ => {
+                let base = self.rng.below(pages);
+                (base, self.rng.below((pages - base).min(1 + pages / 4) + 1))
+            }
+        };
+        let wanted = if self.rng.chance(20) { UNITS as u64 } else { 2 + self.rng.below(14) };
+        let mut units: Vec<[u64; 6]> = Vec::new();
+        for _ in 0..wanted {
+            let unit = self.unit(pages, &units);
+            units.push(unit);
+        }
+        ([pages, base, count], units)
+    }
+
+    /// A unit, often close to one before it, so that units overlap and differ
+    /// in one field alone.
+    fn unit(&mut self, pages: u64, before: &[[u64; 6]]) -> [u64; 6] {
+        let mut unit = match self.rng.pick(before) {
+            Some(unit) if self.rng.chance(40) => unit,
+            _ => {
+                let longest = if self.rng.chance(25) { pages } else { pages.min(4) };
+                let count = 1 + self.rng.below(longest);
+                let guest = self.rng.below(24);
+                [self.rng.below(4), guest, self.rng.below(pages - count + 1), count, 3, 3]
+            }
+        };
+        match self.rng.below(6) {
+            0 => unit[0] = self.rng.below(VMS),
+            1 => unit[1] = self.rng.below(24),
+            2 => unit[1] = GUESTS - unit[3],
+            3 => unit[4] = self.rng.below(ACCESSES),
+            4 => unit[2] = self.rng.below(pages - unit[3] + 1),
+            _ => unit[5] = 1 + self.rng.below(3),
+        }
+        unit
+    }
+
+    /// Puts an odd number into the box line or a unit, or adds a unit.
+    fn spoil_start(&mut self, size: &mut [u64; 3], units: &mut Vec<[u64; 6]>) {
+        let wrong = self.odd();
+        match self.rng.below(4) {
+            0 => size[self.rng.below(3) as usize] = wrong,
+            1 => units.push([1, 0, 0, wrong, 3, 1]),
+            _ => {
+                let unit = self.rng.below(units.len() as u64) as usize;
+                units[unit][self.rng.below(6) as usize] = wrong;
+            }
+        }
+    }
+
+    /// In the natural turn of moods, or right on to full maps.
+    fn change_mood(&mut self, to_maps: bool) {
+        let common = [Mood::Any, Mood::Grow, Mood::Shrink, Mood::Guests, Mood::Regions];
+        let rare = [Mood::Fills, Mood::Pairs, Mood::Maps];
+        self.mood = match self.mood {
+            _ if to_maps => Mood::Maps,
+            Mood::Maps => Mood::Fills,
+            Mood::Fills | Mood::Pairs => Mood::Sweep,
+            Mood::Sweep => Mood::Regions,
+            _ if self.rng.chance(85) => self.rng.pick(&common).unwrap_or(Mood::Any),
+            _ => self.rng.pick(&rare).unwrap_or(Mood::Any),
+        };
+        self.left = self.mood.length();
+        self.guests = match self.mood {
+            Mood::Maps => GUESTS,
+            _ => self.rng.pick(&[8, 24, 24, 100, GUESTS]).unwrap_or(24),
+        };
+    }
+}
+
+/// Rows.
+impl Writer {
+    fn write_row(&mut self) {
+        let row = if self.rng.chance(4) { self.noise() } else { self.aimed() };
+        let spelling = self.spell(&row);
+        self.author.row_as(&row, &spelling);
+    }
+
+    /// Any operation with any numbers at all.
+    fn noise(&mut self) -> Row {
+        let operation = if self.rng.chance(90) { self.rng.below(28) } else { self.odd() };
+        let mut row = [operation, 0, 0, 0, 0, 0, 0, 0];
+        for number in &mut row[1..] {
+            *number = if self.rng.chance(50) { self.odd() } else { self.rng.below(10) };
+        }
+        row
+    }
+
+    /// A row of an operation that should give a wanted answer.
+    fn aimed(&mut self) -> Row {
+        let operation = self.operation();
+        let wanted = if self.rng.chance(self.mood.accepted()) {
+            Some(0)
+        } else if self.rng.chance(80) {
+            self.rng.pick(refusals(operation))
+        } else {
+            None
+        };
+        let mut row = self.candidate(operation);
+        for _ in 0..TRIES {
+            if wanted.is_none_or(|number| self.author.machine.verdict(&row).number == number) {
+                break;
+            }
+            row = self.candidate(operation);
+        }
+        if self.rng.chance(3) {
+            self.spoil(&mut row);
+        }
+        row
+    }
+
+    fn operation(&mut self) -> u64 {
+        let weights = self.mood.weights();
+        let mut left = self.rng.below(weights.iter().sum());
+        for (place, &weight) in weights.iter().enumerate() {
+            if left < weight {
+                return place as u64 + 1;
+            }
+            left -= weight;
+        }
+        26
+    }
+
+    /// Puts one argument at its limit or far out.
+    fn spoil(&mut self, row: &mut Row) {
+        let kinds = arguments(row[0]).unwrap_or_default();
+        if kinds.is_empty() {
+            return;
+        }
+        let place = self.rng.below(kinds.len() as u64) as usize;
+        let limit = kinds[place].limit(self.author.machine.pages).unwrap_or(u64::MAX);
+        row[place + 1] = if self.rng.chance(50) { limit } else { self.odd() };
+    }
+
+    fn odd(&mut self) -> u64 {
+        if self.rng.chance(20) {
+            self.rng.next()
+        } else {
+            self.rng.pick(&ODD).unwrap_or(0)
+        }
+    }
+
+    /// One row of an operation, near to what the machine holds.
+    fn candidate(&mut self, operation: u64) -> Row {
+        let mut row = [operation, 0, 0, 0, 0, 0, 0, 0];
+        match operation {
+            4 | 5 => self.held_page(&mut row),
+            6 => self.stored_pair(&mut row),
+            7 | 8 => self.mapped_key(&mut row, 10),
+            9 | 10 => self.mapped_key(&mut row, 85),
+            11..=14 => self.unit_region(&mut row),
+            17 | 18 | 21..=24 => self.running_port(&mut row),
+            _ => self.plain(&mut row),
+        }
+        row
+    }
+
+    /// Every argument by its kind alone.
+    fn plain(&mut self, row: &mut Row) {
+        for (place, &kind) in arguments(row[0]).unwrap_or_default().iter().enumerate() {
+            row[place + 1] = self.argument(kind, row[0]);
+        }
+    }
+
+    fn argument(&mut self, kind: Kind, operation: u64) -> u64 {
+        match kind {
+            Kind::Vm => self.vm(),
+            Kind::Target if self.rng.chance(15) => IDLE,
+            Kind::Target => self.vm(),
+            Kind::Guest => self.guest(),
+            Kind::Page => self.page(operation),
+            Kind::Access if self.rng.chance(50) => 3,
+            Kind::Access => self.rng.below(ACCESSES),
+            Kind::Generation if self.rng.chance(60) => 0,
+            Kind::Generation => self.rng.below(GENERATIONS),
+            Kind::Port => self.rng.below(PORTS as u64),
+            Kind::Slot => self.rng.below(SLOTS as u64),
+            Kind::Word => self.rng.pick(&[0, 1, 2, 511]).unwrap_or(0),
+            Kind::Any => self.rng.next(),
+        }
+    }
+
+    /// Mostly a known VM; else a low one, which units name, or any.
+    fn vm(&mut self) -> Vm {
+        let known: Vec<Vm> = self.author.machine.known.iter().copied().collect();
+        match self.rng.below(10) {
+            0..=6 => self.rng.pick(&known).unwrap_or(0),
+            7 | 8 => self.rng.below(4),
+            _ => self.rng.below(VMS),
+        }
+    }
+
+    fn guest(&mut self) -> Guest {
+        match self.rng.below(50) {
+            0 => GUESTS - 1,
+            1 => self.rng.below(GUESTS),
+            _ => self.rng.below(self.guests),
+        }
+    }
+
+    /// Any page, or for a DMA map often one of the shared span or a DMA page.
+    fn page(&mut self, operation: u64) -> Page {
+        let m = &self.author.machine;
+        let held: Vec<Page> = match operation {
+            8 if m.shared.count > 0 => {
+                let shared = m.shared.base + self.rng.below(m.shared.count);
+                m.dma.owned.values().flatten().copied().chain([shared]).collect()
+            }
+            7 => m.cpu.owned.values().flatten().copied().collect(),
+            3 => m.dma.owned.values().flatten().copied().chain(m.pool.first().copied()).collect(),
+            _ => Vec::new(),
+        };
+        match self.rng.pick(&held) {
+            Some(page) if self.rng.chance(60) => page,
+            _ => self.rng.below(m.pages),
+        }
+    }
+
+    /// A VM with one of its CPU pages, for share another VM between them.
+    fn held_page(&mut self, row: &mut Row) {
+        self.plain(row);
+        let held: Vec<(Vm, Page)> = (self.author.machine.cpu.owned.iter())
+            .flat_map(|(&vm, pages)| pages.iter().map(move |&page| (vm, page)))
+            .collect();
+        if let (Some((vm, page)), true) = (self.rng.pick(&held), self.rng.chance(80)) {
+            row[1] = vm;
+            row[if row[0] == 4 { 2 } else { 3 }] = page;
+        }
+    }
+
+    fn stored_pair(&mut self, row: &mut Row) {
+        self.plain(row);
+        let pairs: Vec<Pair> = self.author.machine.pairs.iter().copied().collect();
+        if let (Some((low, high, page)), true) = (self.rng.pick(&pairs), self.rng.chance(85)) {
+            let ends = if self.rng.chance(50) { [low, high] } else { [high, low] };
+            row[1..4].copy_from_slice(&[ends[0], ends[1], page]);
+        }
+    }
+
+    /// A key that the map has, `percent` times in a hundred.
+    fn mapped_key(&mut self, row: &mut Row, percent: u64) {
+        self.plain(row);
+        let side = if row[0] % 2 == 1 { Side::Cpu } else { Side::Dma };
+        let map = &self.author.machine.half(side).software;
+        let keys: Vec<(Vm, Guest)> = map.keys().copied().collect();
+        if let (Some((vm, guest)), true) = (self.rng.pick(&keys), self.rng.chance(percent)) {
+            row[1..3].copy_from_slice(&[vm, guest]);
+        }
+    }
+
+    /// The five fields of a unit, mostly of a known VM, now and then with one
+    /// of them changed.
+    fn unit_region(&mut self, row: &mut Row) {
+        let m = &self.author.machine;
+        let known = |unit: &&Unit| m.known.contains(&unit.region.vm);
+        let known: Vec<Unit> = m.units.iter().filter(known).copied().collect();
+        let units = if self.rng.chance(85) { &known } else { &m.units };
+        let Some(Unit { region, .. }) = self.rng.pick(units) else { return };
+        let Region { vm, guest, page, count, access } = region;
+        row[1..6].copy_from_slice(&[vm, guest, page, count, access]);
+        if self.rng.chance(20) {
+            let place = 1 + self.rng.below(5) as usize;
+            row[place] = match self.rng.below(4) {
+                0 => 0,
+                1 => row[place] + 1,
+                2 => self.odd(),
+                _ => self.rng.below(8),
+            };
+        }
+    }
+
+    /// A port that runs a VM, and a guest page which that VM maps.
+    fn running_port(&mut self, row: &mut Row) {
+        self.plain(row);
+        let side = if row[0] % 2 == 1 { Side::Cpu } else { Side::Dma };
+        let half = self.author.machine.half(side);
+        let running: Vec<(usize, Vm)> = half
+            .ports
+            .iter()
+            .enumerate()
+            .filter_map(|(port, vm)| vm.map(|vm| (port, vm)))
+            .collect();
+        let Some((port, vm)) = self.rng.pick(&running) else { return };
+        if self.rng.chance(80) {
+            row[1] = port as u64;
+        }
+        let keys = half.walker.range((vm, 0)..=(vm, GUESTS));
+        let guests: Vec<Guest> = keys.map(|(key, _)| key.1).collect();
+        if let (Some(guest), true) = (self.rng.pick(&guests), self.rng.chance(80)) {
+            row[2] = guest;
+        }
+    }
+
+    /// The text of a row: mostly plain, at times in one of the spellings that
+    /// the script allows.
+    fn spell(&mut self, row: &Row) -> String {
+        let arguments = arguments(row[0]).map_or(7, <[Kind]>::len);
+        let mut words: Vec<String> = row[..=arguments].iter().map(u64::to_string).collect();
+        if self.rng.chance(80) && matches!(row, [15 | 16, _, IDLE, ..]) {
+            words[2] = "idle".to_string();
+        }
+        let text = words.join(" ");
+        match self.rng.below(60) {
+            0 => words.join("\t"),
+            1 => format!("  {text} \t"),
+            2 => format!("{text} # a comment"),
+            3 => format!("{text}#1 2 3"),
+            4 => format!("{text}\r"),
+            5 => format!("00{text}"),
+            6 => format!("\n# between\r\n{text}"),
+            7 if arguments < 7 => format!("{text} {}", u64::MAX),
+            _ => text,
+        }
+    }
+}
