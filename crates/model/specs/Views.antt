@@ -89,7 +89,7 @@ joins vm w = isFilled w && (eqb (leftOf w) vm || eqb (rightOf w) vm)
 
 -- the page is shared with the VM by a pair; some edge names the page; some edge names the VM
 unfoldable pub shares : List ℕ → ℕ → ℕ → Bool
-shares pairs vm page = any (λ w. onPage page w && joins vm w) pairs
+shares pairs vm page = any (λ w. joins vm w && onPage page w) pairs
 
 unfoldable pub edgeOn : List ℕ → ℕ → Bool
 edgeOn pairs page = any (onPage page) pairs
@@ -104,7 +104,7 @@ paired pairs left right page = isFound (find pairKeyOf pairs (pairKey left right
 -- ---- mappings
 -- a mapping that counts targets the page
 unfoldable pub targeted : (ℕ → Bool) → List ℕ → ℕ → Bool
-targeted counts table page = any (λ w. onPage page w && counts w) table
+targeted counts table page = any (λ w. counts w && onPage page w) table
 
 -- every mapping counts; those of one VM; all but the one at a key
 abbrev pub whichever : ℕ → Bool
@@ -116,10 +116,14 @@ butKey key w = not (eqb (keyOf w) key)
 unfoldable pub hasMappings : List ℕ → ℕ → Bool
 hasMappings table vm = any (ofVm vm) table
 
--- a page that the VM may map: for CPU its own or one shared with it by a pair, for DMA its DMA page or the shared span's
+-- a page lent to the VM: for CPU by a pair, for DMA by the shared span
+abbrev pub lentTo : Side → List ℕ → List ℕ → ℕ → ℕ → Bool
+lentTo Cpu sets pairs vm page = shares pairs vm page
+lentTo Dma sets pairs vm page = inShared sets page
+
+-- a page that the VM may map: one that it claims on the side, or that is lent to it
 unfoldable pub mayMap : Side → List ℕ → List ℕ → ℕ → ℕ → Bool
-mayMap Cpu sets pairs vm page = owns sets vm page || shares pairs vm page
-mayMap Dma sets pairs vm page = holdsDma sets vm page || inShared sets page
+mayMap side sets pairs vm page = claims side sets vm page || lentTo side sets pairs vm page
 
 -- ---- ports
 -- a port whose number is no VM's is idle

@@ -3,7 +3,7 @@
 ghost use mathlib.Core.Path.{_≡_};
 ghost use Prim.Native.Nat.{_<_};
 ghost use Rattle.numbers.specs.Meaning.{refusalNumber, answerNumbers, targetNumber, operationNumber};
-ghost use Rattle.numbers.specs.Packing.{entry, slotWord, mapWord, pairWord, slotKey, key, portOf, vmOf, guestOf, entryOf, pageOf, accessOf, generationOf, keyOf, addressOf, leftOf, rightOf};
+ghost use Rattle.numbers.specs.Packing.{entry, slotWord, mapWord, pairWord, slotKey, key, portOf, vmOf, guestOf, entryOf, pageOf, accessOf, generationOf, keyOf, addressOf, leftOf, rightOf, filledOf, pairKey, pairKeyOf};
 
 // ---- Limits. Each has this one name in code and the same name in specs/Limits.antt.
 
@@ -265,6 +265,17 @@ pub fn key(vm: VmId, guest: GuestPage) -> u64
     (vm.0 * 65536 + guest.0) * 2 + 1
 }
 
+// The key of a pair, the same for either order of its ends.
+pub fn pair_key(left: VmId, right: VmId, page: PhysPage) -> u64
+    requires { ⌜ (left .0 < 65536) × (right .0 < 65536) × (page .0 < 4096) ⌝ }
+    ensures { λ r. ⌜ r ≡ pairKey (left .0) (right .0) (page .0) ⌝ }
+{
+    if left.0 < right.0 {
+        return ((left.0 * 65536 + right.0) * 4096 + page.0) * 2 + 1;
+    }
+    ((right.0 * 65536 + left.0) * 4096 + page.0) * 2 + 1
+}
+
 // ---- Unpacking, of any word at all.
 
 pub fn port_of(w: u64) -> u64
@@ -289,6 +300,13 @@ pub fn entry_of(w: u64) -> u64
     ensures { λ r. ⌜ r ≡ entryOf w ⌝ }
 {
     w % 4294967296
+}
+
+// 1 where the word is filled, 0 where it is empty.
+pub fn filled_of(w: u64) -> u64
+    ensures { λ r. ⌜ r ≡ filledOf w ⌝ }
+{
+    w / 2147483648 % 2
 }
 
 pub fn page_of(w: u64) -> PhysPage
@@ -333,4 +351,16 @@ pub fn right_of(w: u64) -> VmId
 {
     let right = guest_of(w);
     VmId(right.0)
+}
+
+pub fn pair_key_of(w: u64) -> u64
+    ensures { λ r. ⌜ r ≡ pairKeyOf w ⌝ }
+{
+    let left = left_of(w);
+    let right = right_of(w);
+    let page = page_of(w);
+    if left.0 < right.0 {
+        return ((left.0 * 65536 + right.0) * 4096 + page.0) * 2 + filled_of(w);
+    }
+    ((right.0 * 65536 + left.0) * 4096 + page.0) * 2 + filled_of(w)
 }

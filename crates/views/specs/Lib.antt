@@ -1,0 +1,2 @@
+-- The tests by which the tables are searched.
+pub mod Tests
