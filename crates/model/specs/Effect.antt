@@ -94,5 +94,5 @@ pub record Control : Type 0 where
   pub effect : Effect
 
 -- an accepted operation has its effect, a refused one changes nothing
-abbrev pub decided : Tables → Answer → Tables → Effect → Control
+unfoldable pub decided : Tables → Answer → Tables → Effect → Control
 decided old answer new effect = record { answer = answer; tables = kept answer old new; effect = kept answer quiet effect }

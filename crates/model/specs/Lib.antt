@@ -11,5 +11,6 @@ pub mod Ports
 pub mod Access
 pub mod EarlyLaws
 pub mod Step
+pub mod ShapeLaws
 pub mod Start
 pub mod Sequence
