@@ -1,11 +1,10 @@
 -- No operation changes what start fixed, nor the length of any list.
 use Prim.Native.Nat.{ℕ, zero, suc}
 use mathlib.Core.Bool.{Bool, true, false}
-use mathlib.Core.List.{List, [], _∷_}
-use mathlib.Core.Path.{_≡_, refl, ap, _∙_}
+use mathlib.Core.List.{List}
+use mathlib.Core.Path.{_≡_, refl, _∙_}
 use lib.ListN.{length, length-set}
 use Rattle.numbers.specs.Choice.{if_then_else_}
-use Rattle.numbers.specs.Limits.{PAGE-WORDS}
 use Rattle.numbers.specs.Packing.{keyOf, addressOf, entryOf, pairKeyOf, pairKey, pairWord, key, slotKey, slotWord}
 use Rattle.numbers.specs.declared.Answer.{Answer}
 use Rattle.numbers.specs.declared.Answer.the-variants.{Accepted, Refused}
@@ -52,7 +51,8 @@ use Rattle.pages.specs.Rows.{remove, poolRow, cpuRow, dmaRow}
 use Rattle.units.specs.declared.Region.{Region}
 use Rattle.model.specs.State.{Tables, Route, State, route, withRoute, withKnown, withSets, withPairs}
 use Rattle.model.specs.Views.{paired}
-use Rattle.model.specs.Effect.{Effect, reads, writes, clears, Store, decided, apply, stored, clearedPages, clearPage, zeroed, memoryIndex}
+use Rattle.model.specs.Effect.{Effect, decided}
+use Rattle.model.specs.MemoryLaws.{length-applied}
 use Rattle.model.specs.Ledger.{assignSets, reclaimSets, sharePairs, unsharePairs}
 use Rattle.model.specs.Maps.{mapTable, unmapTable, withoutSlots}
 use Rattle.model.specs.Regions.{insertPage, insertSets, insertTable, removePage, removeSets, removeTable, inRegion, keyIn, regionEntry, pageIn}
@@ -249,33 +249,6 @@ module _ (t : Tables) where
   control-shape DataBarrier = decided-shape t _ _ _ (same-shape t)
   control-shape InstructionBarrier = decided-shape t _ _ _ (same-shape t)
 
--- ---- memory
-length-zeroed : (skip count : ℕ) (ws : List ℕ) → length (zeroed skip count ws) ≡ length ws
-length-zeroed skip count [] = refl
-length-zeroed zero zero (w ∷ ws) = refl
-length-zeroed zero (suc count) (w ∷ ws) = ap suc (length-zeroed zero count ws)
-length-zeroed (suc skip) count (w ∷ ws) = ap suc (length-zeroed skip count ws)
-
-length-clearPage : (memory : List ℕ) (page : ℕ) → length (clearPage memory page) ≡ length memory
-unfolding clearPage
-length-clearPage memory page = length-zeroed (memoryIndex page 0) PAGE-WORDS memory
-
-length-clearedPages : (pages memory : List ℕ) → length (clearedPages pages memory) ≡ length memory
-unfolding clearedPages
-length-clearedPages [] memory = refl
-length-clearedPages (page ∷ pages) memory = length-clearedPages pages (clearPage memory page) ∙ length-clearPage memory page
-
-length-stored : (stores : List Store) (memory : List ℕ) → length (stored stores memory) ≡ length memory
-unfolding stored
-length-stored [] memory = refl
-length-stored (x ∷ xs) memory = length-stored xs _ ∙ length-set memory _ (x .value)
-
-pub length-apply : (effect : Effect) (memory : List ℕ) → length (apply effect memory) ≡ length memory
-unfolding apply
-length-apply (reads vm places) memory = refl
-length-apply (writes vm stores) memory = length-stored stores memory
-length-apply (clears pages) memory = length-clearedPages pages memory
-
 -- ---- one step of the whole machine
 pub record SameSizes (s s′ : State) : Type 0 where
   pub tables : SameShape (s .tables) (s′ .tables)
@@ -283,4 +256,4 @@ pub record SameSizes (s s′ : State) : Type 0 where
 
 pub step-sizes : (s : State) (operation : Operation) → SameSizes s (step s operation .state)
 unfolding step
-step-sizes s operation = record { tables = control-shape (s .tables) operation; memory = length-apply (control (s .tables) operation .effect) (s .memory) }
+step-sizes s operation = record { tables = control-shape (s .tables) operation; memory = length-applied (control (s .tables) operation .effect) (s .memory) }

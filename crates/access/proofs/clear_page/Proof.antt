@@ -5,7 +5,7 @@ use mathlib.Core.Path.{_≡_}
 use native.Mathlib.Omega.{arith}
 use Rattle.numbers.specs.Limits.{PAGE-WORDS}
 use Rattle.model.specs.Effect.{clearPage}
-use Rattle.access.specs.MemoryLaws.{part-zeroed}
+use Rattle.model.specs.MemoryLaws.{part-zeroed}
 use Rattle.access.proofs.clear_page.Statement.{statement}
 use Rattle.access.proofs.clear_page.Tie as tie
 

@@ -4,7 +4,7 @@ use Prim.Native.Nat.{_≤_, _<_}
 use mathlib.Core.Path.{sym}
 use lib.ListN.{length, List·getD-eq-default}
 use Rattle.numbers.specs.Limits.{IDLE}
-use Rattle.access.specs.MemoryLaws.{getD-there}
+use Rattle.model.specs.MemoryLaws.{getD-there}
 use Rattle.access.proofs.vm_on.Statement.{statement}
 use Rattle.access.proofs.vm_on.Tie as tie
 
