@@ -1,2 +1,2 @@
--- What an access reads and writes, and the laws of memory.
+-- What an access reads and writes.
 pub mod Words
