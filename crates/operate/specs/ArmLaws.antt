@@ -15,7 +15,7 @@ use Rattle.numbers.specs.declared.Operation.{Operation}
 use Rattle.numbers.specs.declared.Operation.the-variants.{AddVm, RemoveVm, AssignPage, ReclaimPage, SharePage, UnsharePage, CpuMap, DmaMap, CpuUnmap, DmaUnmap, InsertRegion, RemoveRegion, DmaInsertRegion, DmaRemoveRegion, SwitchCpu, BindDevice, CpuFill, DmaFill, EmptyCpuSlot, EmptyDmaSlot, CpuRead, DmaRead, CpuWrite, DmaWrite, DataBarrier, InstructionBarrier}
 use Rattle.model.specs.Header.{tablesOf, stateOf}
 use Rattle.model.specs.declared.Machine.{Machine}
-use Rattle.operate.specs.Outcome.{outcome}
+use Rattle.operate.specs.Outcome.{outcome, withKnownIn, withCpusIn, withDevicesIn, withCpuHandIn, withDmaHandIn}
 use Rattle.model.specs.State.{Tables, Route, State, route, withRoute, withKnown, withSets, withPairs, withMaps, withCache, withPorts}
 use Rattle.model.specs.Effect.{Effect, Place, Store, reads, writes, clears, quiet, kept, decided, accepted, apply, clearedPages}
 use Rattle.model.specs.Ledger.{addVmAnswer, addVmKnown, removeVmAnswer, removeVmKnown, assignAnswer, assignSets, reclaimAnswer, reclaimSets, reclaimClears, shareAnswer, sharePairs, unshareAnswer, unsharePairs}
@@ -149,22 +149,6 @@ module _ (t : Tables) (memory : List ℕ) where
   unfolding decided
   write-arm (Accepted dropped word) vm stores = refl
   write-arm (Refused refusal index) vm stores = refl
-
--- ---- a header with one part replaced
-abbrev pub withKnownIn : Machine → ℕ → Machine
-withKnownIn m v = record { pages = m .pages; «shared_base» = m .«shared_base»; «shared_count» = m .«shared_count»; units = m .units; «unit_count» = m .«unit_count»; known = v; cpus = m .cpus; devices = m .devices; «cpu_hand» = m .«cpu_hand»; «dma_hand» = m .«dma_hand» }
-
-abbrev pub withCpusIn : Machine → List ℕ → Machine
-withCpusIn m v = record { pages = m .pages; «shared_base» = m .«shared_base»; «shared_count» = m .«shared_count»; units = m .units; «unit_count» = m .«unit_count»; known = m .known; cpus = v; devices = m .devices; «cpu_hand» = m .«cpu_hand»; «dma_hand» = m .«dma_hand» }
-
-abbrev pub withDevicesIn : Machine → List ℕ → Machine
-withDevicesIn m v = record { pages = m .pages; «shared_base» = m .«shared_base»; «shared_count» = m .«shared_count»; units = m .units; «unit_count» = m .«unit_count»; known = m .known; cpus = m .cpus; devices = v; «cpu_hand» = m .«cpu_hand»; «dma_hand» = m .«dma_hand» }
-
-abbrev pub withCpuHandIn : Machine → ℕ → Machine
-withCpuHandIn m v = record { pages = m .pages; «shared_base» = m .«shared_base»; «shared_count» = m .«shared_count»; units = m .units; «unit_count» = m .«unit_count»; known = m .known; cpus = m .cpus; devices = m .devices; «cpu_hand» = v; «dma_hand» = m .«dma_hand» }
-
-abbrev pub withDmaHandIn : Machine → ℕ → Machine
-withDmaHandIn m v = record { pages = m .pages; «shared_base» = m .«shared_base»; «shared_count» = m .«shared_count»; units = m .units; «unit_count» = m .«unit_count»; known = m .known; cpus = m .cpus; devices = m .devices; «cpu_hand» = m .«cpu_hand»; «dma_hand» = v }
 
 -- ---- each operation, over a header and its lists
 module _ (m : Machine) (sets pairs cpuMap cpuWalker cpuCache dmaMap dmaWalker dmaCache memory : List ℕ) where
