@@ -111,7 +111,7 @@ rowAt rows k = take ROW-NUMBERS (drop (k * ROW-NUMBERS) rows)
 -- numbers written over a list from a place on
 abbrev pub writeAt : List ℕ → ℕ → List ℕ → List ℕ
 writeAt room i [] = room
-writeAt room i (n ∷ ns) = writeAt (set room i n) (suc i) ns
+writeAt room i (n ∷ ns) = writeAt (set room i n) (i + 1) ns
 
 -- the state so far, and the answer room
 pub record Progress : Type 0 where

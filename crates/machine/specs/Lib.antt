@@ -1,0 +1,2 @@
+-- Laws of the sequence.
+pub mod RoomLaws
