@@ -1,0 +1,2 @@
+-- What the proofs of maps, ports and slots share.
+pub mod PortLaws

@@ -1,0 +1,43 @@
+-- What a switch that passed tells, and what the walker's word of a key tells.
+use Prim.Native.Nat.{ℕ, zero, suc, _<_}
+use mathlib.Core.Bool.{Bool, true, false, not, _&&_}
+use mathlib.Core.List.{List, [], _∷_}
+use mathlib.Core.Path.{_≡_, refl}
+use native.Mathlib.Omega.{arith}
+use lib.ListN.{length, getD}
+use borrow.Author.Tests.{ltb-true}
+use Rattle.numbers.specs.Limits.{PORTS}
+use Rattle.numbers.specs.Packing.{keyOf}
+use Rattle.numbers.specs.declared.Answer.the-variants.{Accepted}
+use Rattle.numbers.specs.declared.Target.{Target}
+use Rattle.table.specs.declared.Found.{Found}
+use Rattle.table.specs.declared.Found.the-variants.{At, Nothing}
+use Rattle.table.specs.Table.{find, lookup, isFound, wordAt}
+use Rattle.table.specs.TableLaws.{lookup-nothing}
+use Rattle.model.specs.Views.{isPort}
+use Rattle.model.specs.EarlyLaws.{past, hold}
+use Rattle.model.specs.Ports.{isTarget, portAnswer}
+
+-- a port that was given is one that there is
+pub port-passed : (known port : ℕ) (target : Target) {dropped word : ℕ} → portAnswer known port target ≡ Accepted dropped word → port < PORTS
+unfolding portAnswer
+port-passed known port target e = ltb-true port PORTS (hold (isPort port) (isTarget target) (past (not (isPort port && isTarget target)) _ _ _ e .0) .0)
+
+-- a place that there is reads the same, whatever else would be read past the end
+pub getD-there : (ws : List ℕ) (i a b : ℕ) → i < length ws → getD ws i a ≡ getD ws i b
+getD-there [] i a b h = absurd (omega arith)
+getD-there (w ∷ ws) zero a b h = refl
+getD-there (w ∷ ws) (suc i) a b h = getD-there ws i a b (omega arith)
+
+-- ---- the walker has the key exactly where its word is not 0
+module _ (ws : List ℕ) (k : ℕ) where
+  there : (f : Found) → (wordAt ws f ≡ 0 → ⊥) → isFound f ≡ true
+  there (At i) n = refl
+  there Nothing n = absurd (n refl)
+
+  pub walk-some : (lookup keyOf ws k ≡ 0 → ⊥) → isFound (find keyOf ws k) ≡ true
+  unfolding lookup
+  walk-some n = there (find keyOf ws k) n
+
+  pub walk-none : 0 < k → lookup keyOf ws k ≡ 0 → isFound (find keyOf ws k) ≡ false
+  walk-none o e = rw (lookup-nothing keyOf refl ws k o e)

@@ -1,0 +1,302 @@
+// Operations 7 to 10 and 15 to 20: what is mapped, who is on a port, and what a translation cache holds. CPU and DMA go the
+// same way, each over the maps, the ports, the cache and the hand of its side.
+ghost use mathlib.Core.Path.{_≡_};
+ghost use Prim.Native.Nat.{_*_, _≤_};
+ghost use lib.ListN.{length, set};
+ghost use Rattle.numbers.specs.Choice.{if_then_else_};
+ghost use Rattle.numbers.specs.Limits.{PAGES, SETS, SET-WORDS};
+ghost use Rattle.numbers.specs.Packing.{keyOf};
+ghost use Rattle.table.specs.Table.{place, isFound, setAt};
+ghost use Rattle.model.specs.Effect.{acceptedDropping, refused, kept};
+ghost use Rattle.model.specs.Maps.{mapEarly, unmapEarly, mapAnswer, mapTable, withoutSlots, unmapAnswer, unmapTable};
+ghost use Rattle.model.specs.Ports.{portAnswer, portPorts, fillAnswer, fillPlace, fillCache, nextHand, fillHand, emptyAnswer, emptyCache};
+use numbers::ACCESSES;
+use numbers::Answer;
+use numbers::GENERATIONS;
+use numbers::GUEST_PAGES;
+use numbers::GuestPage;
+use numbers::PORTS;
+use numbers::PhysPage;
+use numbers::Refusal;
+use numbers::SLOTS;
+use numbers::Side;
+use numbers::Target;
+use numbers::VMS;
+use numbers::VmId;
+use table::Found;
+
+// ---- Answers.
+
+fn refuse(refusal: Refusal) -> Answer
+    ensures { λ r. ⌜ r ≡ refused refusal ⌝ }
+{
+    Answer::Refused {
+        refusal: refusal,
+        index: 0,
+    }
+}
+
+fn accept(dropped: u64) -> Answer
+    ensures { λ r. ⌜ r ≡ acceptedDropping dropped ⌝ }
+{
+    Answer::Accepted {
+        dropped: dropped,
+        word: 0,
+    }
+}
+
+// ---- Maps.
+
+// What map decides before it looks at a table.
+pub fn map_early(
+    known: u64,
+    pages: u64,
+    vm: VmId,
+    guest: GuestPage,
+    page: PhysPage,
+    access: u64,
+    generation: u64,
+) -> Answer
+    ensures { λ r. ⌜ r ≡ mapEarly known pages (vm .0) (guest .0) (page .0) access generation ⌝ }
+{
+    if !((vm.0 < VMS)
+        & (guest.0 < GUEST_PAGES)
+        & (page.0 < pages)
+        & (access < ACCESSES)
+        & (generation < GENERATIONS)) {
+        return refuse(Refusal::OutOfRange);
+    }
+    if !views::knows(known, vm) {
+        return refuse(Refusal::VmUnknown);
+    }
+    accept(0)
+}
+
+// What unmap decides before it looks at a table.
+pub fn unmap_early(known: u64, vm: VmId, guest: GuestPage) -> Answer
+    ensures { λ r. ⌜ r ≡ unmapEarly known (vm .0) (guest .0) ⌝ }
+{
+    if !((vm.0 < VMS) & (guest.0 < GUEST_PAGES)) {
+        return refuse(Refusal::OutOfRange);
+    }
+    if !views::knows(known, vm) {
+        return refuse(Refusal::VmUnknown);
+    }
+    accept(0)
+}
+
+// Operations 7 and 8. The entry goes over the one of its key, else into the lowest empty place, and the slots of its VM and
+// guest page are dropped.
+pub fn map_page(
+    side: Side,
+    known: u64,
+    pages: u64,
+    sets: &[u64],
+    pairs: &[u64],
+    map: &mut [u64],
+    walker: &mut [u64],
+    cache: &mut [u64],
+    vm: VmId,
+    guest: GuestPage,
+    page: PhysPage,
+    access: u64,
+    generation: u64,
+) -> Answer
+    requires { ⌜ (pages ≤ PAGES) × (length (now sets) ≡ SETS * SET-WORDS) ⌝ }
+    ensures { λ r. ⌜ (r ≡ mapAnswer side known pages (now (sets .entry)) (now (pairs .entry)) (now (map .entry)) (now (cache .entry)) (vm .0) (guest .0) (page .0) access generation)
+        × (now (map .exit) ≡ kept (mapAnswer side known pages (now (sets .entry)) (now (pairs .entry)) (now (map .entry)) (now (cache .entry)) (vm .0) (guest .0) (page .0) access generation)
+        (now (map .entry)) (mapTable (now (map .entry)) (vm .0) (guest .0) (page .0) access generation))
+        × (now (walker .exit) ≡ kept (mapAnswer side known pages (now (sets .entry)) (now (pairs .entry)) (now (map .entry)) (now (cache .entry)) (vm .0) (guest .0) (page .0) access generation)
+        (now (walker .entry)) (mapTable (now (walker .entry)) (vm .0) (guest .0) (page .0) access generation))
+        × (now (cache .exit) ≡ kept (mapAnswer side known pages (now (sets .entry)) (now (pairs .entry)) (now (map .entry)) (now (cache .entry)) (vm .0) (guest .0) (page .0) access generation)
+        (now (cache .entry)) (withoutSlots (now (cache .entry)) (vm .0) (guest .0))) ⌝ }
+{
+    let early = map_early(known, pages, vm, guest, page, access, generation);
+    if let Answer::Refused { refusal, index } = early {
+        return Answer::Refused { refusal, index };
+    }
+    if !views::may_map(side, sets, pairs, vm, page) {
+        return refuse(Refusal::PageNotHeld);
+    }
+    let key = numbers::key(vm, guest);
+    let spot = table::place(map, key);
+    if let Found::Nothing = spot {
+        return refuse(Refusal::NoRoom);
+    }
+    let word = numbers::map_word(vm, guest, numbers::entry(page, access, generation));
+    table::put(map, key, word);
+    table::put(walker, key, word);
+    accept(table::drop_slots(cache, key))
+}
+
+// Operations 9 and 10. No claim ends, so nothing is cleared.
+pub fn unmap_page(
+    known: u64,
+    map: &mut [u64],
+    walker: &mut [u64],
+    cache: &mut [u64],
+    vm: VmId,
+    guest: GuestPage,
+) -> Answer
+    ensures { λ r. ⌜ (r ≡ unmapAnswer known (now (map .entry)) (now (cache .entry)) (vm .0) (guest .0))
+        × (now (map .exit) ≡ kept (unmapAnswer known (now (map .entry)) (now (cache .entry)) (vm .0) (guest .0)) (now (map .entry)) (unmapTable (now (map .entry)) (vm .0) (guest .0)))
+        × (now (walker .exit) ≡ kept (unmapAnswer known (now (map .entry)) (now (cache .entry)) (vm .0) (guest .0)) (now (walker .entry)) (unmapTable (now (walker .entry)) (vm .0) (guest .0)))
+        × (now (cache .exit) ≡ kept (unmapAnswer known (now (map .entry)) (now (cache .entry)) (vm .0) (guest .0)) (now (cache .entry)) (withoutSlots (now (cache .entry)) (vm .0) (guest .0))) ⌝ }
+{
+    let early = unmap_early(known, vm, guest);
+    if let Answer::Refused { refusal, index } = early {
+        return Answer::Refused { refusal, index };
+    }
+    let key = numbers::key(vm, guest);
+    let spot = table::find(map, key);
+    if let Found::Nothing = spot {
+        return refuse(Refusal::MappingDiffers);
+    }
+    table::erase(map, key);
+    table::erase(walker, key);
+    accept(table::drop_slots(cache, key))
+}
+
+// ---- Ports.
+
+// What a switch leaves: the answer, and who is on each port.
+pub struct Given {
+    pub answer: Answer,
+    pub ports: [u64; 8],
+}
+
+// What a switch decides.
+fn port_answer(known: u64, port: u64, target: Target) -> Answer
+    ensures { λ r. ⌜ r ≡ portAnswer known port target ⌝ }
+{
+    if !(port < PORTS) {
+        return refuse(Refusal::OutOfRange);
+    }
+    let Target::Vm(vm) = target else {
+        return accept(0);
+    };
+    if !(vm.0 < VMS) {
+        return refuse(Refusal::OutOfRange);
+    }
+    if !views::knows(known, vm) {
+        return refuse(Refusal::VmUnknown);
+    }
+    accept(0)
+}
+
+// Operations 15 and 16. A VM may be on several ports.
+pub fn give_port(known: u64, ports: [u64; 8], port: u64, target: Target) -> Given
+    ensures { λ r. ⌜ (r .answer ≡ portAnswer known port target)
+        × (r .ports ≡ kept (portAnswer known port target) ports (portPorts ports port target)) ⌝ }
+{
+    let answer = port_answer(known, port, target);
+    if let Answer::Refused { refusal, index } = answer {
+        return Given {
+            answer: Answer::Refused { refusal, index },
+            ports: ports,
+        };
+    }
+    let mut given = ports;
+    given[port as usize] = numbers::target_number(target);
+    Given {
+        answer: answer,
+        ports: given,
+    }
+}
+
+// ---- Slots.
+
+// Sets a slot; one past the end of the cache is none.
+fn set_slot(cache: &mut [u64], slot: u64, word: u64)
+    ensures { λ _. ⌜ now (cache .exit) ≡ set (now (cache .entry)) slot word ⌝ }
+{
+    let at = slot as usize;
+    if at < cache.len() {
+        cache[at] = word;
+    }
+}
+
+// The slot after this one, from the last to the first. A hand past the last goes to the first too.
+fn next_hand(hand: u64) -> u64
+    ensures { λ r. ⌜ r ≡ nextHand hand ⌝ }
+{
+    if hand < SLOTS - 1 {
+        return hand + 1;
+    }
+    0
+}
+
+// Stores a word over the slot of its key, else in the lowest empty slot, else in the slot at the hand; answers the hand, which
+// steps only where its slot was taken.
+fn take_slot(cache: &mut [u64], hand: u64, key: u64, word: u64) -> u64
+    ensures { λ r. ⌜ (r ≡ (if isFound (place keyOf (now (cache .entry)) key) then hand else nextHand hand))
+        × (now (cache .exit) ≡ setAt (now (cache .entry)) (fillPlace (now (cache .entry)) hand key) word) ⌝ }
+{
+    let spot = table::place(cache, key);
+    if let Found::At(slot) = spot {
+        cache[slot] = word;
+        return hand;
+    }
+    set_slot(cache, hand, word);
+    next_hand(hand)
+}
+
+// What a fill leaves: the answer, and the replacement hand.
+pub struct Filled {
+    pub answer: Answer,
+    pub hand: u64,
+}
+
+// Operations 17 and 18. The slot gets what the walker has for the port's VM and the guest page.
+pub fn fill_slot(
+    ports: [u64; 8],
+    walker: &[u64],
+    cache: &mut [u64],
+    hand: u64,
+    port: u64,
+    guest: GuestPage,
+) -> Filled
+    ensures { λ r. ⌜ (r .answer ≡ fillAnswer ports (now (walker .entry)) port (guest .0))
+        × (now (cache .exit) ≡ kept (fillAnswer ports (now (walker .entry)) port (guest .0)) (now (cache .entry)) (fillCache (now (cache .entry)) hand ports (now (walker .entry)) port (guest .0)))
+        × (r .hand ≡ kept (fillAnswer ports (now (walker .entry)) port (guest .0)) hand (fillHand (now (cache .entry)) hand ports port (guest .0))) ⌝ }
+{
+    if !((port < PORTS) & (guest.0 < GUEST_PAGES)) {
+        return Filled {
+            answer: refuse(Refusal::OutOfRange),
+            hand: hand,
+        };
+    }
+    let vm = VmId(ports[port as usize]);
+    if !(vm.0 < VMS) {
+        return Filled {
+            answer: refuse(Refusal::PortIdle),
+            hand: hand,
+        };
+    }
+    let found = table::lookup(walker, numbers::key(vm, guest));
+    if found == 0 {
+        return Filled {
+            answer: refuse(Refusal::MappingDiffers),
+            hand: hand,
+        };
+    }
+    let key = numbers::slot_key(port, vm, guest);
+    let word = numbers::slot_word(port, vm, guest, numbers::entry_of(found));
+    let next = take_slot(cache, hand, key, word);
+    Filled {
+        answer: accept(0),
+        hand: next,
+    }
+}
+
+// Operations 19 and 20.
+pub fn empty_slot(cache: &mut [u64], slot: u64) -> Answer
+    ensures { λ r. ⌜ (r ≡ emptyAnswer slot)
+        × (now (cache .exit) ≡ kept (emptyAnswer slot) (now (cache .entry)) (emptyCache (now (cache .entry)) slot)) ⌝ }
+{
+    if !(slot < SLOTS) {
+        return refuse(Refusal::OutOfRange);
+    }
+    set_slot(cache, slot, 0);
+    accept(0)
+}
