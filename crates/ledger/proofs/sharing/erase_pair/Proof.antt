@@ -41,7 +41,7 @@ loop-less : tie.Need-loop-less Inv-loop μ-loop
 loop-less c = search needs
 
 loop-again : tie.Need-loop-again Inv-loop μ-loop
-loop-again c = 
+loop-again c =
     let r = c .before .before .before .before .loop .inv in
     let l = c .before .before .before .loop-test .taken in
     let e = c .before .pair-key-of .ensures in

@@ -1,93 +1,79 @@
 use borrow.Author.Needs.{needs}
+use mathlib.Core.Path.{refl, sym, _∙_}
+use native.Mathlib.Omega.{arith}
+use Rattle.model.specs.EarlyLaws.{PairPassed, pair-passed}
+use Rattle.model.specs.Views.{paired}
+use Rattle.model.specs.Ledger.{unshareAnswer, unsharePairs}
 use Rattle.ledger.proofs.sharing.unshare_page.Statement.{statement}
 use Rattle.ledger.proofs.sharing.unshare_page.Tie as tie
-use Rattle.ledger.proofs.sharing.unshare_page.Reads as reads
-use Rattle.ledger.proofs.sharing.unshare_page.Lts as lts
-use Rattle.ledger.proofs.accept.Reads as accept-reads
-use Rattle.ledger.proofs.pair_early.Reads as pair-early-reads
-use Rattle.ledger.proofs.refuse.Reads as refuse-reads
-use Rattle.ledger.proofs.sharing.borrower_maps.Reads as borrower-maps-reads
-use Rattle.ledger.proofs.sharing.erase_pair.Reads as erase-pair-reads
-use Rattle.numbers.proofs.pair_key.Reads as pair-key-reads
-use Rattle.views.proofs.find_pair.Reads as find-pair-reads
 
--- src/sharing.rt:93:9
+-- past the early check the numbers are in range
+passed : (x : tie.After-enum-told) → PairPassed (x .before .before .before .before .before .before .args .known) (x .before .before .before .before .before .before .args .pages) (x .before .before .before .before .before .before .args .left .0) (x .before .before .before .before .before .before .args .right .0) (x .before .before .before .before .before .before .args .page .0)
+passed x = pair-passed _ _ _ _ _ (sym (x .before .before .pair-early .ensures) ∙ x .enum-told .given .1)
+
 pair-early-requires : tie.Need-pair-early-requires
 pair-early-requires c κs = search needs
 
--- src/sharing.rt:94:30
 enum-known-early : tie.Need-enum-known-early
 enum-known-early c = search needs
 
--- src/sharing.rt:95:9
 returns : tie.Need-returns
-returns c = search needs
+unfolding unshareAnswer unsharePairs paired
+returns c = rw (← c .before .before .before .pair-early .ensures, c .before .early .given .1) (refl, refl)
 
 enum-told : tie.Need-enum-told
 enum-told c = search needs
 
--- src/sharing.rt:97:9
 find-pair-requires : tie.Need-find-pair-requires
-find-pair-requires c κs = search needs
+find-pair-requires c κs = let r = passed (c .before) in omega arith
 
--- src/sharing.rt:99:23
 enum-told-2 : tie.Need-enum-told-2
 enum-told-2 c = search needs
 
--- src/sharing.rt:99:9
 refuse-requires : tie.Need-refuse-requires
 refuse-requires c κs = search needs
 
--- src/sharing.rt:99:9
 same-length : tie.Need-same-length
 same-length c = search needs
 
--- src/sharing.rt:99:9
 returns-2 : tie.Need-returns-2
-returns-2 c = search needs
+unfolding unshareAnswer unsharePairs paired
+returns-2 c = rw (← c .before .before .before .before .before .before .before .pair-early .ensures, c .before .before .before .before .before .enum-told .given .1, ← c .before .before .before .find-pair .ensures, c .before .enum-told2 .given .1, c .refuse .ensures) (refl, refl)
 
 enum-told-3 : tie.Need-enum-told-3
 enum-told-3 c = search needs
 
--- src/sharing.rt:101:8
 borrower-maps-requires : tie.Need-borrower-maps-requires
-borrower-maps-requires c κs = search needs
+borrower-maps-requires c κs = let r = passed (c .before .before .before .before) in omega arith
 
--- src/sharing.rt:101:51
 borrower-maps-requires-2 : tie.Need-borrower-maps-requires-2
-borrower-maps-requires-2 c κs = search needs
+borrower-maps-requires-2 c κs = let r = passed (c .before .before .before .before .before) in omega arith
 
--- src/sharing.rt:102:9
 refuse-requires-2 : tie.Need-refuse-requires-2
 refuse-requires-2 c κs = search needs
 
--- src/sharing.rt:102:9
 same-length-2 : tie.Need-same-length-2
 same-length-2 c = search needs
 
--- src/sharing.rt:102:9
 returns-3 : tie.Need-returns-3
-returns-3 c = search needs
+unfolding unshareAnswer unsharePairs paired
+returns-3 c = rw (← c .before .before .before .before .before .before .before .before .before .before .pair-early .ensures, c .before .before .before .before .before .before .before .before .enum-told .given .1, ← c .before .before .before .before .before .before .find-pair .ensures, c .before .before .before .before .enum-told3 .given .1, ← c .before .before .before .borrower-maps .ensures, ← c .before .before .borrower-maps2 .ensures, c .before .if1 .taken, c .refuse2 .ensures) (refl, refl)
 
--- src/sharing.rt:104:23
 pair-key-requires : tie.Need-pair-key-requires
-pair-key-requires c κs = search needs
+pair-key-requires c κs = let r = passed (c .before .before .before .before .before .before .before .before) in omega arith
 
--- src/sharing.rt:104:5
 erase-pair-requires : tie.Need-erase-pair-requires
 erase-pair-requires c κs = search needs
 
--- src/sharing.rt:105:5
 accept-requires : tie.Need-accept-requires
 accept-requires c κs = search needs
 
--- src/sharing.rt:79:1
 same-length-3 : tie.Need-same-length-3
 same-length-3 c = search needs
 
--- src/sharing.rt:79:1
 returns-4 : tie.Need-returns-4
-returns-4 c = search needs
+unfolding unshareAnswer unsharePairs paired
+returns-4 c = rw (← c .before .before .before .before .before .before .before .before .before .before .before .before .before .before .before .pair-early .ensures, c .before .before .before .before .before .before .before .before .before .before .before .before .before .enum-told .given .1, ← c .before .before .before .before .before .before .before .before .before .before .before .find-pair .ensures, c .before .before .before .before .before .before .before .before .before .enum-told3 .given .1, ← c .before .before .before .before .before .before .before .before .borrower-maps .ensures, ← c .before .before .before .before .before .before .before .borrower-maps2 .ensures, c .before .before .before .before .before .before .if1 .left, ← c .before .before .before .before .pair-key .ensures, c .accept .ensures, c .before .before .before .erase-pair .ensures) (refl, refl)
 
 pub unshare-page-spec : {M : Type 1} → statement M
 unshare-page-spec =
