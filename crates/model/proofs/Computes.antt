@@ -5,7 +5,7 @@ use Rattle.pages.specs.Bits.{contains, insert, delete}
 use Rattle.pages.specs.Rows.{freeCount, lowestFree as rows-lowestFree}
 use Rattle.units.specs.Units.{assignable}
 use Rattle.model.specs.Views.{knows, claimedElsewhere, hasPages, shares, edgeOn, edgeOf, paired, targeted, hasMappings, mayMap, onPort}
-use Rattle.model.specs.Effect.{wordIn, clearPage, stored, loaded, clearedPages, apply, wordsRead}
+use Rattle.model.specs.Effect.{wordIn, clearPage, stored, loaded, clearedPages, apply, decided}
 use Rattle.model.specs.Ledger.{addVmAnswer, removeVmAnswer, assignAnswer, assignSets, reclaimAnswer, reclaimSets, reclaimClears, shareAnswer, sharePairs, unshareAnswer, unsharePairs}
 use Rattle.model.specs.Maps.{matchingSlots, withoutSlots, mapAnswer, mapTable, unmapAnswer, unmapTable}
 use Rattle.model.specs.Regions.{insertAnswer, insertSets, insertTable, removeAnswer, removeSets, removeTable, removeClears}
@@ -17,5 +17,5 @@ use Rattle.model.specs.Sequence.{operationIn, stepRow, after, shapeAnswe
 
 -- whoever unfolds this unfolds all of them
 unfoldable pub computes : Unit {0}
-unfolding lowestFree freeEntries find lookup place put erase contains insert delete freeCount rows-lowestFree assignable knows claimedElsewhere hasPages shares edgeOn edgeOf paired targeted hasMappings mayMap onPort wordIn clearPage stored loaded clearedPages apply wordsRead addVmAnswer removeVmAnswer assignAnswer assignSets reclaimAnswer reclaimSets reclaimClears shareAnswer sharePairs unshareAnswer unsharePairs matchingSlots withoutSlots mapAnswer mapTable unmapAnswer unmapTable insertAnswer insertSets insertTable removeAnswer removeSets removeTable removeClears portAnswer fillAnswer fillPlace fillCache fillHand emptyAnswer translate accessAnswer addVmControl removeVmControl assignControl reclaimControl shareControl unshareControl mapControl unmapControl insertControl removeControl portControl fillControl emptyControl readControl writeControl control step startAnswer freshState emptyState start free operationIn stepRow after shapeAnswer sequence
+unfolding lowestFree freeEntries find lookup place put erase contains insert delete freeCount rows-lowestFree assignable knows claimedElsewhere hasPages shares edgeOn edgeOf paired targeted hasMappings mayMap onPort wordIn clearPage stored loaded clearedPages apply decided addVmAnswer removeVmAnswer assignAnswer assignSets reclaimAnswer reclaimSets reclaimClears shareAnswer sharePairs unshareAnswer unsharePairs matchingSlots withoutSlots mapAnswer mapTable unmapAnswer unmapTable insertAnswer insertSets insertTable removeAnswer removeSets removeTable removeClears portAnswer fillAnswer fillPlace fillCache fillHand emptyAnswer translate accessAnswer addVmControl removeVmControl assignControl reclaimControl shareControl unshareControl mapControl unmapControl insertControl removeControl portControl fillControl emptyControl readControl writeControl control step startAnswer freshState emptyState start free operationIn stepRow after shapeAnswer sequence
 computes = tt

@@ -76,16 +76,11 @@ unfoldable pub clearedPages : List ℕ → List ℕ → List ℕ
 clearedPages [] memory = memory
 clearedPages (page ∷ pages) memory = clearedPages pages (clearPage memory page)
 
--- the memory that an effect leaves, and the words that it reads
+-- the memory that an effect leaves
 unfoldable pub apply : Effect → List ℕ → List ℕ
 apply (reads vm places) memory = memory
 apply (writes vm stores) memory = stored stores memory
 apply (clears pages) memory = clearedPages pages memory
-
-unfoldable pub wordsRead : Effect → List ℕ → List ℕ
-wordsRead (reads vm places) memory = loaded places memory
-wordsRead (writes vm stores) memory = []
-wordsRead (clears pages) memory = []
 
 -- ---- what the tables decide: the answer but for the word read, the new tables, and the effect on memory
 pub record Control : Type 0 where
@@ -94,5 +89,5 @@ pub record Control : Type 0 where
   pub effect : Effect
 
 -- an accepted operation has its effect, a refused one changes nothing
-abbrev pub decided : Tables → Answer → Tables → Effect → Control
+unfoldable pub decided : Tables → Answer → Tables → Effect → Control
 decided old answer new effect = record { answer = answer; tables = kept answer old new; effect = kept answer quiet effect }

@@ -10,6 +10,8 @@ pub mod Regions
 pub mod Ports
 pub mod Access
 pub mod EarlyLaws
+pub mod MemoryLaws
 pub mod Step
+pub mod ShapeLaws
 pub mod Start
 pub mod Sequence

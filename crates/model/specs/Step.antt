@@ -42,7 +42,7 @@ use Rattle.numbers.specs.declared.Operation.the-variants.{
 }
 use Rattle.units.specs.declared.Region.{Region}
 use Rattle.model.specs.State.{Tables, Route, State, route, withRoute, withKnown, withSets, withPairs, withMaps, withCache, withPorts}
-use Rattle.model.specs.Effect.{Effect, reads, writes, clears, quiet, Control, decided, accepted, apply, wordsRead}
+use Rattle.model.specs.Effect.{Effect, reads, writes, clears, quiet, Control, decided, accepted, apply, loaded}
 use Rattle.model.specs.Ledger.{
   addVmAnswer,
   addVmKnown,
@@ -199,10 +199,16 @@ abbrev pub withWord : Answer → List ℕ → Answer
 withWord (Accepted dropped word) words = Accepted dropped (getD words 0 0)
 withWord (Refused refusal index) words = Refused refusal index
 
+-- only a read fills in the word
+abbrev pub answerWith : Effect → List ℕ → Answer → Answer
+answerWith (reads vm places) memory answer = withWord answer (loaded places memory)
+answerWith (writes vm stores) memory answer = answer
+answerWith (clears pages) memory answer = answer
+
 abbrev pub carriedOut : Control → List ℕ → Stepped
 carriedOut c memory =
     record {
-      answer = withWord (c .answer) (wordsRead (c .effect) memory);
+      answer = answerWith (c .effect) memory (c .answer);
       state = record { tables = c .tables; memory = apply (c .effect) memory };
     }
 

@@ -1,0 +1,2 @@
+-- What an access reads and writes.
+pub mod Words

@@ -1,0 +1,3 @@
+-- What decoding a row gives.
+pub mod Decoded
+pub mod RowLaws
