@@ -1,2 +1,4 @@
--- Laws of the sequence.
+-- The sequence over a header and its lists, and its laws.
+pub mod Run
 pub mod RoomLaws
+pub mod RunLaws
