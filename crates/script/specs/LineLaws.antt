@@ -9,12 +9,12 @@ use native.Mathlib.Numerals.{add-one}
 use native.Mathlib.Omega.{arith}
 use borrow.Author.Tests.{eqb-true, leb-true, leb-false, le-leb, lt-leb, lt-ltb, le-ltb, ltb-true, ltb-false, ne-eqb}
 use lib.Dec.{eqb, leb, ltb}
-use lib.ListN.{length, getD, set, replicate, length-append}
-use lib.Seq.{append-snoc}
+use lib.ListN.{length, getD, set, drop, length-append, drop-of-length-le}
+use lib.Seq.{append-snoc, drop-cons}
 use Rattle.numbers.specs.Choice.{if_then_else_}
 use Rattle.numbers.specs.Limits.{IDLE, ROW-NUMBERS}
 use Rattle.script.specs.Lines.{RETURN, HASH, isBlank, isDigit, withoutReturn, withoutComment, whole, wordsFrom, allDigits, valueFrom, numberWord, same, knownWord, wordOf, isNumber, allNumbers, valueOf, boxOf, unitOf, rowOf, freeOf, numbersIn, takesIdle, second, withoutIdle, meaning, lineOf}
-use Rattle.script.specs.Steps.{packed, firstPart, moreDigits, moreLetters, lengthened, begun, said, spoilt, pushed, idleInRow, added, ended, lineFrom, taken, arrived, fedWith, noWords, noText, lineStart, textEnd, lineEnd, fedAll}
+use Rattle.script.specs.Steps.{packed, firstPart, moreDigits, moreLetters, lengthened, begun, said, spoilt, pushed, opened, mayIdle, withIdle, added, ended, lineFrom, taken, arrived, fedWith, noWords, noText, lineStart, textEnd, lineEnd, fedAll}
 use Rattle.script.specs.declared.Word.{Word}
 use Rattle.script.specs.declared.Word.the-variants.{Number, BoxWord, UnitWord, FreeWord, IdleWord, OtherWord}
 use Rattle.script.specs.declared.Part.{Part}
@@ -169,20 +169,20 @@ module _ (word : Word) where
       (one-letter ((x + packed s * 256) / 256) s w (omega arith) (letters-read s w h) (eqb b x))
 
 -- ---- a whole word says what it means
+digit-go : (b : ℕ) (t : Bool) → leb 48 b ≡ t → (if t then leb b 57 else false) ≡ true → (48 ≤ b) × (b ≤ 57)
+digit-go b true e h = (leb-true 48 b e, leb-true b 57 h)
+digit-go b false e h = absurd (true≢false (sym h))
+
+pub digit-range : (b : ℕ) → isDigit b ≡ true → (48 ≤ b) × (b ≤ 57)
+digit-range b h = digit-go b (leb 48 b) refl h
+
 module _ (b : ℕ) (w : List ℕ) where
   none-known : eqb b 98 ≡ false → eqb b 117 ≡ false → eqb b 102 ≡ false → eqb b 105 ≡ false → knownWord (b ∷ w) ≡ OtherWord
   none-known e f g h = simp (e, f, g, h)
 
-  digit-range : isDigit b ≡ true → b ≤ 57
-  digit-range e = go (leb 48 b) e
-    where
-      go : (t : Bool) → (if t then leb b 57 else false) ≡ true → b ≤ 57
-      go true h = leb-true b 57 h
-      go false h = absurd (true≢false (sym h))
-
   number-first : isDigit b ≡ true → said (partAll (Digits (b - 48)) w) ≡ (if allDigits w then numberWord (valueFrom (0 * 10 + (b - 48)) w) else knownWord (b ∷ w))
   number-first e =
-      let h : b ≤ 57 = digit-range e in
+      let h : b ≤ 57 = digit-range b e .1 in
       let z : 0 * 10 + (b - 48) ≡ b - 48 = omega arith in
       rw (z, none-known (ne-eqb b 98 (λ q. omega arith)) (ne-eqb b 117 (λ q. omega arith)) (ne-eqb b 102 (λ q. omega arith)) (ne-eqb b 105 (λ q. omega arith)))
       (number-read (b - 48) w (omega arith))
@@ -291,6 +291,7 @@ unfolding pushed
 push-full k ns n h = rw (le-ltb (length ns) ROW-NUMBERS h)
 
 bad-stays : (ws : Words) (more : List Word) → lineFrom (addedAll (spoilt ws) more) ≡ Unreadable
+unfolding opened mayIdle withIdle
 bad-stays ws [] = refl
 bad-stays ws (Number n ∷ more) = bad-stays ws more
 bad-stays ws (BoxWord ∷ more) = bad-stays ws more
@@ -300,6 +301,7 @@ bad-stays ws (IdleWord ∷ more) = bad-stays ws more
 bad-stays ws (OtherWord ∷ more) = bad-stays ws more
 
 free-read : (more : List Word) → lineFrom (addedAll (holding FreeLine []) more) ≡ freeOf more
+unfolding opened mayIdle withIdle
 free-read [] = refl
 free-read (Number n ∷ more) = bad-stays (holding FreeLine []) more
 free-read (BoxWord ∷ more) = bad-stays (holding FreeLine []) more
@@ -348,6 +350,7 @@ module _ (k : Kind) (shape : List ℕ → Line) (least : ℕ)
 
 -- ---- the three shapes
 box-next : (ns : List ℕ) (w : Word) → 0 ≤ length ns → added (holding BoxLine ns) w ≡ (if isNumber w then pushed (holding BoxLine ns) BoxLine (valueOf w) else spoilt (holding BoxLine ns))
+unfolding opened mayIdle withIdle
 box-next ns (Number n) h = refl
 box-next ns BoxWord h = refl
 box-next ns UnitWord h = refl
@@ -356,6 +359,7 @@ box-next ns IdleWord h = refl
 box-next ns OtherWord h = refl
 
 unit-next : (ns : List ℕ) (w : Word) → 0 ≤ length ns → added (holding UnitLine ns) w ≡ (if isNumber w then pushed (holding UnitLine ns) UnitLine (valueOf w) else spoilt (holding UnitLine ns))
+unfolding opened mayIdle withIdle
 unit-next ns (Number n) h = refl
 unit-next ns BoxWord h = refl
 unit-next ns UnitWord h = refl
@@ -364,7 +368,7 @@ unit-next ns IdleWord h = refl
 unit-next ns OtherWord h = refl
 
 row-next : (ns : List ℕ) (w : Word) → 3 ≤ length ns → added (holding RowLine ns) w ≡ (if isNumber w then pushed (holding RowLine ns) RowLine (valueOf w) else spoilt (holding RowLine ns))
-unfolding idleInRow
+unfolding mayIdle withIdle opened
 row-next ns (Number n) h = refl
 row-next ns BoxWord h = refl
 row-next ns UnitWord h = refl
@@ -403,7 +407,7 @@ module _ (n m : ℕ) (more : List Word) where
   idle-third false = bad-stays (holding RowLine (n ∷ m ∷ [])) more
 
   third : (w : Word) → lineFrom (addedAll (added (holding RowLine (n ∷ m ∷ [])) w) more) ≡ numbersIn rowOf (Number n ∷ Number m ∷ second n w ∷ more)
-  unfolding pushed idleInRow
+  unfolding pushed mayIdle withIdle opened
   third (Number x) = from-third x
   third BoxWord = bad-stays (holding RowLine (n ∷ m ∷ [])) more
   third UnitWord = bad-stays (holding RowLine (n ∷ m ∷ [])) more
@@ -412,7 +416,7 @@ module _ (n m : ℕ) (more : List Word) where
   third OtherWord = bad-stays (holding RowLine (n ∷ m ∷ [])) more
 
 row-read : (n : ℕ) (more : List Word) → lineFrom (addedAll (holding RowLine (n ∷ [])) more) ≡ numbersIn rowOf (Number n ∷ withoutIdle n more)
-unfolding pushed idleInRow
+unfolding pushed mayIdle withIdle opened
 row-read n [] = refl
 row-read n (Number m ∷ []) = refl
 row-read n (Number m ∷ w ∷ more) = third n m more w
@@ -429,7 +433,7 @@ row-read n (OtherWord ∷ w ∷ more) = bad-stays (holding RowLine (n ∷ [])) (
 
 -- ---- the line
 words-read : (ws : List Word) → lineFrom (addedAll noWords ws) ≡ meaning ws
-unfolding pushed
+unfolding pushed opened mayIdle withIdle
 words-read [] = refl
 words-read (Number n ∷ ws) = row-read n ws
 words-read (BoxWord ∷ ws) = numbers-read BoxLine boxOf 0 box-next box-ends box-over [] ws (omega arith) (omega arith)
@@ -442,3 +446,18 @@ pub line-read : (bytes : List ℕ) → lineEnd (fedAll lineStart bytes) ≡ line
 unfolding lineOf
 line-read bytes =
     ap textEnd (waits bytes .0 noText) ∙ text-read noWords [] (withoutReturn bytes) ∙ words-read (map wordOf (wordsFrom [] (withoutComment (withoutReturn bytes))))
+
+-- ---- the loop over a line's bytes: the reader so far, fed with the rest, is fed with all
+pub record Reading (bytes : List ℕ) (r : Reader) (i : ℕ) : Type 0 where
+  pub place : i ≤ length bytes
+  pub rest : fedAll r (drop i bytes) ≡ fedAll lineStart bytes
+
+module _ (bytes : List ℕ) (r : Reader) where
+  pub read-start : r ≡ lineStart → Reading bytes r 0
+  read-start e = record { place = omega arith; rest = rw e }
+
+  pub read-next : (next : Reader) (i : ℕ) → Reading bytes r i → i < length bytes → next ≡ fedWith r (getD bytes i 0) → Reading bytes next (i + 1)
+  read-next next i l h e = record { place = omega arith; rest = rw (e, add-one i) (rw (drop-cons bytes i 0 h) at (l .rest)) }
+
+  pub read-end : (i : ℕ) → Reading bytes r i → length bytes ≤ i → lineEnd r ≡ lineOf bytes
+  read-end i l h = ap lineEnd (rw (drop-of-length-le bytes h) at (l .rest)) ∙ line-read bytes

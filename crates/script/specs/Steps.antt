@@ -72,17 +72,25 @@ pushed ws k n =
     if ltb (ws .count) ROW-NUMBERS then (record { kind = k; count = ws .count + 1; numbers = set (ws .numbers) (ws .count) n })
     else spoilt ws
 
--- the words as another kind of line, by the kind that they are
-abbrev pub openedBy : Kind → Words → Kind → Words
-openedBy NoWords ws k = record { kind = k; count = ws .count; numbers = ws .numbers }
-openedBy BoxLine ws k = spoilt ws
-openedBy UnitLine ws k = spoilt ws
-openedBy RowLine ws k = spoilt ws
-openedBy FreeLine ws k = spoilt ws
-openedBy BadLine ws k = spoilt ws
+abbrev pub isEmpty : Kind → Bool
+isEmpty NoWords = true
+isEmpty BoxLine = false
+isEmpty UnitLine = false
+isEmpty RowLine = false
+isEmpty FreeLine = false
+isEmpty BadLine = false
 
-abbrev pub opened : Words → Kind → Words
-opened ws k = openedBy (ws .kind) ws k
+abbrev pub isRow : Kind → Bool
+isRow NoWords = false
+isRow BoxLine = false
+isRow UnitLine = false
+isRow RowLine = true
+isRow FreeLine = false
+isRow BadLine = false
+
+-- a keyword stands first
+unfoldable pub opened : Words → Kind → Words
+opened ws k = if isEmpty (ws .kind) then (record { kind = k; count = ws .count; numbers = ws .numbers }) else spoilt ws
 
 abbrev pub numberBy : Kind → Words → ℕ → Words
 numberBy NoWords ws n = pushed ws RowLine n
@@ -95,21 +103,11 @@ numberBy BadLine ws n = spoilt ws
 abbrev pub withNumber : Words → ℕ → Words
 withNumber ws n = numberBy (ws .kind) ws n
 
-unfoldable pub idleInRow : Words → Words
-idleInRow ws =
-    if eqb (ws .count) 2 then (if takesIdle (getD (ws .numbers) 0 0) then pushed ws RowLine IDLE else spoilt ws)
-    else spoilt ws
+unfoldable pub mayIdle : Words → Bool
+mayIdle ws = if isRow (ws .kind) then (if eqb (ws .count) 2 then takesIdle (getD (ws .numbers) 0 0) else false) else false
 
-abbrev pub idleBy : Kind → Words → Words
-idleBy NoWords ws = spoilt ws
-idleBy BoxLine ws = spoilt ws
-idleBy UnitLine ws = spoilt ws
-idleBy RowLine ws = idleInRow ws
-idleBy FreeLine ws = spoilt ws
-idleBy BadLine ws = spoilt ws
-
-abbrev pub withIdle : Words → Words
-withIdle ws = idleBy (ws .kind) ws
+unfoldable pub withIdle : Words → Words
+withIdle ws = if mayIdle ws then pushed ws RowLine IDLE else spoilt ws
 
 abbrev pub added : Words → Word → Words
 added ws (Number n) = withNumber ws n

@@ -4,8 +4,8 @@ use numbers::{IDLE, ROW_NUMBERS};
 ghost use mathlib.Core.Path.{_≡_};
 ghost use mathlib.Core.Bool.{true};
 ghost use Prim.Native.Nat.{_-_, _<_};
-ghost use Rattle.script.specs.Lines.{isDigit, isBlank, lineOf};
-ghost use Rattle.script.specs.Steps.{firstPart, moreDigits, moreLetters, lengthened, begun, said, spoilt, pushed, opened, withNumber, withIdle, added, ended, lineFrom, taken, arrived, fedWith, lineStart, lineEnd};
+ghost use Rattle.script.specs.Lines.{isDigit, isBlank, takesIdle, lineOf};
+ghost use Rattle.script.specs.Steps.{firstPart, moreDigits, moreLetters, lengthened, begun, said, spoilt, pushed, isEmpty, isRow, opened, withNumber, mayIdle, withIdle, added, ended, lineFrom, taken, arrived, fedWith, lineStart, lineEnd};
 
 // ---- What a whole line says.
 pub enum Line {
@@ -237,13 +237,39 @@ fn pushed(words: Words, kind: Kind, number: u64) -> Words
     spoilt(words)
 }
 
+fn no_words(kind: Kind) -> bool
+    ensures { λ r. ⌜ r ≡ isEmpty kind ⌝ }
+{
+    match kind {
+        Kind::NoWords => true,
+        Kind::BoxLine => false,
+        Kind::UnitLine => false,
+        Kind::RowLine => false,
+        Kind::FreeLine => false,
+        Kind::BadLine => false,
+    }
+}
+
+fn is_row(kind: Kind) -> bool
+    ensures { λ r. ⌜ r ≡ isRow kind ⌝ }
+{
+    match kind {
+        Kind::NoWords => false,
+        Kind::BoxLine => false,
+        Kind::UnitLine => false,
+        Kind::RowLine => true,
+        Kind::FreeLine => false,
+        Kind::BadLine => false,
+    }
+}
+
 // A keyword stands first.
 fn opened(words: Words, kind: Kind) -> Words
     ensures { λ r. ⌜ r ≡ opened words kind ⌝ }
 {
     let before = words.kind;
-    if let Kind::NoWords = before {
-        let numbers = words.numbers;
+    let numbers = words.numbers;
+    if no_words(before) {
         return Words {
             kind: kind,
             count: words.count,
@@ -267,24 +293,36 @@ fn with_number(words: Words, number: u64) -> Words
     }
 }
 
+fn takes_idle(operation: u64) -> bool
+    ensures { λ r. ⌜ r ≡ takesIdle operation ⌝ }
+{
+    if operation == 15 {
+        return true;
+    }
+    operation == 16
+}
+
 // Only operations 15 and 16 take idle, and only as the second number after the operation.
-fn with_idle(words: Words) -> Words
-    ensures { λ r. ⌜ r ≡ withIdle words ⌝ }
+fn may_idle(words: Words) -> bool
+    ensures { λ r. ⌜ r ≡ mayIdle words ⌝ }
 {
     let kind = words.kind;
     let count = words.count;
     let operation = words.numbers[0];
-    if let Kind::RowLine = kind {
+    if is_row(kind) {
         if count == 2 {
-            if operation == 15 {
-                return pushed(words, Kind::RowLine, IDLE);
-            }
-            if operation == 16 {
-                return pushed(words, Kind::RowLine, IDLE);
-            }
-            return spoilt(words);
+            return takes_idle(operation);
         }
-        return spoilt(words);
+        return false;
+    }
+    false
+}
+
+fn with_idle(words: Words) -> Words
+    ensures { λ r. ⌜ r ≡ withIdle words ⌝ }
+{
+    if may_idle(words) {
+        return pushed(words, Kind::RowLine, IDLE);
     }
     spoilt(words)
 }
