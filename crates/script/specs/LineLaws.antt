@@ -1,39 +1,31 @@
 -- Reading a line byte by byte finds what the line means.
-use Prim.{Unit, tt}
-use Prim.Native.Nat.{ℕ, zero, suc, _+_, _-_, _*_, _/_, _%_, _≤_, _<_}
-use mathlib.Core.Bool.{Bool, true, false, true≢false}
+use Prim.Native.Nat.{ℕ, zero, suc, _+_, _≤_, _<_}
+use mathlib.Core.Bool.{Bool, true, false}
 use mathlib.Core.List.{List, [], _∷_, _++_, map, append-nil}
-use mathlib.Core.Logic.{_⊎_, inl, inr, ⊎-elim}
+use mathlib.Core.Logic.{⊎-elim}
 use mathlib.Core.Path.{_≡_, refl, sym, ap, _∙_}
 use native.Mathlib.Numerals.{add-one}
 use native.Mathlib.Omega.{arith}
-use borrow.Author.Tests.{eqb-true, leb-true, leb-false, le-leb, lt-leb, lt-ltb, le-ltb, ltb-true, ltb-false, ne-eqb}
-use lib.Dec.{eqb, leb, ltb}
+use borrow.Author.Tests.{eqb-true, le-leb, lt-leb, lt-ltb, le-ltb, ltb-true, ltb-false, ne-eqb}
+use lib.Dec.{eqb, ltb}
 use lib.ListN.{length, getD, set, drop, length-append, drop-of-length-le}
 use lib.Seq.{append-snoc, drop-cons}
 use Rattle.numbers.specs.Choice.{if_then_else_}
 use Rattle.numbers.specs.Limits.{IDLE, ROW-NUMBERS}
-use Rattle.script.specs.Lines.{RETURN, HASH, isBlank, isDigit, withoutReturn, withoutComment, whole, wordsFrom, allDigits, valueFrom, numberWord, same, knownWord, wordOf, isNumber, allNumbers, valueOf, boxOf, unitOf, rowOf, freeOf, numbersIn, takesIdle, second, withoutIdle, meaning, lineOf}
-use Rattle.script.specs.Steps.{packed, firstPart, moreDigits, moreLetters, lengthened, begun, said, spoilt, pushed, opened, mayIdle, withIdle, added, ended, lineFrom, taken, arrived, fedWith, noWords, noText, lineStart, textEnd, lineEnd, fedAll}
+use Rattle.script.specs.Lines.{RETURN, HASH, isBlank, withoutReturn, withoutComment, whole, wordsFrom, wordOf, isNumber, allNumbers, valueOf, boxOf, unitOf, rowOf, freeOf, numbersIn, takesIdle, second, withoutIdle, meaning, lineOf}
+use Rattle.script.specs.Steps.{firstPart, lengthened, spoilt, pushed, isEmpty, numberBy, opened, mayIdle, withIdle, added, ended, lineFrom, taken, arrived, fedWith, noWords, noText, lineStart, textEnd, lineEnd, fedAll}
+use Rattle.script.specs.WordLaws.{cases, either, partAll, part-snoc, first-begun, stays-begun, word-read}
 use Rattle.script.specs.declared.Word.{Word}
 use Rattle.script.specs.declared.Word.the-variants.{Number, BoxWord, UnitWord, FreeWord, IdleWord, OtherWord}
 use Rattle.script.specs.declared.Part.{Part}
-use Rattle.script.specs.declared.Part.the-variants.{Nothing, Digits, Letters, Strange}
+use Rattle.script.specs.declared.Part.the-variants.{Nothing}
 use Rattle.script.specs.declared.Kind.{Kind}
-use Rattle.script.specs.declared.Kind.the-variants.{NoWords, BoxLine, UnitLine, RowLine, FreeLine, BadLine}
+use Rattle.script.specs.declared.Kind.the-variants.{BoxLine, UnitLine, RowLine, FreeLine}
 use Rattle.script.specs.declared.Line.{Line}
-use Rattle.script.specs.declared.Line.the-variants.{Blank, Box, Unreadable}
+use Rattle.script.specs.declared.Line.the-variants.{Unreadable}
 use Rattle.script.specs.declared.Words.{Words}
 use Rattle.script.specs.declared.Text.{Text}
 use Rattle.script.specs.declared.Reader.{Reader}
-
-cases : (t : Bool) → (t ≡ true) ⊎ (t ≡ false)
-cases true = inl refl
-cases false = inr refl
-
-either : {A : Type 0} (t : Bool) (a : A) → (if t then a else a) ≡ a
-either true a = refl
-either false a = refl
 
 -- ---- a CR that waits is the line's without the one of its end
 abbrev takenAll : Text → List ℕ → Text
@@ -67,147 +59,6 @@ waits [] = (λ t. refl, λ t. refl)
 waits (b ∷ rest) =
     let (go, wait) = waits rest in
     (λ t. arrives b rest go wait t, λ t. arrives b rest go wait (taken t RETURN))
-
--- ---- the word under way, byte by byte
-abbrev partAll : Part → List ℕ → Part
-partAll p [] = p
-partAll p (b ∷ w) = partAll (lengthened p b) w
-
-part-snoc : (p : Part) (w : List ℕ) (b : ℕ) → partAll p (w ++ b ∷ []) ≡ lengthened (partAll p w) b
-part-snoc p [] b = refl
-part-snoc p (x ∷ w) b = part-snoc (lengthened p x) w b
-
-strange-stays : (w : List ℕ) → partAll Strange w ≡ Strange
-strange-stays [] = refl
-strange-stays (b ∷ w) = strange-stays w
-
--- a word once begun stays one
-first-begun : (b : ℕ) → begun (firstPart b) ≡ true
-unfolding firstPart
-first-begun b = go (isDigit b) (eqb b 98) (eqb b 117) (eqb b 102) (eqb b 105)
-  where
-    go : (t u v x y : Bool) → begun (if t then Digits (b - 48) else if u then Letters BoxWord 30831 else if v then Letters UnitWord 7629166 else if x then Letters FreeWord 6645106 else if y then Letters IdleWord 6646884 else Strange) ≡ true
-    go true u v x y = refl
-    go false true v x y = refl
-    go false false true x y = refl
-    go false false false true y = refl
-    go false false false false true = refl
-    go false false false false false = refl
-
-digits-begun : (n b : ℕ) → begun (moreDigits n b) ≡ true
-unfolding moreDigits
-digits-begun n b = go (isDigit b) (leb (n * 10 + (b - 48)) 18446744073709551615)
-  where
-    go : (t u : Bool) → begun (if t then (if u then Digits (n * 10 + (b - 48)) else Strange) else Strange) ≡ true
-    go true true = refl
-    go true false = refl
-    go false u = refl
-
-letters-begun : (w : Word) (rest b : ℕ) → begun (moreLetters w rest b) ≡ true
-unfolding moreLetters
-letters-begun w rest b = go (eqb rest 0) (eqb b (rest % 256))
-  where
-    go : (t u : Bool) → begun (if t then Strange else if u then Letters w (rest / 256) else Strange) ≡ true
-    go true u = refl
-    go false true = refl
-    go false false = refl
-
-more-begun : (p : Part) (b : ℕ) → begun (lengthened p b) ≡ true
-more-begun Nothing b = first-begun b
-more-begun (Digits n) b = digits-begun n b
-more-begun (Letters w rest) b = letters-begun w rest b
-more-begun Strange b = refl
-
-stays-begun : (p : Part) (w : List ℕ) → begun p ≡ true → begun (partAll p w) ≡ true
-stays-begun p [] e = e
-stays-begun p (b ∷ w) e = stays-begun (lengthened p b) w (more-begun p b)
-
--- ---- a number
-value-grows : (n : ℕ) (w : List ℕ) → n ≤ valueFrom n w
-value-grows n [] = omega arith
-value-grows n (b ∷ w) = omega (arith, value-grows (n * 10 + (b - 48)) w)
-
-module _ (n : ℕ) (w : List ℕ) where
-  over : 18446744073709551615 < n → OtherWord ≡ (if allDigits w then numberWord (valueFrom n w) else OtherWord)
-  over h =
-      let big : 18446744073709551615 < valueFrom n w = omega (arith, value-grows n w) in
-      rw (lt-leb (valueFrom n w) 18446744073709551615 big) (sym (either (allDigits w) OtherWord))
-
-  one-more : (n ≤ 18446744073709551615 → said (partAll (Digits n) w) ≡ (if allDigits w then numberWord (valueFrom n w) else OtherWord))
-      → (d t : Bool) → leb n 18446744073709551615 ≡ t
-      → said (partAll (if d then (if t then Digits n else Strange) else Strange) w)
-      ≡ (if (if d then allDigits w else false) then numberWord (valueFrom n w) else OtherWord)
-  one-more go true true e = go (leb-true n 18446744073709551615 e)
-  one-more go true false e = rw (strange-stays w) (over (leb-false n 18446744073709551615 e))
-  one-more go false t e = rw (strange-stays w)
-
-number-read : (n : ℕ) (w : List ℕ) → n ≤ 18446744073709551615
-    → said (partAll (Digits n) w) ≡ (if allDigits w then numberWord (valueFrom n w) else OtherWord)
-unfolding moreDigits
-number-read n [] h = rw (le-leb n 18446744073709551615 h)
-number-read n (b ∷ w) h = one-more (n * 10 + (b - 48)) w (number-read (n * 10 + (b - 48)) w) (isDigit b) (leb (n * 10 + (b - 48)) 18446744073709551615) refl
-
--- ---- a known word
-abbrev Small : List ℕ → Type 0
-Small [] = Unit
-Small (x ∷ s) = (0 < x) × (x < 256) × Small s
-
-module _ (word : Word) where
-  one-letter : (n : ℕ) (s w : List ℕ) → n ≡ packed s → said (partAll (Letters word (packed s)) w) ≡ (if same w s then word else OtherWord)
-      → (t : Bool) → said (partAll (if t then Letters word n else Strange) w) ≡ (if (if t then same w s else false) then word else OtherWord)
-  one-letter n s w q go true = rw q go
-  one-letter n s w q go false = rw (strange-stays w)
-
-  letters-read : (s w : List ℕ) → Small s → said (partAll (Letters word (packed s)) w) ≡ (if same w s then word else OtherWord)
-  unfolding moreLetters
-  letters-read [] [] h = refl
-  letters-read [] (b ∷ w) h = rw (strange-stays w)
-  letters-read (x ∷ s) [] h = rw (ne-eqb (x + packed s * 256) 0 (λ q. omega arith))
-  letters-read (x ∷ s) (b ∷ w) (l, m, h) =
-      let q : (x + packed s * 256) % 256 ≡ x = omega arith in
-      rw (ne-eqb (x + packed s * 256) 0 (λ q. omega arith), q)
-      (one-letter ((x + packed s * 256) / 256) s w (omega arith) (letters-read s w h) (eqb b x))
-
--- ---- a whole word says what it means
-digit-go : (b : ℕ) (t : Bool) → leb 48 b ≡ t → (if t then leb b 57 else false) ≡ true → (48 ≤ b) × (b ≤ 57)
-digit-go b true e h = (leb-true 48 b e, leb-true b 57 h)
-digit-go b false e h = absurd (true≢false (sym h))
-
-pub digit-range : (b : ℕ) → isDigit b ≡ true → (48 ≤ b) × (b ≤ 57)
-digit-range b h = digit-go b (leb 48 b) refl h
-
-module _ (b : ℕ) (w : List ℕ) where
-  none-known : eqb b 98 ≡ false → eqb b 117 ≡ false → eqb b 102 ≡ false → eqb b 105 ≡ false → knownWord (b ∷ w) ≡ OtherWord
-  none-known e f g h = simp (e, f, g, h)
-
-  number-first : isDigit b ≡ true → said (partAll (Digits (b - 48)) w) ≡ (if allDigits w then numberWord (valueFrom (0 * 10 + (b - 48)) w) else knownWord (b ∷ w))
-  number-first e =
-      let h : b ≤ 57 = digit-range b e .1 in
-      let z : 0 * 10 + (b - 48) ≡ b - 48 = omega arith in
-      rw (z, none-known (ne-eqb b 98 (λ q. omega arith)) (ne-eqb b 117 (λ q. omega arith)) (ne-eqb b 102 (λ q. omega arith)) (ne-eqb b 105 (λ q. omega arith)))
-      (number-read (b - 48) w (omega arith))
-
-  -- a word that begins with x, the first letter of no other
-  known-first : (word : Word) (x : ℕ) (s : List ℕ) → Small s → knownWord (x ∷ w) ≡ (if same w s then word else OtherWord) → eqb b x ≡ true
-      → said (partAll (Letters word (packed s)) w) ≡ knownWord (b ∷ w)
-  known-first word x s h k e = letters-read word s w h ∙ sym k ∙ ap (λ (c : ℕ). knownWord (c ∷ w)) (sym (eqb-true b x e))
-
-  read-by : (d t u v y : Bool) → isDigit b ≡ d → eqb b 98 ≡ t → eqb b 117 ≡ u → eqb b 102 ≡ v → eqb b 105 ≡ y
-      → said (partAll (if d then Digits (b - 48) else if t then Letters BoxWord 30831 else if u then Letters UnitWord 7629166 else if v then Letters FreeWord 6645106 else if y then Letters IdleWord 6646884 else Strange) w)
-      ≡ (if (if d then allDigits w else false) then numberWord (valueFrom (0 * 10 + (b - 48)) w) else knownWord (b ∷ w))
-  read-by true t u v y d e f g h = number-first d
-  read-by false true u v y d e f g h = known-first BoxWord 98 (111 ∷ 120 ∷ []) (omega arith, omega arith, (omega arith, omega arith, tt)) refl e
-  read-by false false true v y d e f g h =
-      known-first UnitWord 117 (110 ∷ 105 ∷ 116 ∷ []) (omega arith, omega arith, (omega arith, omega arith, (omega arith, omega arith, tt))) refl f
-  read-by false false false true y d e f g h =
-      known-first FreeWord 102 (114 ∷ 101 ∷ 101 ∷ []) (omega arith, omega arith, (omega arith, omega arith, (omega arith, omega arith, tt))) refl g
-  read-by false false false false true d e f g h =
-      known-first IdleWord 105 (100 ∷ 108 ∷ 101 ∷ []) (omega arith, omega arith, (omega arith, omega arith, (omega arith, omega arith, tt))) refl h
-  read-by false false false false false d e f g h = rw (strange-stays w) (sym (none-known e f g h))
-
-  word-read : said (partAll (firstPart b) w) ≡ wordOf (b ∷ w)
-  unfolding firstPart
-  word-read = read-by (isDigit b) (eqb b 98) (eqb b 117) (eqb b 102) (eqb b 105) refl refl refl refl refl
 
 -- ---- the words, one after the other
 abbrev addedAll : Words → List Word → Words
@@ -316,65 +167,60 @@ module _ (k : Kind) (shape : List ℕ → Line) (least : ℕ)
     (ends : (ns : List ℕ) → length ns ≤ ROW-NUMBERS → lineFrom (holding k ns) ≡ shape ns)
     (over : (ns : List ℕ) → ROW-NUMBERS < length ns → shape ns ≡ Unreadable)
   where
-  too-many : (ns : List ℕ) (n : ℕ) (more : List Word) → ROW-NUMBERS ≤ length ns
-      → Unreadable ≡ (if allNumbers more then shape (ns ++ n ∷ map valueOf more) else Unreadable)
-  too-many ns n more h =
-      let l : ROW-NUMBERS < length (ns ++ n ∷ map valueOf more) = rw (length-append ns (n ∷ map valueOf more)) (omega arith) in
-      rw (over (ns ++ n ∷ map valueOf more) l) (sym (either (allNumbers more) Unreadable))
+    too-many : (ns : List ℕ) (n : ℕ) (more : List Word) → ROW-NUMBERS ≤ length ns
+        → Unreadable ≡ (if allNumbers more then shape (ns ++ n ∷ map valueOf more) else Unreadable)
+    too-many ns n more h =
+        let l : ROW-NUMBERS < length (ns ++ n ∷ map valueOf more) = rw (length-append ns (n ∷ map valueOf more)) (omega arith) in
+        rw (over (ns ++ n ∷ map valueOf more) l) (sym (either (allNumbers more) Unreadable))
 
-  module _ (ns : List ℕ) (n : ℕ) (more : List Word)
-      (again : length ns < ROW-NUMBERS → lineFrom (addedAll (holding k (ns ++ n ∷ [])) more) ≡ (if allNumbers more then shape ((ns ++ n ∷ []) ++ map valueOf more) else Unreadable))
-    where
-    number-next : (t : Bool) → ltb (length ns) ROW-NUMBERS ≡ t
-        → lineFrom (addedAll (pushed (holding k ns) k n) more) ≡ (if allNumbers more then shape (ns ++ n ∷ map valueOf more) else Unreadable)
-    number-next true e =
-        let h : length ns < ROW-NUMBERS = ltb-true (length ns) ROW-NUMBERS e in
-        rw (push-room k ns n h) (again h ∙ rw (append-snoc ns n (map valueOf more)))
-    number-next false e =
-        let h : ROW-NUMBERS ≤ length ns = ltb-false (length ns) ROW-NUMBERS e in
-        rw (push-full k ns n h) (bad-stays (holding k ns) more ∙ too-many ns n more h)
+    module _ (ns : List ℕ) (n : ℕ) (more : List Word)
+        (again : length ns < ROW-NUMBERS → lineFrom (addedAll (holding k (ns ++ n ∷ [])) more) ≡ (if allNumbers more then shape ((ns ++ n ∷ []) ++ map valueOf more) else Unreadable))
+      where
+        number-next : (t : Bool) → ltb (length ns) ROW-NUMBERS ≡ t
+            → lineFrom (addedAll (pushed (holding k ns) k n) more) ≡ (if allNumbers more then shape (ns ++ n ∷ map valueOf more) else Unreadable)
+        number-next true e =
+            let h : length ns < ROW-NUMBERS = ltb-true (length ns) ROW-NUMBERS e in
+            rw (push-room k ns n h) (again h ∙ rw (append-snoc ns n (map valueOf more)))
+        number-next false e =
+            let h : ROW-NUMBERS ≤ length ns = ltb-false (length ns) ROW-NUMBERS e in
+            rw (push-full k ns n h) (bad-stays (holding k ns) more ∙ too-many ns n more h)
 
-    word-next : (t : Bool) → lineFrom (addedAll (if t then pushed (holding k ns) k n else spoilt (holding k ns)) more)
-        ≡ (if (if t then allNumbers more else false) then shape (ns ++ n ∷ map valueOf more) else Unreadable)
-    word-next true = number-next (ltb (length ns) ROW-NUMBERS) refl
-    word-next false = bad-stays (holding k ns) more
+        word-next : (t : Bool) → lineFrom (addedAll (if t then pushed (holding k ns) k n else spoilt (holding k ns)) more)
+            ≡ (if (if t then allNumbers more else false) then shape (ns ++ n ∷ map valueOf more) else Unreadable)
+        word-next true = number-next (ltb (length ns) ROW-NUMBERS) refl
+        word-next false = bad-stays (holding k ns) more
 
-  numbers-read : (ns : List ℕ) (more : List Word) → least ≤ length ns → length ns ≤ ROW-NUMBERS
-      → lineFrom (addedAll (holding k ns) more) ≡ (if allNumbers more then shape (ns ++ map valueOf more) else Unreadable)
-  numbers-read ns [] h m = ends ns m ∙ rw (append-nil ns)
-  numbers-read ns (w ∷ more) h m =
-      ap (λ (ws : Words). lineFrom (addedAll ws more)) (next ns w h)
-      ∙ word-next ns (valueOf w) more
-      (λ l. let e : length (ns ++ valueOf w ∷ []) ≡ length ns + 1 = length-append ns (valueOf w ∷ []) in numbers-read (ns ++ valueOf w ∷ []) more (omega arith) (omega arith))
-      (isNumber w)
+    numbers-read : (ns : List ℕ) (more : List Word) → least ≤ length ns → length ns ≤ ROW-NUMBERS
+        → lineFrom (addedAll (holding k ns) more) ≡ (if allNumbers more then shape (ns ++ map valueOf more) else Unreadable)
+    numbers-read ns [] h m = ends ns m ∙ rw (append-nil ns)
+    numbers-read ns (w ∷ more) h m =
+        ap (λ (ws : Words). lineFrom (addedAll ws more)) (next ns w h)
+        ∙ word-next ns (valueOf w) more
+        (λ l. let e : length (ns ++ valueOf w ∷ []) ≡ length ns + 1 = length-append ns (valueOf w ∷ []) in numbers-read (ns ++ valueOf w ∷ []) more (omega arith) (omega arith))
+        (isNumber w)
 
 -- ---- the three shapes
+module _ (k : Kind) (ns : List ℕ) (number : (n : ℕ) → numberBy k (holding k ns) n ≡ pushed (holding k ns) k n) (e : isEmpty k ≡ false) (i : mayIdle (holding k ns) ≡ false) where
+  counted-next : (w : Word) → added (holding k ns) w ≡ (if isNumber w then pushed (holding k ns) k (valueOf w) else spoilt (holding k ns))
+  unfolding opened withIdle
+  counted-next (Number n) = number n
+  counted-next BoxWord = rw e
+  counted-next UnitWord = rw e
+  counted-next FreeWord = rw e
+  counted-next IdleWord = rw i
+  counted-next OtherWord = refl
+
 box-next : (ns : List ℕ) (w : Word) → 0 ≤ length ns → added (holding BoxLine ns) w ≡ (if isNumber w then pushed (holding BoxLine ns) BoxLine (valueOf w) else spoilt (holding BoxLine ns))
-unfolding opened mayIdle withIdle
-box-next ns (Number n) h = refl
-box-next ns BoxWord h = refl
-box-next ns UnitWord h = refl
-box-next ns FreeWord h = refl
-box-next ns IdleWord h = refl
-box-next ns OtherWord h = refl
+unfolding mayIdle
+box-next ns w h = counted-next BoxLine ns (λ n. refl) refl refl w
 
 unit-next : (ns : List ℕ) (w : Word) → 0 ≤ length ns → added (holding UnitLine ns) w ≡ (if isNumber w then pushed (holding UnitLine ns) UnitLine (valueOf w) else spoilt (holding UnitLine ns))
-unfolding opened mayIdle withIdle
-unit-next ns (Number n) h = refl
-unit-next ns BoxWord h = refl
-unit-next ns UnitWord h = refl
-unit-next ns FreeWord h = refl
-unit-next ns IdleWord h = refl
-unit-next ns OtherWord h = refl
+unfolding mayIdle
+unit-next ns w h = counted-next UnitLine ns (λ n. refl) refl refl w
 
 row-next : (ns : List ℕ) (w : Word) → 3 ≤ length ns → added (holding RowLine ns) w ≡ (if isNumber w then pushed (holding RowLine ns) RowLine (valueOf w) else spoilt (holding RowLine ns))
-unfolding mayIdle withIdle opened
-row-next ns (Number n) h = refl
-row-next ns BoxWord h = refl
-row-next ns UnitWord h = refl
-row-next ns FreeWord h = refl
-row-next ns IdleWord h = rw (ne-eqb (length ns) 2 (λ q. omega arith))
-row-next ns OtherWord h = refl
+unfolding mayIdle
+row-next ns w h = counted-next RowLine ns (λ n. refl) refl (rw (ne-eqb (length ns) 2 (λ q. omega arith))) w
 
 box-ends : (ns : List ℕ) → length ns ≤ ROW-NUMBERS → lineFrom (holding BoxLine ns) ≡ boxOf ns
 box-ends ns h = rw (padded-at ROW-NUMBERS ns 0 h, padded-at ROW-NUMBERS ns 1 h, padded-at ROW-NUMBERS ns 2 h)
@@ -420,16 +266,11 @@ unfolding pushed mayIdle withIdle opened
 row-read n [] = refl
 row-read n (Number m ∷ []) = refl
 row-read n (Number m ∷ w ∷ more) = third n m more w
-row-read n (BoxWord ∷ []) = refl
-row-read n (BoxWord ∷ w ∷ more) = bad-stays (holding RowLine (n ∷ [])) (w ∷ more)
-row-read n (UnitWord ∷ []) = refl
-row-read n (UnitWord ∷ w ∷ more) = bad-stays (holding RowLine (n ∷ [])) (w ∷ more)
-row-read n (FreeWord ∷ []) = refl
-row-read n (FreeWord ∷ w ∷ more) = bad-stays (holding RowLine (n ∷ [])) (w ∷ more)
-row-read n (IdleWord ∷ []) = refl
-row-read n (IdleWord ∷ w ∷ more) = bad-stays (holding RowLine (n ∷ [])) (w ∷ more)
-row-read n (OtherWord ∷ []) = refl
-row-read n (OtherWord ∷ w ∷ more) = bad-stays (holding RowLine (n ∷ [])) (w ∷ more)
+row-read n (BoxWord ∷ more) = bad-stays (holding RowLine (n ∷ [])) more
+row-read n (UnitWord ∷ more) = bad-stays (holding RowLine (n ∷ [])) more
+row-read n (FreeWord ∷ more) = bad-stays (holding RowLine (n ∷ [])) more
+row-read n (IdleWord ∷ more) = bad-stays (holding RowLine (n ∷ [])) more
+row-read n (OtherWord ∷ more) = bad-stays (holding RowLine (n ∷ [])) more
 
 -- ---- the line
 words-read : (ws : List Word) → lineFrom (addedAll noWords ws) ≡ meaning ws

@@ -1,5 +1,7 @@
 -- What a line of a box script means (docs/MACHINE.md, 11), from its bytes without the LF that ends it.
 use Prim.Native.Nat.{ℕ, _+_, _-_, _*_}
+use Prim.Native.Char.{code}
+use Prim.Native.String.{String}
 use mathlib.Core.Bool.{Bool, true, false}
 use mathlib.Core.List.{List, [], _∷_, _++_, map}
 use lib.Dec.{eqb, leb}
@@ -58,8 +60,11 @@ abbrev pub valueFrom : ℕ → List ℕ → ℕ
 valueFrom n [] = n
 valueFrom n (b ∷ w) = valueFrom (n * 10 + (b - 48)) w
 
+abbrev pub LARGEST : ℕ
+LARGEST = 18446744073709551615
+
 abbrev pub numberWord : ℕ → Word
-numberWord n = if leb n 18446744073709551615 then Number n else OtherWord
+numberWord n = if leb n LARGEST then Number n else OtherWord
 
 abbrev pub same : List ℕ → List ℕ → Bool
 same [] [] = true
@@ -67,24 +72,17 @@ same [] (x ∷ s) = false
 same (b ∷ w) [] = false
 same (b ∷ w) (x ∷ s) = if eqb b x then same w s else false
 
-abbrev pub box : List ℕ
-box = 98 ∷ 111 ∷ 120 ∷ []
-
-abbrev pub unit : List ℕ
-unit = 117 ∷ 110 ∷ 105 ∷ 116 ∷ []
-
-abbrev pub free : List ℕ
-free = 102 ∷ 114 ∷ 101 ∷ 101 ∷ []
-
-abbrev pub idle : List ℕ
-idle = 105 ∷ 100 ∷ 108 ∷ 101 ∷ []
+-- a text's bytes
+abbrev pub bytes : String → List ℕ
+bytes String.[] = []
+bytes (String._∷_ c text) = code c ∷ bytes text
 
 abbrev pub knownWord : List ℕ → Word
 knownWord w =
-    if same w box then BoxWord
-    else if same w unit then UnitWord
-    else if same w free then FreeWord
-    else if same w idle then IdleWord
+    if same w (bytes "box") then BoxWord
+    else if same w (bytes "unit") then UnitWord
+    else if same w (bytes "free") then FreeWord
+    else if same w (bytes "idle") then IdleWord
     else OtherWord
 
 abbrev pub wordOf : List ℕ → Word
@@ -145,10 +143,13 @@ second operation FreeWord = FreeWord
 second operation IdleWord = if takesIdle operation then Number IDLE else IdleWord
 second operation OtherWord = OtherWord
 
+abbrev pub secondIn : ℕ → List Word → List Word
+secondIn operation [] = []
+secondIn operation (w ∷ ws) = second operation w ∷ ws
+
 abbrev pub withoutIdle : ℕ → List Word → List Word
 withoutIdle operation [] = []
-withoutIdle operation (w ∷ []) = w ∷ []
-withoutIdle operation (w ∷ v ∷ ws) = w ∷ second operation v ∷ ws
+withoutIdle operation (w ∷ ws) = w ∷ secondIn operation ws
 
 abbrev pub meaning : List Word → Line
 meaning [] = Blank

@@ -6,7 +6,7 @@ use lib.Dec.{eqb, leb, ltb}
 use lib.ListN.{getD, set, replicate}
 use Rattle.numbers.specs.Choice.{if_then_else_}
 use Rattle.numbers.specs.Limits.{IDLE, ROW-NUMBERS}
-use Rattle.script.specs.Lines.{isBlank, isDigit, RETURN, HASH, takesIdle}
+use Rattle.script.specs.Lines.{RETURN, HASH, LARGEST, isBlank, isDigit, takesIdle}
 use Rattle.script.specs.declared.Word.{Word}
 use Rattle.script.specs.declared.Word.the-variants.{Number, BoxWord, UnitWord, FreeWord, IdleWord, OtherWord}
 use Rattle.script.specs.declared.Part.{Part}
@@ -25,18 +25,31 @@ abbrev pub packed : List ℕ → ℕ
 packed [] = 0
 packed (x ∷ s) = x + packed s * 256
 
+-- the letters after the first of the known words
+abbrev pub OX : ℕ
+OX = packed (111 ∷ 120 ∷ [])
+
+abbrev pub NIT : ℕ
+NIT = packed (110 ∷ 105 ∷ 116 ∷ [])
+
+abbrev pub REE : ℕ
+REE = packed (114 ∷ 101 ∷ 101 ∷ [])
+
+abbrev pub DLE : ℕ
+DLE = packed (100 ∷ 108 ∷ 101 ∷ [])
+
 unfoldable pub firstPart : ℕ → Part
 firstPart b =
     if isDigit b then Digits (b - 48)
-    else if eqb b 98 then Letters BoxWord (packed (111 ∷ 120 ∷ []))
-    else if eqb b 117 then Letters UnitWord (packed (110 ∷ 105 ∷ 116 ∷ []))
-    else if eqb b 102 then Letters FreeWord (packed (114 ∷ 101 ∷ 101 ∷ []))
-    else if eqb b 105 then Letters IdleWord (packed (100 ∷ 108 ∷ 101 ∷ []))
+    else if eqb b 98 then Letters BoxWord OX
+    else if eqb b 117 then Letters UnitWord NIT
+    else if eqb b 102 then Letters FreeWord REE
+    else if eqb b 105 then Letters IdleWord DLE
     else Strange
 
 unfoldable pub moreDigits : ℕ → ℕ → Part
 moreDigits n b =
-    if isDigit b then (if leb (n * 10 + (b - 48)) 18446744073709551615 then Digits (n * 10 + (b - 48)) else Strange)
+    if isDigit b then (if leb (n * 10 + (b - 48)) LARGEST then Digits (n * 10 + (b - 48)) else Strange)
     else Strange
 
 unfoldable pub moreLetters : Word → ℕ → ℕ → Part

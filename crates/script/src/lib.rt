@@ -1,16 +1,41 @@
 // Reads one line of a box script, byte by byte (docs/MACHINE.md, 11).
 // The reader keeps no text: only the numbers so far, and what the word under way may still become.
-use numbers::{IDLE, ROW_NUMBERS};
+use numbers::IDLE;
+use numbers::ROW_NUMBERS;
 ghost use mathlib.Core.Path.{_≡_};
 ghost use mathlib.Core.Bool.{true};
 ghost use Prim.Native.Nat.{_-_, _<_};
 ghost use Rattle.script.specs.Lines.{isDigit, isBlank, takesIdle, lineOf};
 ghost use Rattle.script.specs.Steps.{firstPart, moreDigits, moreLetters, lengthened, begun, said, spoilt, pushed, isEmpty, isRow, opened, withNumber, mayIdle, withIdle, added, ended, lineFrom, taken, arrived, fedWith, lineStart, lineEnd};
 
+// ---- Bytes and numbers that the format names.
+
+const TAB: u8 = 9;
+
+const RETURN: u8 = 13;
+
+const BLANK: u8 = 32;
+
+const HASH: u8 = 35;
+// The largest number of 64 bits.
+const LARGEST: u64 = 18446744073709551615;
+// The letters after the first of box, unit, free and idle, the next one in the low byte.
+const OX: u64 = 111 + 120 * 256;
+
+const NIT: u64 = 110 + (105 + 116 * 256) * 256;
+
+const REE: u64 = 114 + (101 + 101 * 256) * 256;
+
+const DLE: u64 = 100 + (108 + 101 * 256) * 256;
+
 // ---- What a whole line says.
 pub enum Line {
     Blank,
-    Box { pages: u64, base: u64, count: u64 },
+    Box {
+        pages: u64,
+        base: u64,
+        count: u64,
+    },
     Unit {
         vm: u64,
         guest: u64,
@@ -86,26 +111,26 @@ pub struct Reader {
 fn is_digit(byte: u8) -> bool
     ensures { λ r. ⌜ r ≡ isDigit byte ⌝ }
 {
-    if byte < 48 {
+    if byte < b'0' {
         return false;
     }
-    byte <= 57
+    byte <= b'9'
 }
 
 fn digit(byte: u8) -> u64
     requires { ⌜ isDigit byte ≡ true ⌝ }
     ensures { λ r. ⌜ (r ≡ byte - 48) × (r < 10) ⌝ }
 {
-    (byte - 48) as u64
+    (byte - b'0') as u64
 }
 
 fn is_blank(byte: u8) -> bool
     ensures { λ r. ⌜ r ≡ isBlank byte ⌝ }
 {
-    if byte == 32 {
+    if byte == BLANK {
         return true;
     }
-    byte == 9
+    byte == TAB
 }
 
 // ---- The word under way.
@@ -116,21 +141,29 @@ fn first_part(byte: u8) -> Part
     if is_digit(byte) {
         return Part::Digits(digit(byte));
     }
-    // b, and ox
-    if byte == 98 {
-        return Part::Letters { word: Word::BoxWord, rest: 30831 };
+    if byte == b'b' {
+        return Part::Letters {
+            word: Word::BoxWord,
+            rest: OX,
+        };
     }
-    // u, and nit
-    if byte == 117 {
-        return Part::Letters { word: Word::UnitWord, rest: 7629166 };
+    if byte == b'u' {
+        return Part::Letters {
+            word: Word::UnitWord,
+            rest: NIT,
+        };
     }
-    // f, and ree
-    if byte == 102 {
-        return Part::Letters { word: Word::FreeWord, rest: 6645106 };
+    if byte == b'f' {
+        return Part::Letters {
+            word: Word::FreeWord,
+            rest: REE,
+        };
     }
-    // i, and dle
-    if byte == 105 {
-        return Part::Letters { word: Word::IdleWord, rest: 6646884 };
+    if byte == b'i' {
+        return Part::Letters {
+            word: Word::IdleWord,
+            rest: DLE,
+        };
     }
     Part::Strange
 }
@@ -141,7 +174,7 @@ fn more_digits(value: u64, byte: u8) -> Part
 {
     if is_digit(byte) {
         let next = digit(byte);
-        if value <= (18446744073709551615 - next) / 10 {
+        if value <= (LARGEST - next) / 10 {
             return Part::Digits(value * 10 + next);
         }
         return Part::Strange;
@@ -162,7 +195,10 @@ fn more_letters(word: Word, rest: u64, byte: u8) -> Part
         return Part::Strange;
     }
     if wide(byte) == rest % 256 {
-        return Part::Letters { word: word, rest: rest / 256 };
+        return Part::Letters {
+            word: word,
+            rest: rest / 256,
+        };
     }
     Part::Strange
 }
@@ -360,7 +396,11 @@ fn line_from(words: Words) -> Line
         Kind::NoWords => Line::Blank,
         Kind::BoxLine => {
             if count == 3 {
-                return Line::Box { pages: n[0], base: n[1], count: n[2] };
+                return Line::Box {
+                    pages: n[0],
+                    base: n[1],
+                    count: n[2],
+                };
             }
             Line::Unreadable
         }
@@ -402,7 +442,7 @@ fn taken(text: Text, byte: u8) -> Text
     if text.comment {
         return text;
     }
-    if byte == 35 {
+    if byte == HASH {
         return Text {
             words: ended(words, part),
             part: Part::Nothing,
@@ -426,8 +466,11 @@ fn taken(text: Text, byte: u8) -> Text
 fn arrived(text: Text, byte: u8) -> Reader
     ensures { λ r. ⌜ r ≡ arrived text byte ⌝ }
 {
-    if byte == 13 {
-        return Reader { text: text, cr: true };
+    if byte == RETURN {
+        return Reader {
+            text: text,
+            cr: true,
+        };
     }
     Reader {
         text: taken(text, byte),
@@ -459,7 +502,7 @@ pub fn feed(reader: Reader, byte: u8) -> Reader
 {
     let text = reader.text;
     if reader.cr {
-        return arrived(taken(text, 13), byte);
+        return arrived(taken(text, RETURN), byte);
     }
     arrived(text, byte)
 }

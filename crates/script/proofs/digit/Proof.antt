@@ -1,7 +1,7 @@
 use borrow.Author.Needs.{needs}
 use native.Mathlib.Omega.{arith}
 use mathlib.Core.Path.{refl}
-use Rattle.script.specs.LineLaws.{digit-range}
+use Rattle.script.specs.WordLaws.{digit-range}
 use Rattle.script.proofs.digit.Statement.{statement}
 use Rattle.script.proofs.digit.Tie as tie
 

@@ -1,4 +1,3 @@
-use borrow.Author.Needs.{needs}
 use borrow.Author.Tests.{eq-eqb, ne-eqb}
 use Rattle.script.proofs.is_blank.Statement.{statement}
 use Rattle.script.proofs.is_blank.Tie as tie

@@ -1,4 +1,3 @@
-use borrow.Author.Needs.{needs}
 use borrow.Author.Tests.{lt-leb, le-leb}
 use Rattle.script.proofs.is_digit.Statement.{statement}
 use Rattle.script.proofs.is_digit.Tie as tie

@@ -3,6 +3,7 @@ use borrow.Author.Tests.{le-leb, lt-leb}
 use native.Mathlib.Omega.{arith}
 use Prim.Native.Nat.{_+_, _*_}
 use mathlib.Core.Path.{sym, _∙_}
+use Rattle.script.specs.Lines.{LARGEST}
 use Rattle.script.specs.Steps.{moreDigits}
 use Rattle.script.proofs.more_digits.Statement.{statement}
 use Rattle.script.proofs.more_digits.Tie as tie
@@ -24,11 +25,11 @@ add-t9 c = search needs
 
 returns : tie.Need-returns
 unfolding moreDigits
-returns c = rw (← c .before .before .before .is-digit .ensures, c .before .before .if1 .taken, ← c .before .digit .ensures .0, le-leb (c .before .before .before .before .args .value * 10 + c .before .digit .result) 18446744073709551615 (omega arith))
+returns c = rw (← c .before .before .before .is-digit .ensures, c .before .before .if1 .taken, ← c .before .digit .ensures .0, le-leb (c .before .before .before .before .args .value * 10 + c .before .digit .result) LARGEST (omega arith))
 
 returns-2 : tie.Need-returns-2
 unfolding moreDigits
-returns-2 c = rw (← c .before .before .before .is-digit .ensures, c .before .before .if1 .taken, ← c .before .digit .ensures .0, lt-leb (c .before .before .before .before .args .value * 10 + c .before .digit .result) 18446744073709551615 (omega arith))
+returns-2 c = rw (← c .before .before .before .is-digit .ensures, c .before .before .if1 .taken, ← c .before .digit .ensures .0, lt-leb (c .before .before .before .before .args .value * 10 + c .before .digit .result) LARGEST (omega arith))
 
 returns-3 : tie.Need-returns-3
 unfolding moreDigits

@@ -1,4 +1,3 @@
-use borrow.Author.Needs.{needs}
 use borrow.Author.Tests.{eq-eqb, ne-eqb}
 use Rattle.script.proofs.takes_idle.Statement.{statement}
 use Rattle.script.proofs.takes_idle.Tie as tie
