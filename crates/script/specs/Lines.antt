@@ -42,7 +42,7 @@ abbrev pub withoutComment : List ℕ → List ℕ
 withoutComment [] = []
 withoutComment (b ∷ rest) = if eqb b HASH then [] else b ∷ withoutComment rest
 
--- ---- its words, parted by blanks, where the bytes before it begin a word: w
+-- ---- its words, parted by blanks, where w is the beginning of a word that stands before the bytes
 abbrev pub whole : List ℕ → List (List ℕ)
 whole [] = []
 whole (b ∷ w) = (b ∷ w) ∷ []
@@ -51,7 +51,7 @@ abbrev pub wordsFrom : List ℕ → List ℕ → List (List ℕ)
 wordsFrom w [] = whole w
 wordsFrom w (b ∷ rest) = if isBlank b then whole w ++ wordsFrom [] rest else wordsFrom (w ++ b ∷ []) rest
 
--- ---- what a word says: digits a number, if 64 bits hold it, and four words are known
+-- ---- what a word says: digits are a number, if 64 bits hold it, and four words are known
 abbrev pub allDigits : List ℕ → Bool
 allDigits [] = true
 allDigits (b ∷ w) = if isDigit b then allDigits w else false

@@ -87,13 +87,14 @@ pub enum Kind {
     BadLine,
 }
 
-// The words so far: count numbers, and 0 for the others.
+// The words so far: count numbers, and 0 in the other places.
 pub struct Words {
     pub kind: Kind,
     pub count: usize,
     pub numbers: [u64; 8],
 }
 
+// The text so far: its whole words, and the word under way.
 pub struct Text {
     pub words: Words,
     pub part: Part,
