@@ -1,0 +1,24 @@
+use borrow.Author.Needs.{needs}
+use Rattle.script.specs.Steps.{ended}
+use Rattle.script.proofs.ended.Statement.{statement}
+use Rattle.script.proofs.ended.Tie as tie
+
+begun-requires : tie.Need-begun-requires
+begun-requires c κs = search needs
+
+said-requires : tie.Need-said-requires
+said-requires c κs = search needs
+
+added-requires : tie.Need-added-requires
+added-requires c κs = search needs
+
+returns : tie.Need-returns
+unfolding ended
+returns c = rw (c .added .ensures, c .before .said .ensures, ← c .before .before .before .begun .ensures, c .before .before .if1 .taken)
+
+returns-2 : tie.Need-returns-2
+unfolding ended
+returns-2 c = rw (← c .before .begun .ensures, c .if1 .left)
+
+pub ended-spec : {M : Type 1} → statement M
+ended-spec = tie.close (tie.spec begun-requires said-requires added-requires returns returns-2)
