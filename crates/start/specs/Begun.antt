@@ -32,8 +32,8 @@ began answer m sets pairs cpuMap cpuWalker cpuCache dmaMap dmaWalker dmaCache me
     record { answer = answer; state = stateOf m sets pairs cpuMap cpuWalker cpuCache dmaMap dmaWalker dmaCache memory }
 
 -- as many words, all of them 0
-abbrev pub cleared : List ℕ → List ℕ
-cleared ws = replicate (length ws) 0
+abbrev pub zeros : List ℕ → List ℕ
+zeros ws = replicate (length ws) 0
 
 -- the header of the machine that is told
 abbrev pub freshHeader : Told → Machine

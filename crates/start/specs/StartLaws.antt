@@ -31,7 +31,6 @@ use Rattle.model.specs.Start.{
   countTold,
   unitTold,
   unitsFrom,
-  unitsTold,
   badField,
   badSpan,
   lengthsGood,
@@ -44,7 +43,7 @@ use Rattle.model.specs.Start.{
   start,
 }
 use Rattle.model.specs.declared.Machine.{Machine}
-use Rattle.start.specs.Begun.{began, cleared, freshHeader, emptyHeader}
+use Rattle.start.specs.Begun.{began, zeros, freshHeader, emptyHeader}
 
 -- ---- tests in another order
 pub both-hold : (x a b : Bool) → not (a && b) ≡ false → x ≡ (x && a && b)
@@ -173,6 +172,18 @@ start-passed t l e =
     }
 
 -- ---- the machine of each header
+-- the answer, with the fresh header, every page at home, and all else zeros
+abbrev anew : Told → Lent → Answer → Started
+anew t l answer =
+    began answer (freshHeader t) (repeat (firstHome (t .sharedBase) (t .sharedCount)) 0 (t .pages) (zeros (l .sets))) (zeros (l .pairs)) (zeros (l .cpuMap)) (zeros (l .cpuWalker)) (zeros (l .cpuCache)) (zeros (l .dmaMap)) (zeros (l .dmaWalker)) (zeros (l .dmaCache)) (zeros (l .memory))
+
+-- that is the fresh state where the lengths are right
+anew-fresh : (t : Told) (l : Lent) (answer : Answer) → Passed t l → anew t l answer ≡ record { answer = answer; state = freshState t }
+unfolding freshState
+anew-fresh t l answer p =
+    λ i.
+    began answer (freshHeader t) (repeat (firstHome (t .sharedBase) (t .sharedCount)) 0 (t .pages) (replicate (p .sets-length i) 0)) (replicate (p .pairs-length i) 0) (replicate (p .cpu-map-length i) 0) (replicate (p .cpu-walker-length i) 0) (replicate (p .cpu-cache-length i) 0) (replicate (p .dma-map-length i) 0) (replicate (p .dma-walker-length i) 0) (replicate (p .dma-cache-length i) 0) (replicate (p .memory-length i) 0)
+
 module _ (t : Told) (l : Lent) (answer : Answer) (m : Machine) (e : answer ≡ startAnswer t l) where
   -- refused, with what was lent as it was
   pub start-refused : (refusal : Refusal) (index : ℕ) → answer ≡ Refused refusal index → m ≡ emptyHeader →
@@ -180,31 +191,23 @@ module _ (t : Told) (l : Lent) (answer : Answer) (m : Machine) (e : answer ≡ s
   unfolding start emptyState
   start-refused refusal index q h = rw (h, ← e, q)
 
-  -- accepted, with every page at home and all else cleared
+  -- accepted, with each list as it is left
   pub record Fresh (sets pairs cpuMap cpuWalker cpuCache dmaMap dmaWalker dmaCache memory : List ℕ) : Type 0 where
     pub header-is : m ≡ freshHeader t
-    pub sets-are : sets ≡ repeat (firstHome (t .sharedBase) (t .sharedCount)) 0 (t .pages) (cleared (l .sets))
-    pub pairs-are : pairs ≡ cleared (l .pairs)
-    pub cpu-map-is : cpuMap ≡ cleared (l .cpuMap)
-    pub cpu-walker-is : cpuWalker ≡ cleared (l .cpuWalker)
-    pub cpu-cache-is : cpuCache ≡ cleared (l .cpuCache)
-    pub dma-map-is : dmaMap ≡ cleared (l .dmaMap)
-    pub dma-walker-is : dmaWalker ≡ cleared (l .dmaWalker)
-    pub dma-cache-is : dmaCache ≡ cleared (l .dmaCache)
-    pub memory-is : memory ≡ cleared (l .memory)
+    pub sets-are : sets ≡ repeat (firstHome (t .sharedBase) (t .sharedCount)) 0 (t .pages) (zeros (l .sets))
+    pub pairs-are : pairs ≡ zeros (l .pairs)
+    pub cpu-map-is : cpuMap ≡ zeros (l .cpuMap)
+    pub cpu-walker-is : cpuWalker ≡ zeros (l .cpuWalker)
+    pub cpu-cache-is : cpuCache ≡ zeros (l .cpuCache)
+    pub dma-map-is : dmaMap ≡ zeros (l .dmaMap)
+    pub dma-walker-is : dmaWalker ≡ zeros (l .dmaWalker)
+    pub dma-cache-is : dmaCache ≡ zeros (l .dmaCache)
+    pub memory-is : memory ≡ zeros (l .memory)
 
   pub start-accepted : (sets pairs cpuMap cpuWalker cpuCache dmaMap dmaWalker dmaCache memory : List ℕ) (dropped word : ℕ) → answer ≡ Accepted dropped word →
       Fresh sets pairs cpuMap cpuWalker cpuCache dmaMap dmaWalker dmaCache memory → began answer m sets pairs cpuMap cpuWalker cpuCache dmaMap dmaWalker dmaCache memory ≡ start t l
-  unfolding start freshState
-  start-accepted sets pairs cpuMap cpuWalker cpuCache dmaMap dmaWalker dmaCache memory dropped word q f = left ∙ (right (start-passed t l (sym e ∙ q)) ∙ answered)
-    where
-      left : began answer m sets pairs cpuMap cpuWalker cpuCache dmaMap dmaWalker dmaCache memory ≡ began (Accepted dropped word) (freshHeader t) (repeat (firstHome (t .sharedBase) (t .sharedCount)) 0 (t .pages) (cleared (l .sets))) (cleared (l .pairs)) (cleared (l .cpuMap)) (cleared (l .cpuWalker)) (cleared (l .cpuCache)) (cleared (l .dmaMap)) (cleared (l .dmaWalker)) (cleared (l .dmaCache)) (cleared (l .memory))
-      left = λ i. began (q i) (f .header-is i) (f .sets-are i) (f .pairs-are i) (f .cpu-map-is i) (f .cpu-walker-is i) (f .cpu-cache-is i) (f .dma-map-is i) (f .dma-walker-is i) (f .dma-cache-is i) (f .memory-is i)
-
-      right : Passed t l → began (Accepted dropped word) (freshHeader t) (repeat (firstHome (t .sharedBase) (t .sharedCount)) 0 (t .pages) (cleared (l .sets))) (cleared (l .pairs)) (cleared (l .cpuMap)) (cleared (l .cpuWalker)) (cleared (l .cpuCache)) (cleared (l .dmaMap)) (cleared (l .dmaWalker)) (cleared (l .dmaCache)) (cleared (l .memory)) ≡ record { answer = Accepted dropped word; state = freshState t }
-      right p =
-          λ i.
-          began (Accepted dropped word) (freshHeader t) (repeat (firstHome (t .sharedBase) (t .sharedCount)) 0 (t .pages) (replicate (p .sets-length i) 0)) (replicate (p .pairs-length i) 0) (replicate (p .cpu-map-length i) 0) (replicate (p .cpu-walker-length i) 0) (replicate (p .cpu-cache-length i) 0) (replicate (p .dma-map-length i) 0) (replicate (p .dma-walker-length i) 0) (replicate (p .dma-cache-length i) 0) (replicate (p .memory-length i) 0)
-
-      answered : record { answer = Accepted dropped word; state = freshState t } ≡ start t l
-      answered = ap (λ (a : Answer). record { answer = a; state = kept a (emptyState l) (freshState t) }) (sym q ∙ e)
+  unfolding start
+  start-accepted sets pairs cpuMap cpuWalker cpuCache dmaMap dmaWalker dmaCache memory dropped word q f =
+      let left : began answer m sets pairs cpuMap cpuWalker cpuCache dmaMap dmaWalker dmaCache memory ≡ anew t l (Accepted dropped word) =
+      λ i. began (q i) (f .header-is i) (f .sets-are i) (f .pairs-are i) (f .cpu-map-is i) (f .cpu-walker-is i) (f .cpu-cache-is i) (f .dma-map-is i) (f .dma-walker-is i) (f .dma-cache-is i) (f .memory-is i) in
+      left ∙ (anew-fresh t l (Accepted dropped word) (start-passed t l (sym e ∙ q)) ∙ ap (λ (a : Answer). record { answer = a; state = kept a (emptyState l) (freshState t) }) (sym q ∙ e))

@@ -7,8 +7,8 @@ ghost use lib.ListN.{length, replicate};
 ghost use Rattle.numbers.specs.Limits.{PAGES, SETS, SET-WORDS, UNITS};
 ghost use Rattle.table.specs.Scan.{anyBelow, repeat};
 ghost use Rattle.units.specs.Units.{noUnit};
-ghost use Rattle.model.specs.Start.{UNIT-NUMBERS, countTold, numberTold, unitTold, unitsTold, badField, badSpan, lengthsGood, startAnswer, firstHome, freshSets, start};
-ghost use Rattle.start.specs.Begun.{told, lent, began, cleared, freshHeader, emptyHeader};
+ghost use Rattle.model.specs.Start.{UNIT-NUMBERS, countTold, numberTold, unitTold, unitsTold, badField, badSpan, lengthsGood, startAnswer, firstHome, start};
+ghost use Rattle.start.specs.Begun.{told, lent, began, zeros, freshHeader, emptyHeader};
 use model::Machine;
 use numbers::ACCESSES;
 use numbers::Answer;
@@ -270,7 +270,7 @@ fn first_home(sets: &mut [u64], shared_base: u64, shared_count: u64, page: PhysP
 
 fn fresh_sets(sets: &mut [u64], pages: u64, shared_base: u64, shared_count: u64)
     requires { ⌜ (pages ≤ PAGES) × («shared_base» + «shared_count» ≤ pages) × (length (now sets) ≡ SETS * SET-WORDS) ⌝ }
-    ensures { λ _. ⌜ now (sets .exit) ≡ repeat (firstHome «shared_base» «shared_count») 0 pages (cleared (now (sets .entry))) ⌝ }
+    ensures { λ _. ⌜ now (sets .exit) ≡ repeat (firstHome «shared_base» «shared_count») 0 pages (zeros (now (sets .entry))) ⌝ }
 {
     access::clear_words(sets);
     let mut page = 0;
@@ -282,7 +282,7 @@ fn fresh_sets(sets: &mut [u64], pages: u64, shared_base: u64, shared_count: u64)
 
 // Every entry and every slot of a side becomes empty.
 fn clear_route(map: &mut [u64], walker: &mut [u64], cache: &mut [u64])
-    ensures { λ _. ⌜ (now (map .exit) ≡ cleared (now (map .entry))) × (now (walker .exit) ≡ cleared (now (walker .entry))) × (now (cache .exit) ≡ cleared (now (cache .entry))) ⌝ }
+    ensures { λ _. ⌜ (now (map .exit) ≡ zeros (now (map .entry))) × (now (walker .exit) ≡ zeros (now (walker .entry))) × (now (cache .exit) ≡ zeros (now (cache .entry))) ⌝ }
 {
     access::clear_words(map);
     access::clear_words(walker);

@@ -1,3 +1,4 @@
+-- `start::start` meets its contract. Refused, it has lent everything to be read only; accepted, each list comes back as one call left it.
 use borrow.Author.Needs.{needs}
 use mathlib.Core.Path.{sym, _∙_}
 use Rattle.start.specs.StartLaws.{start-passed, start-refused, start-accepted}
