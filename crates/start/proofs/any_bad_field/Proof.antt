@@ -1,0 +1,48 @@
+use borrow.Author.Needs.{needs}
+use Prim.Native.Nat.{_-_}
+use mathlib.Core.Path.{sym, _∙_}
+use Rattle.table.specs.Loops.{Trying, try-start, try-next, try-yes, try-no}
+use Rattle.model.specs.Start.{countTold, badField}
+use Rattle.start.proofs.any_bad_field.Statement.{statement}
+use Rattle.start.proofs.any_bad_field.Tie as tie
+
+abbrev Inv-loop : tie.InvT-loop
+Inv-loop units count k₀ k = Trying (badField units) (countTold units) k
+
+abbrev μ-loop : tie.MeasureT-loop
+μ-loop units count k₀ k = count - k
+
+loop-holds : tie.Need-loop-holds Inv-loop μ-loop
+loop-holds c = try-start _ _
+
+bad-field-requires : tie.Need-bad-field-requires Inv-loop μ-loop
+bad-field-requires c κs = search needs
+
+returns : tie.Need-returns Inv-loop μ-loop
+returns c = try-yes _ _ _ (c .before .before .before .loop .inv) (c .before .before .loop-test .taken) (sym (c .before .bad-field .ensures) ∙ c .if1 .taken)
+
+add-k : tie.Need-add-k Inv-loop μ-loop
+add-k c = search needs
+
+loop-less : tie.Need-loop-less Inv-loop μ-loop
+loop-less c = search needs
+
+loop-again : tie.Need-loop-again Inv-loop μ-loop
+loop-again c = try-next _ _ _ (c .before .before .before .loop .inv) (c .before .before .loop-test .taken) (sym (c .before .bad-field .ensures) ∙ c .if1 .left)
+
+returns-2 : tie.Need-returns-2 Inv-loop μ-loop
+returns-2 c = try-no _ _ _ (c .before .loop .inv) (c .loop-test .left)
+
+pub any-bad-field-spec : {M : Type 1} → statement M
+any-bad-field-spec =
+    tie.close
+    (tie.spec
+    Inv-loop
+    μ-loop
+    loop-holds
+    bad-field-requires
+    returns
+    add-k
+    loop-less
+    loop-again
+    returns-2)
