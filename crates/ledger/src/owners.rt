@@ -47,7 +47,7 @@ fn clear_given_up(sets: &[u64], memory: &mut [u64], vm: VmId, page: PhysPage)
     access::clear_page(memory, page);
 }
 
-// Operation 4: back to the pool.
+// Operation 4: back to the pool, once no CPU mapping targets the page and no edge names it.
 pub fn reclaim_page(
     known: u64,
     pages: u64,

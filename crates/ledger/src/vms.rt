@@ -37,7 +37,7 @@ pub fn add_vm(known: u64, vm: VmId) -> Changed
     Changed { answer, known }
 }
 
-// Operation 2: the VM may have no pages, mappings, edges, CPU or device.
+// Operation 2: refused while the VM has pages, mappings or edges, or is on a CPU or a device.
 pub fn remove_vm(
     known: u64,
     sets: &[u64],
