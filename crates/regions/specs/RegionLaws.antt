@@ -1,0 +1,74 @@
+-- What the region operations ask of a region that passed the early checks, and laws of their searches.
+use Prim.Native.Nat.{ℕ, zero, suc, _+_, _≤_, _<_}
+use mathlib.Core.Bool.{Bool, true, false, _||_}
+use mathlib.Core.List.{List, []}
+use mathlib.Core.Logic.{_⊎_, inl, inr}
+use mathlib.Core.Path.{_≡_, refl, sym}
+use lib.ListN.{length, getD, take}
+use lib.Seq.{getD-take, length-take-le}
+use Rattle.numbers.specs.Limits.{VMS, ACCESSES, GUEST-PAGES, PAGES}
+use Rattle.numbers.specs.declared.Side.{Side}
+use Rattle.numbers.specs.declared.Side.the-variants.{Cpu, Dma}
+use Rattle.numbers.specs.Packing.{keyOf}
+use Rattle.table.specs.Scan.{any, lowest, lowestFrom}
+use Rattle.table.specs.Table.{find, lookup, hasKey}
+use Rattle.table.specs.Loops.{Asking, ask-next, ask-yes, ask-no, Seeking, seek-found, seek-none}
+use Rattle.units.specs.declared.Region.{Region}
+use Rattle.model.specs.Views.{edgeOn}
+use Rattle.model.specs.Regions.{inUse}
+
+-- every number of the region is in range
+pub record Placed (region : Region) : Type 0 where
+  pub vm-ok : region .vm .0 < VMS
+  pub access-ok : region .access < ACCESSES
+  pub guest-ok : region .guest .0 + region .count ≤ GUEST-PAGES
+  pub page-ok : region .page .0 + region .count ≤ PAGES
+
+-- ---- edges
+-- the pairs whose edges hold a page back: for DMA none do
+abbrev pub binding : Side → List ℕ → List ℕ
+binding Cpu pairs = pairs
+binding Dma pairs = []
+
+-- they are the first `edges` pairs
+pub record Binding (side : Side) (pairs : List ℕ) (edges : ℕ) : Type 0 where
+  pub few : edges ≤ length pairs
+  pub part : take edges pairs ≡ binding side pairs
+
+or-false : (t : Bool) → (t || false) ≡ t
+or-false true = refl
+or-false false = refl
+
+alike : (p q : ℕ → Bool) → ((k : ℕ) → p k ≡ q k) → (i n : ℕ) → lowestFrom p i n ≡ lowestFrom q i n
+alike p q e i zero = refl
+alike p q e i (suc n) = rw (e i, alike p q e (suc i) n)
+
+module _ (map : List ℕ) (region : Region) where
+  as-cpu : (side : Side) (pairs : List ℕ) (n : ℕ) → lowest (inUse Cpu (binding side pairs) map region) n ≡ lowest (inUse side pairs map region) n
+  unfolding edgeOn
+  as-cpu Cpu pairs n = refl
+  as-cpu Dma pairs n = alike (inUse Cpu [] map region) (inUse Dma pairs map region) (λ k. or-false _) 0 n
+
+  -- one search serves both sides: over the pairs that bind, as if for CPU
+  pub in-use-binding : {side : Side} {pairs : List ℕ} {edges : ℕ} → Binding side pairs edges →
+      lowest (inUse Cpu (take edges pairs) map region) (region .count) ≡ lowest (inUse side pairs map region) (region .count)
+  in-use-binding {side} {pairs} b = rw (b .part) (as-cpu side pairs (region .count))
+
+-- asks whether one of the pairs that bind passes
+module _ (p : ℕ → Bool) {side : Side} {pairs : List ℕ} {edges : ℕ} (b : Binding side pairs edges) where
+  pub part-next : (i : ℕ) → Asking p (take edges pairs) i → i < edges → p (getD pairs i 0) ≡ false → Asking p (take edges pairs) (i + 1)
+  part-next i r h e = ask-next p (take edges pairs) i r (rw (length-take-le edges pairs (b .few)) h) (rw (getD-take edges pairs i 0 h) e)
+
+  pub part-yes : (i : ℕ) → Asking p (take edges pairs) i → i < edges → p (getD pairs i 0) ≡ true → any p (take edges pairs) ≡ true
+  part-yes i r h e = sym (ask-yes p (take edges pairs) i r (rw (length-take-le edges pairs (b .few)) h) (rw (getD-take edges pairs i 0 h) e))
+
+  pub part-no : (i : ℕ) → Asking p (take edges pairs) i → edges ≤ i → any p (take edges pairs) ≡ false
+  part-no i r h = sym (ask-no p (take edges pairs) i r (rw (length-take-le edges pairs (b .few)) h))
+
+-- ---- the word of a key
+-- a search that ended past the words, or at the first of them with the key, leaves the key's word
+pub seek-word : (key : ℕ) (ws : List ℕ) (i word : ℕ) → Seeking (hasKey keyOf key) ws i →
+    ((length ws ≤ i) × (word ≡ 0)) ⊎ ((i < length ws) × (hasKey keyOf key (getD ws i 0) ≡ true) × (word ≡ getD ws i 0)) → word ≡ lookup keyOf ws key
+unfolding lookup find
+seek-word key ws i word r (inl w) = rw (← seek-none _ _ _ r (w .0)) (w .1)
+seek-word key ws i word r (inr w) = rw (← seek-found _ _ _ r (w .0) (w .1)) (w .2)
