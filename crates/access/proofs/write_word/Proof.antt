@@ -1,0 +1,59 @@
+-- `access::write_word` meets its contract. A store past the end of memory changes nothing.
+use borrow.Author.Needs.{needs}
+use mathlib.Core.Path.{refl, sym}
+use lib.Seq.{set-out}
+use Rattle.model.specs.Effect.{apply, stored, clearedPages}
+use Rattle.access.proofs.write_word.Statement.{statement}
+use Rattle.access.proofs.write_word.Tie as tie
+
+reach-requires : tie.Need-reach-requires
+reach-requires c κs = search needs
+
+enum-known-reached : tie.Need-enum-known-reached
+enum-known-reached c = search needs
+
+enum-known-reached-2 : tie.Need-enum-known-reached-2
+enum-known-reached-2 c = search needs
+
+mul-memory : tie.Need-mul-memory
+mul-memory c = search needs
+
+slice-write-memory : tie.Need-slice-write-memory
+slice-write-memory c = search needs
+
+returns : tie.Need-returns
+unfolding apply clearedPages
+returns c = rw (← c .before .before .before .reach .ensures .0, c .before .reached .given .1) (refl, refl)
+
+same-length : tie.Need-same-length
+same-length c = search needs
+
+returns-2 : tie.Need-returns-2
+unfolding apply stored
+returns-2 c =
+    let m = c .before .before in
+    let e = m .before .before .reach .ensures in
+    let p = rw (← e .0, m .reached2 .given .1) at (e .1) in
+    rw (← e .0, m .reached2 .given .1, ← p) (refl, refl)
+
+returns-3 : tie.Need-returns-3
+unfolding apply stored
+returns-3 c =
+    let m = c .before .before in
+    let e = m .before .before .reach .ensures in
+    let p = rw (← e .0, m .reached2 .given .1) at (e .1) in
+    rw (← e .0, m .reached2 .given .1, ← p) (refl, sym (set-out _ _ _ (c .if1 .left)))
+
+pub write-word-spec : {M : Type 1} → statement M
+write-word-spec =
+    tie.close
+    (tie.spec
+    reach-requires
+    enum-known-reached
+    enum-known-reached-2
+    mul-memory
+    slice-write-memory
+    returns
+    same-length
+    returns-2
+    returns-3)

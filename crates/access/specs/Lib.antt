@@ -1,0 +1,3 @@
+-- What an access reads and writes, and the laws of memory.
+pub mod Words
+pub mod MemoryLaws
