@@ -1,12 +1,15 @@
 -- What the region operations ask of a region that passed the early checks, and laws of their searches.
-use Prim.Native.Nat.{ℕ, zero, suc, _+_, _≤_, _<_}
+use Prim.Native.Nat.{ℕ, zero, suc, _+_, _-_, _≤_, _<_}
 use mathlib.Core.Bool.{Bool, true, false, _||_}
 use mathlib.Core.List.{List, []}
 use mathlib.Core.Logic.{_⊎_, inl, inr}
-use mathlib.Core.Path.{_≡_, refl, sym}
+use mathlib.Core.Path.{_≡_, refl, sym, _∙_}
+use native.Mathlib.Numerals.{add-one}
+use native.Mathlib.Omega.{arith}
 use lib.ListN.{length, getD, take}
 use lib.Seq.{getD-take, length-take-le}
 use Rattle.numbers.specs.Limits.{VMS, ACCESSES, GUEST-PAGES, PAGES}
+use Rattle.numbers.specs.declared.Answer.the-variants.{Accepted}
 use Rattle.numbers.specs.declared.Side.{Side}
 use Rattle.numbers.specs.declared.Side.the-variants.{Cpu, Dma}
 use Rattle.numbers.specs.Packing.{keyOf}
@@ -14,8 +17,10 @@ use Rattle.table.specs.Scan.{any, lowest, lowestFrom}
 use Rattle.table.specs.Table.{find, lookup, hasKey}
 use Rattle.table.specs.Loops.{Asking, ask-next, ask-yes, ask-no, Seeking, seek-found, seek-none}
 use Rattle.units.specs.declared.Region.{Region}
-use Rattle.model.specs.Views.{edgeOn}
-use Rattle.model.specs.Regions.{inUse}
+use Rattle.model.specs.Views.{edgeOn, claims, otherSide}
+use Rattle.model.specs.Effect.{clearPage, clearedPages}
+use Rattle.model.specs.EarlyLaws.{region-passed}
+use Rattle.model.specs.Regions.{regionEarly, inUse, pageIn, removeClears, removeClearsFrom}
 
 -- every number of the region is in range
 pub record Placed (region : Region) : Type 0 where
@@ -23,6 +28,11 @@ pub record Placed (region : Region) : Type 0 where
   pub access-ok : region .access < ACCESSES
   pub guest-ok : region .guest .0 + region .count ≤ GUEST-PAGES
   pub page-ok : region .page .0 + region .count ≤ PAGES
+
+pub region-placed : (known pages : ℕ) (region : Region) {dropped word : ℕ} → pages ≤ PAGES → regionEarly known pages region ≡ Accepted dropped word → Placed region
+region-placed known pages region h e =
+    let r = region-passed known pages region e in
+    record { vm-ok = r .vm-ok; access-ok = r .access-ok; guest-ok = r .guest-ok; page-ok = omega arith }
 
 -- ---- edges
 -- the pairs whose edges hold a page back: for DMA none do
@@ -72,3 +82,31 @@ pub seek-word : (key : ℕ) (ws : List ℕ) (i word : ℕ) → Seeking (hasKey k
 unfolding lookup find
 seek-word key ws i word r (inl w) = rw (← seek-none _ _ _ r (w .0)) (w .1)
 seek-word key ws i word r (inr w) = rw (← seek-found _ _ _ r (w .0) (w .1)) (w .2)
+
+-- ---- clears the pages of a region that no claim is left on: those before k are done
+pub record Clearing (side : Side) (sets : List ℕ) (region : Region) (start now : List ℕ) (k : ℕ) : Type 0 where
+  pub place : k ≤ region .count
+  pub same : length now ≡ length start
+  pub rest : clearedPages (removeClears side sets region) start ≡ clearedPages (removeClearsFrom side sets region k (region .count - k)) now
+
+module _ (side : Side) (sets : List ℕ) (region : Region) (start : List ℕ) where
+  pub clear-start : Clearing side sets region start start 0
+  unfolding removeClears
+  clear-start = record { place = omega arith; same = refl; rest = let z : region .count - 0 ≡ region .count = omega arith in rw z }
+
+  pub clear-hit : (now next : List ℕ) (k : ℕ) → Clearing side sets region start now k → k < region .count → length next ≡ length now →
+      claims (otherSide side) sets (region .vm .0) (pageIn region k) ≡ false → next ≡ clearPage now (pageIn region k) → Clearing side sets region start next (k + 1)
+  unfolding clearedPages
+  clear-hit now next k r h l t e =
+      let z : region .count - k ≡ suc (region .count - (k + 1)) = omega arith in
+      record { place = omega arith; same = l ∙ r .same; rest = r .rest ∙ rw (z, t, e, add-one k) }
+
+  pub clear-miss : (now : List ℕ) (k : ℕ) → Clearing side sets region start now k → k < region .count →
+      claims (otherSide side) sets (region .vm .0) (pageIn region k) ≡ true → Clearing side sets region start now (k + 1)
+  clear-miss now k r h t =
+      let z : region .count - k ≡ suc (region .count - (k + 1)) = omega arith in
+      record { place = omega arith; same = r .same; rest = r .rest ∙ rw (z, t, add-one k) }
+
+  pub clear-end : (now : List ℕ) (k : ℕ) → Clearing side sets region start now k → region .count ≤ k → now ≡ clearedPages (removeClears side sets region) start
+  unfolding clearedPages
+  clear-end now k r h = let z : region .count - k ≡ 0 = omega arith in rw (r .rest, z)
