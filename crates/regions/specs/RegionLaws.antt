@@ -9,7 +9,6 @@ use native.Mathlib.Omega.{arith}
 use lib.ListN.{length, getD, take}
 use lib.Seq.{getD-take, length-take-le}
 use Rattle.numbers.specs.Limits.{VMS, ACCESSES, GUEST-PAGES, PAGES}
-use Rattle.numbers.specs.declared.Answer.the-variants.{Accepted}
 use Rattle.numbers.specs.declared.Side.{Side}
 use Rattle.numbers.specs.declared.Side.the-variants.{Cpu, Dma}
 use Rattle.numbers.specs.Packing.{keyOf}
@@ -19,8 +18,8 @@ use Rattle.table.specs.Loops.{Asking, ask-next, ask-yes, ask-no, Seeking, seek-
 use Rattle.units.specs.declared.Region.{Region}
 use Rattle.model.specs.Views.{edgeOn, claims, otherSide}
 use Rattle.model.specs.Effect.{clearPage, clearedPages}
-use Rattle.model.specs.EarlyLaws.{region-passed}
-use Rattle.model.specs.Regions.{regionEarly, inUse, pageIn, removeClears, removeClearsFrom}
+use Rattle.model.specs.EarlyLaws.{RegionPassed}
+use Rattle.model.specs.Regions.{inUse, pageIn, removeClears, removeClearsFrom}
 
 -- every number of the region is in range
 pub record Placed (region : Region) : Type 0 where
@@ -29,10 +28,8 @@ pub record Placed (region : Region) : Type 0 where
   pub guest-ok : region .guest .0 + region .count ≤ GUEST-PAGES
   pub page-ok : region .page .0 + region .count ≤ PAGES
 
-pub region-placed : (known pages : ℕ) (region : Region) {dropped word : ℕ} → pages ≤ PAGES → regionEarly known pages region ≡ Accepted dropped word → Placed region
-region-placed known pages region h e =
-    let r = region-passed known pages region e in
-    record { vm-ok = r .vm-ok; access-ok = r .access-ok; guest-ok = r .guest-ok; page-ok = omega arith }
+pub region-placed : {known pages : ℕ} {region : Region} → pages ≤ PAGES → RegionPassed known pages region → Placed region
+region-placed h r = record { vm-ok = r .vm-ok; access-ok = r .access-ok; guest-ok = r .guest-ok; page-ok = omega arith }
 
 -- ---- edges
 -- the pairs whose edges hold a page back: for DMA none do

@@ -91,3 +91,53 @@ pub fn insert_region(
     edits::install(walker, region);
     accept(0)
 }
+
+// 12, 14: the region's pages leave the VM's pages of the side, their entries both maps and their slots the cache.
+// A page on which the VM has no claim left is cleared.
+pub fn remove_region(
+    side: Side,
+    known: u64,
+    pages: u64,
+    units: [Unit; 32],
+    unit_count: u64,
+    sets: &mut [u64],
+    pairs: &[u64],
+    map: &mut [u64],
+    walker: &mut [u64],
+    cache: &mut [u64],
+    memory: &mut [u64],
+    region: Region,
+) -> Answer
+    requires { ⌜ (pages ≤ PAGES) × («unit_count» ≤ 32) × (length (now sets) ≡ SETS * SET-WORDS) × (length (now memory) ≡ PAGE-WORDS * pages) ⌝ }
+    ensures { λ r. ⌜ (r ≡ removeAnswer side known pages units «unit_count» (now (sets .entry)) (now (pairs .entry)) (now (map .entry)) (now (cache .entry)) region)
+        × (now (sets .exit) ≡ kept (removeAnswer side known pages units «unit_count» (now (sets .entry)) (now (pairs .entry)) (now (map .entry)) (now (cache .entry)) region) (now (sets .entry)) (removeSets side (now (sets .entry)) region))
+        × (now (map .exit) ≡ kept (removeAnswer side known pages units «unit_count» (now (sets .entry)) (now (pairs .entry)) (now (map .entry)) (now (cache .entry)) region) (now (map .entry)) (removeTable (now (map .entry)) region))
+        × (now (walker .exit) ≡ kept (removeAnswer side known pages units «unit_count» (now (sets .entry)) (now (pairs .entry)) (now (map .entry)) (now (cache .entry)) region) (now (walker .entry)) (removeTable (now (walker .entry)) region))
+        × (now (cache .exit) ≡ kept (removeAnswer side known pages units «unit_count» (now (sets .entry)) (now (pairs .entry)) (now (map .entry)) (now (cache .entry)) region) (now (cache .entry)) (removeTable (now (cache .entry)) region))
+        × (now (memory .exit) ≡ apply (kept (removeAnswer side known pages units «unit_count» (now (sets .entry)) (now (pairs .entry)) (now (map .entry)) (now (cache .entry)) region) quiet (clears (removeClears side (now (sets .entry)) region))) (now (memory .entry))) ⌝ }
+{
+    let early = region_early(known, pages, region);
+    if let Answer::Refused { refusal, index } = early {
+        return Answer::Refused { refusal, index };
+    }
+    if !units::assignable(units, unit_count, side, region) {
+        return refuse(Refusal::NoSuchUnit, 0);
+    }
+    let missing = searches::lowest_not_held(side, sets, region);
+    if missing < region.count {
+        return refuse(Refusal::PageNotHeld, missing);
+    }
+    let other = searches::lowest_differs(map, region);
+    if other < region.count {
+        return refuse(Refusal::MappingDiffers, other);
+    }
+    let used = searches::lowest_in_use(side, pairs, map, region);
+    if used < region.count {
+        return refuse(Refusal::StillInUse, used);
+    }
+    edits::clear_pages(side, sets, memory, region);
+    edits::return_pages(side, sets, region);
+    edits::sweep(map, region);
+    edits::sweep(walker, region);
+    accept(edits::sweep(cache, region))
+}

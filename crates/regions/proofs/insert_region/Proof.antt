@@ -1,14 +1,18 @@
 use borrow.Author.Needs.{needs}
-use mathlib.Core.Path.{refl, sym, _∙_}
+use mathlib.Core.Path.{refl, sym, ap, _∙_}
 use borrow.Author.Tests.{lt-ltb, le-ltb, lt-leb, le-leb}
 use Rattle.model.specs.Regions.{insertAnswer}
+use Rattle.model.specs.EarlyLaws.{RegionPassed, region-passed}
 use Rattle.regions.specs.RegionLaws.{Placed, region-placed}
 use Rattle.regions.proofs.insert_region.Statement.{statement}
 use Rattle.regions.proofs.insert_region.Tie as tie
 
 -- past the early checks every number of the region is in range
+passed : (x : tie.After-enum-told) → RegionPassed (x .before .before .before .before .before .before .args .known) (x .before .before .before .before .before .before .args .pages) (x .before .before .before .before .before .before .args .region)
+passed x = region-passed _ _ _ (sym (x .before .before .region-early .ensures) ∙ x .enum-told .given .1)
+
 placed : (x : tie.After-enum-told) → Placed (x .before .before .before .before .before .before .args .region)
-placed x = region-placed _ _ _ (x .before .before .before .before .before .before .pre .0) (sym (x .before .before .region-early .ensures) ∙ x .enum-told .given .1)
+placed x = region-placed (x .before .before .before .before .before .before .pre .0) (passed x)
 
 region-early-requires : tie.Need-region-early-requires
 region-early-requires c κs = search needs
@@ -117,7 +121,7 @@ same-length-10 c = search needs
 
 returns-7 : tie.Need-returns-7
 unfolding insertAnswer
-returns-7 c = rw (← c .before .before .before .before .before .before .before .before .before .before .before .before .before .before .before .before .before .before .before .before .before .before .before .before .before .before .before .before .before .before .before .before .before .region-early .ensures, c .before .before .before .before .before .before .before .before .before .before .before .before .before .before .before .before .before .before .before .before .before .before .before .before .before .before .before .before .before .before .before .enum-told .given .1, ← c .before .before .before .before .before .before .before .before .before .before .before .before .before .before .before .before .before .before .before .before .before .before .before .before .before .before .before .before .before .before .assignable .ensures, c .before .before .before .before .before .before .before .before .before .before .before .before .before .before .before .before .before .before .before .before .before .before .before .before .before .before .before .before .before .if1 .left, ← c .before .before .before .before .before .before .before .before .before .before .before .before .before .before .before .before .before .before .before .before .before .before .before .before .before .before .before .lowest-not-free .ensures, le-ltb _ _ (c .before .before .before .before .before .before .before .before .before .before .before .before .before .before .before .before .before .before .before .before .before .before .before .before .before .if2 .left), ← c .before .before .before .before .before .before .before .before .before .before .before .before .before .before .before .before .before .before .before .before .before .before .before .lowest-present .ensures, le-ltb _ _ (c .before .before .before .before .before .before .before .before .before .before .before .before .before .before .before .before .before .before .before .before .before .if3 .left), ← c .before .before .before .before .before .before .before .before .before .before .before .before .before .before .before .before .before .before .before .lowest-claimed .ensures, le-ltb _ _ (c .before .before .before .before .before .before .before .before .before .before .before .before .before .before .before .before .before .if4 .left), ← c .before .before .before .before .before .before .before .before .before .before .before .before .before .before .before .free-entries .ensures, le-leb _ _ (c .before .before .before .before .before .before .before .before .before .before .before .before .before .if5 .left), c .accept .ensures, c .before .before .before .install2 .ensures, c .before .before .before .before .before .before .before .install .ensures, c .before .before .before .before .before .before .before .before .before .before .before .take-pages .ensures) (refl, refl, refl, refl)
+returns-7 c = rw (← c .before .before .before .before .before .before .before .before .before .before .before .before .before .before .before .before .before .before .before .before .before .before .before .before .before .before .before .before .before .before .before .before .before .region-early .ensures, c .before .before .before .before .before .before .before .before .before .before .before .before .before .before .before .before .before .before .before .before .before .before .before .before .before .before .before .before .before .before .before .enum-told .given .1, ← c .before .before .before .before .before .before .before .before .before .before .before .before .before .before .before .before .before .before .before .before .before .before .before .before .before .before .before .before .before .before .assignable .ensures, c .before .before .before .before .before .before .before .before .before .before .before .before .before .before .before .before .before .before .before .before .before .before .before .before .before .before .before .before .before .if1 .left, ← c .before .before .before .before .before .before .before .before .before .before .before .before .before .before .before .before .before .before .before .before .before .before .before .before .before .before .before .lowest-not-free .ensures, le-ltb _ _ (c .before .before .before .before .before .before .before .before .before .before .before .before .before .before .before .before .before .before .before .before .before .before .before .before .before .if2 .left), ← c .before .before .before .before .before .before .before .before .before .before .before .before .before .before .before .before .before .before .before .before .before .before .before .lowest-present .ensures, le-ltb _ _ (c .before .before .before .before .before .before .before .before .before .before .before .before .before .before .before .before .before .before .before .before .before .if3 .left), ← c .before .before .before .before .before .before .before .before .before .before .before .before .before .before .before .before .before .before .before .lowest-claimed .ensures, le-ltb _ _ (c .before .before .before .before .before .before .before .before .before .before .before .before .before .before .before .before .before .if4 .left), ← c .before .before .before .before .before .before .before .before .before .before .before .before .before .before .before .free-entries .ensures, le-leb _ _ (c .before .before .before .before .before .before .before .before .before .before .before .before .before .if5 .left)) (c .accept .ensures, c .before .before .before .before .before .before .before .before .before .before .before .take-pages .ensures, c .before .before .before .before .before .before .before .install .ensures, c .before .before .before .install2 .ensures)
 
 pub insert-region-spec : {M : Type 1} → statement M
 insert-region-spec = tie.close (tie.spec region-early-requires enum-known-early returns enum-told assignable-requires refuse-requires returns-2 lowest-not-free-requires refuse-requires-2 same-length returns-3 lowest-present-requires refuse-requires-3 same-length-2 same-length-3 returns-4 lowest-claimed-requires refuse-requires-4 same-length-4 same-length-5 returns-5 free-entries-requires refuse-requires-5 same-length-6 same-length-7 returns-6 take-pages-requires install-requires install-requires-2 accept-requires same-length-8 same-length-9 same-length-10 returns-7)
