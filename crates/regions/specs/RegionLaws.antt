@@ -2,7 +2,6 @@
 use Prim.Native.Nat.{ℕ, zero, suc, _+_, _-_, _≤_, _<_}
 use mathlib.Core.Bool.{Bool, true, false, _||_}
 use mathlib.Core.List.{List, []}
-use mathlib.Core.Logic.{_⊎_, inl, inr}
 use mathlib.Core.Path.{_≡_, refl, sym, _∙_}
 use native.Mathlib.Numerals.{add-one}
 use native.Mathlib.Omega.{arith}
@@ -11,15 +10,13 @@ use lib.Seq.{getD-take, length-take-le}
 use Rattle.numbers.specs.Limits.{VMS, ACCESSES, GUEST-PAGES, PAGES}
 use Rattle.numbers.specs.declared.Side.{Side}
 use Rattle.numbers.specs.declared.Side.the-variants.{Cpu, Dma}
-use Rattle.numbers.specs.Packing.{keyOf}
 use Rattle.table.specs.Scan.{any, lowest, lowestFrom}
-use Rattle.table.specs.Table.{find, lookup, hasKey}
-use Rattle.table.specs.Loops.{Asking, ask-next, ask-yes, ask-no, Seeking, seek-found, seek-none}
+use Rattle.table.specs.Loops.{Asking, ask-next, ask-yes, ask-no}
 use Rattle.units.specs.declared.Region.{Region}
 use Rattle.model.specs.Views.{edgeOn, claims, otherSide}
 use Rattle.model.specs.Effect.{clearPage, clearedPages}
-use Rattle.model.specs.EarlyLaws.{RegionPassed}
 use Rattle.model.specs.Regions.{inUse, pageIn, removeClears, removeClearsFrom}
+use Rattle.model.specs.EarlyLaws.{RegionPassed}
 
 -- every number of the region is in range
 pub record Placed (region : Region) : Type 0 where
@@ -71,14 +68,6 @@ module _ (p : ℕ → Bool) {side : Side} {pairs : List ℕ} {edges : ℕ} (b : 
 
   pub part-no : (i : ℕ) → Asking p (take edges pairs) i → edges ≤ i → any p (take edges pairs) ≡ false
   part-no i r h = sym (ask-no p (take edges pairs) i r (rw (length-take-le edges pairs (b .few)) h))
-
--- ---- the word of a key
--- a search that ended past the words, or at the first of them with the key, leaves the key's word
-pub seek-word : (key : ℕ) (ws : List ℕ) (i word : ℕ) → Seeking (hasKey keyOf key) ws i →
-    ((length ws ≤ i) × (word ≡ 0)) ⊎ ((i < length ws) × (hasKey keyOf key (getD ws i 0) ≡ true) × (word ≡ getD ws i 0)) → word ≡ lookup keyOf ws key
-unfolding lookup find
-seek-word key ws i word r (inl w) = rw (← seek-none _ _ _ r (w .0)) (w .1)
-seek-word key ws i word r (inr w) = rw (← seek-found _ _ _ r (w .0) (w .1)) (w .2)
 
 -- ---- clears the pages of a region that no claim is left on: those before k are done
 pub record Clearing (side : Side) (sets : List ℕ) (region : Region) (start now : List ℕ) (k : ℕ) : Type 0 where

@@ -139,13 +139,13 @@ pub fn lowest_differs(map: &[u64], region: Region) -> u64
     'region: while k < region.count {
         let key = key_in(region, k);
         let mut word = 0;
-        let mut i = 0;
-        while i < map.len() {
-            if numbers::key_of(map[i]) == key {
-                word = map[i];
+        let mut spot = 0;
+        while spot < map.len() {
+            if numbers::key_of(map[spot]) == key {
+                word = map[spot];
                 break;
             }
-            i += 1;
+            spot += 1;
         }
         if word != entry_in(region, k) {
             break 'region;

@@ -1,11 +1,11 @@
 use borrow.Author.Needs.{needs}
 use mathlib.Core.Path.{refl, sym, ap, _∙_}
+use native.Mathlib.Omega.{arith}
 use borrow.Author.Tests.{lt-ltb, le-ltb}
+use Rattle.model.specs.Effect.{apply, clearedPages, acceptedDropping}
 use Rattle.model.specs.Regions.{removeAnswer}
 use Rattle.model.specs.EarlyLaws.{RegionPassed, region-passed}
 use Rattle.regions.specs.RegionLaws.{Placed, region-placed}
-use Rattle.model.specs.Effect.{apply, clearedPages, acceptedDropping}
-use native.Mathlib.Omega.{arith}
 use Rattle.regions.proofs.remove_region.Statement.{statement}
 use Rattle.regions.proofs.remove_region.Tie as tie
 

@@ -1,8 +1,8 @@
 use borrow.Author.Needs.{needs}
 use Prim.Native.Nat.{_-_}
-use Rattle.regions.specs.RegionLaws.{Clearing, clear-start, clear-end, clear-hit, clear-miss}
-use borrow.Author.Tests.{not-true, not-false}
 use mathlib.Core.Logic.{⊎-elim}
+use borrow.Author.Tests.{not-true, not-false}
+use Rattle.regions.specs.RegionLaws.{Clearing, clear-start, clear-end, clear-hit, clear-miss}
 use Rattle.regions.proofs.edits.clear_pages.Statement.{statement}
 use Rattle.regions.proofs.edits.clear_pages.Tie as tie
 

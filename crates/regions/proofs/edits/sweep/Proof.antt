@@ -1,9 +1,9 @@
 use borrow.Author.Needs.{needs}
 use Prim.Native.Nat.{_-_}
+use mathlib.Core.Logic.{⊎-elim}
 use mathlib.Core.Path.{sym, _∙_}
 use native.Mathlib.Omega.{arith}
 use lib.ListN.{length}
-use mathlib.Core.Logic.{⊎-elim}
 use Rattle.table.specs.Loops.{Wiping, wipe-start, wipe-read, wipe-hit, wipe-miss, wipe-end, Tallying, tally-start, tally-hit, tally-miss, tally-end}
 use Rattle.model.specs.Regions.{inRegion, removeTable}
 use Rattle.regions.proofs.edits.sweep.Statement.{statement}

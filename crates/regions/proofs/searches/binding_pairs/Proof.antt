@@ -1,7 +1,7 @@
 use borrow.Author.Needs.{needs}
-use lib.Seq.{take-all}
 use mathlib.Core.Path.{refl}
 use native.Mathlib.Omega.{arith}
+use lib.Seq.{take-all}
 use lib.ListN.{length}
 use Rattle.regions.proofs.searches.binding_pairs.Statement.{statement}
 use Rattle.regions.proofs.searches.binding_pairs.Tie as tie

@@ -1,16 +1,12 @@
 use borrow.Author.Needs.{needs}
 use Prim.Native.Nat.{ℕ, _-_}
-use mathlib.Core.Path.{_∙_}
+use mathlib.Core.Bool.{_&&_}
+use mathlib.Core.Path.{_∙_, sym}
 use lib.ListN.{length, take}
 use Rattle.numbers.specs.declared.Side.the-variants.{Cpu}
-use mathlib.Core.Bool.{_&&_}
-use Rattle.table.specs.Loops.{Asking, ask-start, ask-next, Rising, rise-start}
-use Rattle.model.specs.Views.{onPage, butKey}
+use Rattle.table.specs.Loops.{Asking, ask-start, ask-next, Rising, rise-start, ask-yes, ask-no, rise-next, rise-found, rise-none}
+use Rattle.model.specs.Views.{onPage, butKey, targeted, edgeOn}
 use Rattle.model.specs.Regions.{inUse}
-use mathlib.Core.Path.{sym, _∙_}
-use Rattle.regions.specs.RegionLaws.{in-use-binding}
-use Rattle.model.specs.Views.{targeted, edgeOn}
-use Rattle.table.specs.Loops.{ask-yes, ask-no, rise-next, rise-found, rise-none}
 use Rattle.regions.specs.RegionLaws.{in-use-binding, part-next, part-yes, part-no}
 use Rattle.regions.proofs.searches.lowest_in_use.Statement.{statement}
 use Rattle.regions.proofs.searches.lowest_in_use.Tie as tie

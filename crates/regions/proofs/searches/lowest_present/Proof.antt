@@ -1,8 +1,8 @@
 use borrow.Author.Needs.{needs}
 use Prim.Native.Nat.{_-_}
 use mathlib.Core.Path.{sym, _∙_}
-use lib.ListN.{length}
 use borrow.Author.Tests.{eq-eqb, ne-eqb}
+use lib.ListN.{length}
 use Rattle.numbers.specs.Packing.{keyOf}
 use Rattle.table.specs.Loops.{Seeking, seek-start, seek-next, seek-found, seek-none, Rising, rise-start, rise-next, rise-found, rise-none}
 use Rattle.table.specs.Table.{find, hasKey}
