@@ -1,0 +1,66 @@
+use borrow.Author.Needs.{needs}
+use Prim.Native.Nat.{_-_}
+use mathlib.Core.Logic.{⊎-elim}
+use borrow.Author.Tests.{not-true, not-false}
+use Rattle.regions.specs.RegionLaws.{Clearing, clear-start, clear-end, clear-hit, clear-miss}
+use Rattle.regions.proofs.edits.clear_pages.Statement.{statement}
+use Rattle.regions.proofs.edits.clear_pages.Tie as tie
+
+abbrev Inv-loop : tie.InvT-loop
+Inv-loop side sets memory₀ region k₀ memory k = Clearing side sets region memory₀ memory k
+
+abbrev μ-loop : tie.MeasureT-loop
+μ-loop side sets memory₀ region k₀ memory k = region .count - k
+
+loop-holds : tie.Need-loop-holds Inv-loop μ-loop
+loop-holds c = clear-start _ _ _ _
+
+page-in-requires : tie.Need-page-in-requires Inv-loop μ-loop
+page-in-requires c κs = search needs
+
+other-side-requires : tie.Need-other-side-requires Inv-loop μ-loop
+other-side-requires c κs = search needs
+
+claims-requires : tie.Need-claims-requires Inv-loop μ-loop
+claims-requires c κs = search needs
+
+clear-page-requires : tie.Need-clear-page-requires Inv-loop μ-loop
+clear-page-requires c κs = search needs
+
+add-k : tie.Need-add-k Inv-loop μ-loop
+add-k c = search needs
+
+loop-less : tie.Need-loop-less Inv-loop μ-loop
+loop-less c = search needs
+
+loop-again : tie.Need-loop-again Inv-loop μ-loop
+loop-again c =
+    let r = c .before .before .before .before .before .before .loop .inv in
+    let h = c .before .before .before .before .if1 .taken in
+    ⊎-elim
+    (λ w. rw (w .5) (clear-hit _ _ _ _ _ _ _ r h (w .2 .kept .0) (rw (← c .before .before .before .page-in .ensures, ← c .before .before .other-side .ensures, ← c .before .claims .ensures) (not-true _ (w .0 .taken))) (rw (w .2 .ensures, c .before .before .before .page-in .ensures))))
+    (λ w. rw (w .1) (clear-miss _ _ _ _ _ _ r h (rw (← c .before .before .before .page-in .ensures, ← c .before .before .other-side .ensures, ← c .before .claims .ensures) (not-false _ (w .0 .left)))))
+    (c .if2 .came)
+
+same-length : tie.Need-same-length Inv-loop μ-loop
+same-length c = search needs
+
+returns : tie.Need-returns Inv-loop μ-loop
+returns c = clear-end _ _ _ _ _ _ (c .before .before .loop .inv) (c .if1 .left)
+
+pub clear-pages-spec : {M : Type 1} → statement M
+clear-pages-spec =
+    tie.close
+    (tie.spec
+    Inv-loop
+    μ-loop
+    loop-holds
+    page-in-requires
+    other-side-requires
+    claims-requires
+    clear-page-requires
+    add-k
+    loop-less
+    loop-again
+    same-length
+    returns)

@@ -1,0 +1,59 @@
+use borrow.Author.Needs.{needs}
+use Prim.Native.Nat.{ℕ, _-_}
+use mathlib.Core.List.{List}
+use Rattle.numbers.specs.Packing.{keyOf}
+use Rattle.table.specs.Loops.{Sweeping, sweep-start, sweep-next, sweep-end}
+use Rattle.table.specs.Table.{put}
+use Rattle.model.specs.Regions.{keyIn, regionEntry, insertTable}
+use Rattle.regions.proofs.edits.install.Statement.{statement}
+use Rattle.regions.proofs.edits.install.Tie as tie
+
+abbrev Inv-loop : tie.InvT-loop
+Inv-loop map₀ region k₀ map k = Sweeping (λ (i : ℕ) (ws : List ℕ). put keyOf ws (keyIn region i) (regionEntry region i)) (region .count) map₀ map k
+
+abbrev μ-loop : tie.MeasureT-loop
+μ-loop map₀ region k₀ map k = region .count - k
+
+loop-holds : tie.Need-loop-holds Inv-loop μ-loop
+loop-holds c = sweep-start _ _ _
+
+key-in-requires : tie.Need-key-in-requires Inv-loop μ-loop
+key-in-requires c κs = search needs
+
+entry-in-requires : tie.Need-entry-in-requires Inv-loop μ-loop
+entry-in-requires c κs = search needs
+
+put-requires : tie.Need-put-requires Inv-loop μ-loop
+put-requires c κs = search needs
+
+add-k : tie.Need-add-k Inv-loop μ-loop
+add-k c = search needs
+
+loop-less : tie.Need-loop-less Inv-loop μ-loop
+loop-less c = search needs
+
+loop-again : tie.Need-loop-again Inv-loop μ-loop
+loop-again c = sweep-next _ _ _ _ _ _ (c .before .before .before .before .before .before .before .before .loop .inv) (c .before .before .before .before .before .before .if1 .taken) (rw (c .before .before .put .ensures, c .before .before .before .before .key-in .ensures, c .before .before .before .entry-in .ensures)) (c .before .before .put .kept .0)
+
+same-length : tie.Need-same-length Inv-loop μ-loop
+same-length c = search needs
+
+returns : tie.Need-returns Inv-loop μ-loop
+unfolding insertTable
+returns c = sweep-end _ _ _ _ _ (c .before .before .loop .inv) (c .if1 .left)
+
+pub install-spec : {M : Type 1} → statement M
+install-spec =
+    tie.close
+    (tie.spec
+    Inv-loop
+    μ-loop
+    loop-holds
+    key-in-requires
+    entry-in-requires
+    put-requires
+    add-k
+    loop-less
+    loop-again
+    same-length
+    returns)

@@ -1,0 +1,81 @@
+use borrow.Author.Needs.{needs}
+use Prim.Native.Nat.{_-_}
+use mathlib.Core.Logic.{⊎-elim}
+use mathlib.Core.Path.{sym, _∙_}
+use native.Mathlib.Omega.{arith}
+use lib.ListN.{length}
+use Rattle.table.specs.Loops.{Wiping, wipe-start, wipe-read, wipe-hit, wipe-miss, wipe-end, Tallying, tally-start, tally-hit, tally-miss, tally-end}
+use Rattle.model.specs.Regions.{inRegion, removeTable}
+use Rattle.regions.proofs.edits.sweep.Statement.{statement}
+use Rattle.regions.proofs.edits.sweep.Tie as tie
+
+abbrev Inv-loop : tie.InvT-loop
+Inv-loop words₀ region swept₀ i₀ words swept i = Wiping (inRegion region) words₀ words i × Tallying (inRegion region) words₀ swept i
+
+abbrev μ-loop : tie.MeasureT-loop
+μ-loop words₀ region swept₀ i₀ words swept i = length words₀ - i
+
+loop-holds : tie.Need-loop-holds Inv-loop μ-loop
+loop-holds c = (wipe-start _ _, tally-start _ _)
+
+mul-in-region : tie.Need-mul-in-region Inv-loop μ-loop
+mul-in-region c = search needs
+
+slice-read-in-region : tie.Need-slice-read-in-region Inv-loop μ-loop
+slice-read-in-region c = search needs
+
+in-region-requires : tie.Need-in-region-requires Inv-loop μ-loop
+in-region-requires c κs = search needs
+
+mul-words : tie.Need-mul-words Inv-loop μ-loop
+mul-words c = search needs
+
+slice-write-words : tie.Need-slice-write-words Inv-loop μ-loop
+slice-write-words c = search needs
+
+add-swept : tie.Need-add-swept Inv-loop μ-loop
+add-swept c = search needs
+
+add-i : tie.Need-add-i Inv-loop μ-loop
+add-i c = search needs
+
+loop-less : tie.Need-loop-less Inv-loop μ-loop
+loop-less c = search needs
+
+loop-again : tie.Need-loop-again Inv-loop μ-loop
+loop-again c =
+    let r = c .before .before .before .before .loop .inv in
+    let l = c .before .before .before .loop-test .taken in
+    let e = sym (c .before .in-region .ensures) in
+    let s = wipe-read _ _ _ _ (r .0) l in
+    ⊎-elim (λ w. let t = e ∙ w .0 .taken in rw (w .1, w .2) (wipe-hit _ _ _ _ (r .0) l t, tally-hit _ _ _ _ (r .1) (omega arith) (rw s at t)))
+    (λ w. let t = e ∙ w .0 .left in rw (w .1, w .2) (wipe-miss _ _ _ _ (r .0) l t, tally-miss _ _ _ _ (r .1) (omega arith) (rw s at t)))
+    (c .if1 .came)
+
+same-length : tie.Need-same-length Inv-loop μ-loop
+same-length c = search needs
+
+returns : tie.Need-returns Inv-loop μ-loop
+unfolding removeTable
+returns c =
+    let r = c .before .loop .inv in
+    (tally-end _ _ _ _ (r .1) (omega arith), wipe-end _ _ _ _ (r .0) (c .loop-test .left))
+
+pub sweep-spec : {M : Type 1} → statement M
+sweep-spec =
+    tie.close
+    (tie.spec
+    Inv-loop
+    μ-loop
+    loop-holds
+    mul-in-region
+    slice-read-in-region
+    in-region-requires
+    mul-words
+    slice-write-words
+    add-swept
+    add-i
+    loop-less
+    loop-again
+    same-length
+    returns)

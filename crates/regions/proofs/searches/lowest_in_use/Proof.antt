@@ -1,0 +1,167 @@
+use borrow.Author.Needs.{needs}
+use Prim.Native.Nat.{ℕ, _-_}
+use mathlib.Core.Bool.{_&&_}
+use mathlib.Core.Path.{_∙_, sym}
+use lib.ListN.{length, take}
+use Rattle.numbers.specs.declared.Side.the-variants.{Cpu}
+use Rattle.table.specs.Loops.{Asking, ask-start, ask-next, Rising, rise-start, ask-yes, ask-no, rise-next, rise-found, rise-none}
+use Rattle.model.specs.Views.{onPage, butKey, targeted, edgeOn}
+use Rattle.model.specs.Regions.{inUse}
+use Rattle.regions.specs.RegionLaws.{in-use-binding, part-next, part-yes, part-no}
+use Rattle.regions.proofs.searches.lowest_in_use.Statement.{statement}
+use Rattle.regions.proofs.searches.lowest_in_use.Tie as tie
+
+abbrev Inv-loop : tie.InvT-loop
+Inv-loop pairs map region edges k page key i₀ i = Asking (λ (w : ℕ). butKey key w && onPage (page .0) w) map i
+
+abbrev μ-loop : tie.MeasureT-loop
+μ-loop pairs map region edges k page key i₀ i = length map - i
+
+abbrev Inv-loop2 : tie.InvT-loop2
+Inv-loop2 pairs map region edges k page key i j₀ j = Asking (onPage (page .0)) (take edges pairs) j
+
+abbrev μ-loop2 : tie.MeasureT-loop2
+μ-loop2 pairs map region edges k page key i j₀ j = edges - j
+
+abbrev Inv-region : tie.InvT-region
+Inv-region pairs map region edges k₀ k = Rising (inUse Cpu (take edges pairs) map region) (region .count) k
+
+abbrev μ-region : tie.MeasureT-region
+μ-region pairs map region edges k₀ k = region .count - k
+
+binding-pairs-requires :
+    tie.Need-binding-pairs-requires Inv-loop μ-loop Inv-loop2 μ-loop2 Inv-region μ-region
+binding-pairs-requires c κs = search needs
+
+region-holds : tie.Need-region-holds Inv-loop μ-loop Inv-loop2 μ-loop2 Inv-region μ-region
+region-holds c = rise-start _ _
+
+page-in-requires : tie.Need-page-in-requires Inv-loop μ-loop Inv-loop2 μ-loop2 Inv-region μ-region
+page-in-requires c κs = search needs
+
+key-in-requires : tie.Need-key-in-requires Inv-loop μ-loop Inv-loop2 μ-loop2 Inv-region μ-region
+key-in-requires c κs = search needs
+
+loop-holds : tie.Need-loop-holds Inv-loop μ-loop Inv-loop2 μ-loop2 Inv-region μ-region
+loop-holds c = ask-start _ _
+
+mul-key-of : tie.Need-mul-key-of Inv-loop μ-loop Inv-loop2 μ-loop2 Inv-region μ-region
+mul-key-of c = search needs
+
+shared-slice-read-key-of :
+    tie.Need-shared-slice-read-key-of Inv-loop μ-loop Inv-loop2 μ-loop2 Inv-region μ-region
+shared-slice-read-key-of c = search needs
+
+key-of-requires : tie.Need-key-of-requires Inv-loop μ-loop Inv-loop2 μ-loop2 Inv-region μ-region
+key-of-requires c κs = search needs
+
+mul-on-page : tie.Need-mul-on-page Inv-loop μ-loop Inv-loop2 μ-loop2 Inv-region μ-region
+mul-on-page c = search needs
+
+shared-slice-read-on-page :
+    tie.Need-shared-slice-read-on-page Inv-loop μ-loop Inv-loop2 μ-loop2 Inv-region μ-region
+shared-slice-read-on-page c = search needs
+
+on-page-requires : tie.Need-on-page-requires Inv-loop μ-loop Inv-loop2 μ-loop2 Inv-region μ-region
+on-page-requires c κs = search needs
+
+add-i : tie.Need-add-i Inv-loop μ-loop Inv-loop2 μ-loop2 Inv-region μ-region
+add-i c = search needs
+
+loop-less : tie.Need-loop-less Inv-loop μ-loop Inv-loop2 μ-loop2 Inv-region μ-region
+loop-less c = search needs
+
+loop-again : tie.Need-loop-again Inv-loop μ-loop Inv-loop2 μ-loop2 Inv-region μ-region
+loop-again c = ask-next _ _ _ (c .before .before .before .before .before .before .loop .inv) (c .before .before .before .before .before .loop-test .taken) (rw (← c .before .on-page .ensures, ← c .before .before .before .key-of .ensures) (c .if2 .left))
+
+loop2-holds : tie.Need-loop2-holds Inv-loop μ-loop Inv-loop2 μ-loop2 Inv-region μ-region
+loop2-holds c = ask-start _ _
+
+mul-on-page-2 : tie.Need-mul-on-page-2 Inv-loop μ-loop Inv-loop2 μ-loop2 Inv-region μ-region
+mul-on-page-2 c = search needs
+
+shared-slice-read-on-page-2 :
+    tie.Need-shared-slice-read-on-page-2 Inv-loop μ-loop Inv-loop2 μ-loop2 Inv-region μ-region
+shared-slice-read-on-page-2 c = search needs
+
+on-page-requires-2 :
+    tie.Need-on-page-requires-2 Inv-loop μ-loop Inv-loop2 μ-loop2 Inv-region μ-region
+on-page-requires-2 c κs = search needs
+
+add-j : tie.Need-add-j Inv-loop μ-loop Inv-loop2 μ-loop2 Inv-region μ-region
+add-j c = search needs
+
+loop2-less : tie.Need-loop2-less Inv-loop μ-loop Inv-loop2 μ-loop2 Inv-region μ-region
+loop2-less c = search needs
+
+loop2-again : tie.Need-loop2-again Inv-loop μ-loop Inv-loop2 μ-loop2 Inv-region μ-region
+loop2-again c = part-next _ (c .before .before .before .before .before .before .before .before .before .before .before .before .binding-pairs .ensures) _ (c .before .before .before .before .loop2 .inv) (c .before .before .before .loop2-test .taken) (rw (← c .before .on-page2 .ensures) (c .if3 .left))
+
+add-k : tie.Need-add-k Inv-loop μ-loop Inv-loop2 μ-loop2 Inv-region μ-region
+add-k c = search needs
+
+region-less : tie.Need-region-less Inv-loop μ-loop Inv-loop2 μ-loop2 Inv-region μ-region
+region-less c = search needs
+
+region-again : tie.Need-region-again Inv-loop μ-loop Inv-loop2 μ-loop2 Inv-region μ-region
+unfolding targeted edgeOn
+region-again c =
+    let e = sym (ask-no _ _ _ (c .before .before .before .loop .inv) (c .before .before .loop-test .left)) in
+    let f = part-no _ (c .before .before .before .before .before .before .before .before .before .binding-pairs .ensures) _ (c .before .loop2 .inv) (c .loop2-test .left) in
+    rise-next _ _ _ (c .before .before .before .before .before .before .before .before .region .inv) (c .before .before .before .before .before .before .if1 .taken) (rw (← c .before .before .before .before .before .page-in .ensures, ← c .before .before .before .before .key-in .ensures, e, f))
+
+returns : tie.Need-returns Inv-loop μ-loop Inv-loop2 μ-loop2 Inv-region μ-region
+returns c = rise-none _ _ _ (c .before .before .region .inv) (c .if1 .left) ∙ in-use-binding (c .before .before .before .before .before .before .args .map .now) (c .before .before .before .before .before .before .args .region) (c .before .before .before .binding-pairs .ensures)
+
+returns-2 : tie.Need-returns-2 Inv-loop μ-loop Inv-loop2 μ-loop2 Inv-region μ-region
+unfolding targeted edgeOn
+returns-2 c =
+    let e = sym (ask-yes _ _ _ (c .before .before .before .before .before .before .loop .inv) (c .before .before .before .before .before .loop-test .taken) (rw (← c .before .on-page .ensures, ← c .before .before .before .key-of .ensures) (c .if2 .taken))) in
+    rise-found _ _ _ (c .before .before .before .before .before .before .before .before .before .before .before .region .inv) (c .before .before .before .before .before .before .before .before .before .if1 .taken) (rw (← c .before .before .before .before .before .before .before .before .page-in .ensures, ← c .before .before .before .before .before .before .before .key-in .ensures, e))
+    ∙ in-use-binding (c .before .before .before .before .before .before .before .before .before .before .before .before .before .before .before .args .map .now) (c .before .before .before .before .before .before .before .before .before .before .before .before .before .before .before .args .region) (c .before .before .before .before .before .before .before .before .before .before .before .before .binding-pairs .ensures)
+
+returns-3 : tie.Need-returns-3 Inv-loop μ-loop Inv-loop2 μ-loop2 Inv-region μ-region
+unfolding targeted edgeOn
+returns-3 c =
+    let e = sym (ask-no _ _ _ (c .before .before .before .before .before .before .loop .inv) (c .before .before .before .before .before .loop-test .left)) in
+    let f = part-yes _ (c .before .before .before .before .before .before .before .before .before .before .before .before .binding-pairs .ensures) _ (c .before .before .before .before .loop2 .inv) (c .before .before .before .loop2-test .taken) (rw (← c .before .on-page2 .ensures) (c .if3 .taken)) in
+    rise-found _ _ _ (c .before .before .before .before .before .before .before .before .before .before .before .region .inv) (c .before .before .before .before .before .before .before .before .before .if1 .taken) (rw (← c .before .before .before .before .before .before .before .before .page-in .ensures, ← c .before .before .before .before .before .before .before .key-in .ensures, e, f))
+    ∙ in-use-binding (c .before .before .before .before .before .before .before .before .before .before .before .before .before .before .before .args .map .now) (c .before .before .before .before .before .before .before .before .before .before .before .before .before .before .before .args .region) (c .before .before .before .before .before .before .before .before .before .before .before .before .binding-pairs .ensures)
+
+pub lowest-in-use-spec : {M : Type 1} → statement M
+lowest-in-use-spec =
+    tie.close
+    (tie.spec
+    Inv-loop
+    μ-loop
+    Inv-loop2
+    μ-loop2
+    Inv-region
+    μ-region
+    binding-pairs-requires
+    region-holds
+    page-in-requires
+    key-in-requires
+    loop-holds
+    mul-key-of
+    shared-slice-read-key-of
+    key-of-requires
+    mul-on-page
+    shared-slice-read-on-page
+    on-page-requires
+    add-i
+    loop-less
+    loop-again
+    loop2-holds
+    mul-on-page-2
+    shared-slice-read-on-page-2
+    on-page-requires-2
+    add-j
+    loop2-less
+    loop2-again
+    add-k
+    region-less
+    region-again
+    returns
+    returns-2
+    returns-3)

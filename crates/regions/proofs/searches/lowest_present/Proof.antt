@@ -1,0 +1,91 @@
+use borrow.Author.Needs.{needs}
+use Prim.Native.Nat.{_-_}
+use mathlib.Core.Path.{sym, _∙_}
+use borrow.Author.Tests.{eq-eqb, ne-eqb}
+use lib.ListN.{length}
+use Rattle.numbers.specs.Packing.{keyOf}
+use Rattle.table.specs.Loops.{Seeking, seek-start, seek-next, seek-found, seek-none, Rising, rise-start, rise-next, rise-found, rise-none}
+use Rattle.table.specs.Table.{find, hasKey}
+use Rattle.model.specs.Regions.{present}
+use Rattle.regions.proofs.searches.lowest_present.Statement.{statement}
+use Rattle.regions.proofs.searches.lowest_present.Tie as tie
+
+abbrev Inv-loop : tie.InvT-loop
+Inv-loop map region k key i₀ i = Seeking (hasKey keyOf key) map i
+
+abbrev μ-loop : tie.MeasureT-loop
+μ-loop map region k key i₀ i = length map - i
+
+abbrev Inv-region : tie.InvT-region
+Inv-region map region k₀ k = Rising (present map region) (region .count) k
+
+abbrev μ-region : tie.MeasureT-region
+μ-region map region k₀ k = region .count - k
+
+region-holds : tie.Need-region-holds Inv-loop μ-loop Inv-region μ-region
+region-holds c = rise-start _ _
+
+key-in-requires : tie.Need-key-in-requires Inv-loop μ-loop Inv-region μ-region
+key-in-requires c κs = search needs
+
+loop-holds : tie.Need-loop-holds Inv-loop μ-loop Inv-region μ-region
+loop-holds c = seek-start _ _
+
+mul-key-of : tie.Need-mul-key-of Inv-loop μ-loop Inv-region μ-region
+mul-key-of c = search needs
+
+shared-slice-read-key-of : tie.Need-shared-slice-read-key-of Inv-loop μ-loop Inv-region μ-region
+shared-slice-read-key-of c = search needs
+
+key-of-requires : tie.Need-key-of-requires Inv-loop μ-loop Inv-region μ-region
+key-of-requires c κs = search needs
+
+add-i : tie.Need-add-i Inv-loop μ-loop Inv-region μ-region
+add-i c = search needs
+
+loop-less : tie.Need-loop-less Inv-loop μ-loop Inv-region μ-region
+loop-less c = search needs
+
+loop-again : tie.Need-loop-again Inv-loop μ-loop Inv-region μ-region
+loop-again c = seek-next _ _ _ (c .before .before .before .before .loop .inv) (c .before .before .before .loop-test .taken) (ne-eqb _ _ (λ q. c .if2 .left (c .before .key-of .ensures ∙ q)))
+
+add-k : tie.Need-add-k Inv-loop μ-loop Inv-region μ-region
+add-k c = search needs
+
+region-less : tie.Need-region-less Inv-loop μ-loop Inv-region μ-region
+region-less c = search needs
+
+region-again : tie.Need-region-again Inv-loop μ-loop Inv-region μ-region
+unfolding find
+region-again c = rise-next _ _ _ (c .before .before .before .before .before .region .inv) (c .before .before .before .if1 .taken) (rw (← c .before .before .key-in .ensures, ← seek-none _ _ _ (c .before .loop .inv) (c .loop-test .left)))
+
+returns : tie.Need-returns Inv-loop μ-loop Inv-region μ-region
+returns c = rise-none _ _ _ (c .before .before .region .inv) (c .if1 .left)
+
+returns-2 : tie.Need-returns-2 Inv-loop μ-loop Inv-region μ-region
+unfolding find
+returns-2 c = rise-found _ _ _ (c .before .before .before .before .before .before .before .before .region .inv) (c .before .before .before .before .before .before .if1 .taken)
+    (rw (← c .before .before .before .before .before .key-in .ensures, ← seek-found _ _ _ (c .before .before .before .before .loop .inv) (c .before .before .before .loop-test .taken) (eq-eqb _ _ (sym (c .before .key-of .ensures) ∙ c .if2 .taken))))
+
+pub lowest-present-spec : {M : Type 1} → statement M
+lowest-present-spec =
+    tie.close
+    (tie.spec
+    Inv-loop
+    μ-loop
+    Inv-region
+    μ-region
+    region-holds
+    key-in-requires
+    loop-holds
+    mul-key-of
+    shared-slice-read-key-of
+    key-of-requires
+    add-i
+    loop-less
+    loop-again
+    add-k
+    region-less
+    region-again
+    returns
+    returns-2)

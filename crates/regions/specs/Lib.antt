@@ -1,0 +1,2 @@
+-- What the region operations' proofs share.
+pub mod RegionLaws
