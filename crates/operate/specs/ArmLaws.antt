@@ -261,3 +261,10 @@ module _ (m : Machine) (sets pairs cpuMap cpuWalker cpuCache dmaMap dmaWalker dm
   pub instruction-barrier-step : outcome accepted m sets pairs cpuMap cpuWalker cpuCache dmaMap dmaWalker dmaCache memory ≡ step now InstructionBarrier
   unfolding step control decided apply clearedPages
   instruction-barrier-step = refl
+
+-- ---- equal parts make equal outcomes
+pub outcome-same :
+    {a a′ : Answer} {m m′ : Machine} {sets sets′ pairs pairs′ cpuMap cpuMap′ cpuWalker cpuWalker′ cpuCache cpuCache′ dmaMap dmaMap′ dmaWalker dmaWalker′ dmaCache dmaCache′ memory memory′ : List ℕ} →
+    a ≡ a′ → m ≡ m′ → sets ≡ sets′ → pairs ≡ pairs′ → cpuMap ≡ cpuMap′ → cpuWalker ≡ cpuWalker′ → cpuCache ≡ cpuCache′ → dmaMap ≡ dmaMap′ → dmaWalker ≡ dmaWalker′ → dmaCache ≡ dmaCache′ → memory ≡ memory′ →
+    outcome a m sets pairs cpuMap cpuWalker cpuCache dmaMap dmaWalker dmaCache memory ≡ outcome a′ m′ sets′ pairs′ cpuMap′ cpuWalker′ cpuCache′ dmaMap′ dmaWalker′ dmaCache′ memory′
+outcome-same p q r s t u v w x y z = λ i. outcome (p i) (q i) (r i) (s i) (t i) (u i) (v i) (w i) (x i) (y i) (z i)
