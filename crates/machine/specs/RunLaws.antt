@@ -1,18 +1,34 @@
 -- What holds after some rows of a sequence: where it stands, and that no list has changed its length.
-use Prim.Native.Nat.{ℕ, _+_, _*_, _≤_, _<_}
+use Prim.Native.Nat.{ℕ, _+_, _*_, _/_, _%_, _≤_, _<_}
+use mathlib.Core.Bool.{not}
 use mathlib.Core.List.{List}
 use mathlib.Core.Option.{Option, none, some}
 use mathlib.Core.Path.{_≡_, refl, sym, ap, _∙_}
+use lib.Dec.{eqb, leb}
 use lib.ListN.{length}
-use Rattle.numbers.specs.Limits.{ANSWER-NUMBERS}
+use borrow.Author.Tests.{leb-true, not-false}
+use Rattle.numbers.specs.Limits.{ROW-NUMBERS, ANSWER-NUMBERS}
 use Rattle.numbers.specs.Meaning.{answerNumbers}
 use Rattle.numbers.specs.declared.Operation.{Operation}
 use Rattle.table.specs.Loops.{Repeating, repeat-start, repeat-next, repeat-end}
-use Rattle.model.specs.State.{State, Tables, Route}
-use Rattle.model.specs.Step.{Stepped}
-use Rattle.model.specs.Sequence.{Progress, turn, after, stepRow, stepKnown, operationIn, rowAt, recorded}
+use Rattle.model.specs.State.{State, Tables, Route, Setup}
+use Rattle.model.specs.Header.{setupOf}
+use Rattle.model.specs.declared.Machine.{Machine}
+use Rattle.operate.specs.Outcome.{Fit}
+use Rattle.numbers.specs.declared.Answer.{Answer}
+use Rattle.numbers.specs.declared.Answer.the-variants.{Accepted, Refused}
+use Rattle.numbers.specs.declared.Refusal.{Refusal}
+use Rattle.numbers.specs.declared.Refusal.the-variants.{OutOfRange}
+use Rattle.model.specs.Effect.{refused}
+use Rattle.model.specs.Step.{Stepped, step}
+use Rattle.rows.specs.Decoded.{known}
+use Rattle.rows.specs.declared.Decoded.{Decoded}
+use Rattle.rows.specs.declared.Decoded.the-variants.{Known, Unknown}
+use Rattle.model.specs.Sequence.{Progress, turn, after, stepRow, stepKnown, operationIn, rowAt, recorded, shapeAnswer, sequence}
+use Rattle.model.specs.EarlyLaws.{past}
 use Rattle.model.specs.ShapeLaws.{SameRoute, SameShape, SameSizes, step-sizes}
 use Rattle.machine.specs.RoomLaws.{length-writeAt}
+use Rattle.machine.specs.Run.{ran, shapeOf}
 
 -- ---- sizes pass on
 join-route : {a b c : Route} → SameRoute a b → SameRoute b c → SameRoute a c
@@ -66,3 +82,47 @@ module _ (rows : List ℕ) (n : ℕ) (start : Progress) where
   pub run-end : (now : Progress) (k : ℕ) → Running rows n start now k → n ≤ k → now ≡ after rows n start
   unfolding after
   run-end now k r h = repeat-end (turn rows) n start now k (r .steps) h
+
+-- ---- one row, from what decoding it and carrying it out gave
+pub turn-done :
+    (rows : List ℕ) (k : ℕ) (p : Progress) (d : Decoded) (operation : Operation) (r : Stepped) →
+    known d ≡ operationIn (rowAt rows k) → d ≡ Known operation → r ≡ step (p .state) operation → recorded r k (p .room) ≡ turn rows k p
+unfolding stepRow
+turn-done rows k p d operation r e f g =
+    let o : operationIn (rowAt rows k) ≡ some operation = sym e ∙ ap known f in
+    rw (o, g)
+
+pub turn-unknown :
+    (rows : List ℕ) (k : ℕ) (p : Progress) (d : Decoded) →
+    known d ≡ operationIn (rowAt rows k) → d ≡ Unknown → recorded (record { answer = refused OutOfRange; state = p .state }) k (p .room) ≡ turn rows k p
+unfolding stepRow
+turn-unknown rows k p d e f =
+    let o : operationIn (rowAt rows k) ≡ none = sym e ∙ ap known f in
+    rw o
+
+-- ---- what the joined operation asks for still holds
+pub fit-kept :
+    (m next : Machine) (sets memory sets′ memory′ : List ℕ) →
+    Fit m sets memory → setupOf next ≡ setupOf m → length sets′ ≡ length sets → length memory′ ≡ length memory → Fit next sets′ memory′
+fit-kept m next sets memory sets′ memory′ f e l n =
+    let p : next .pages ≡ m .pages = ap (λ (s : Setup). s .pages) e in
+    let u : next .«unit_count» ≡ m .«unit_count» = ap (λ (s : Setup). s .unitCount) e in
+    record { few-pages = rw p (f .few-pages); few-units = rw u (f .few-units); sets-length = l ∙ f .sets-length; memory-length = rw p (n ∙ f .memory-length) }
+
+-- ---- the whole sequence, from what its shape said
+pub shape-room : (rows room : ℕ) (a : Answer) {dropped word : ℕ} → a ≡ shapeOf rows room → a ≡ Accepted dropped word → rows / ROW-NUMBERS * ANSWER-NUMBERS ≤ room
+shape-room rows room a e f =
+    let b = past (not (eqb (rows % ROW-NUMBERS) 0)) _ _ _ (sym e ∙ f) in
+    let c = past (not (leb (rows / ROW-NUMBERS * ANSWER-NUMBERS) room)) _ _ _ (b .1) in
+    leb-true _ _ (not-false _ (c .0))
+
+module _ (s : State) (rows room : List ℕ) (a : Answer) (e : a ≡ shapeOf (length rows) (length room)) where
+  pub sequence-refused : {refusal : Refusal} {index : ℕ} → a ≡ Refused refusal index → ran (Refused refusal index) (record { state = s; room = room }) ≡ sequence s rows room
+  unfolding sequence shapeAnswer
+  sequence-refused {refusal} {index} f = let g : shapeOf (length rows) (length room) ≡ Refused refusal index = sym e ∙ f in rw g
+
+  pub sequence-done : {dropped word : ℕ} (p : Progress) → a ≡ Accepted dropped word → p ≡ after rows (length rows / ROW-NUMBERS) (record { state = s; room = room }) → ran a p ≡ sequence s rows room
+  unfolding sequence shapeAnswer
+  sequence-done {dropped} {word} p f g =
+      let h : shapeOf (length rows) (length room) ≡ Accepted dropped word = sym e ∙ f in
+      rw (f, h, g)

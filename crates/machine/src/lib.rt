@@ -2,11 +2,18 @@
 ghost use mathlib.Core.Path.{_≡_};
 ghost use Prim.Native.Nat.{_+_, _*_, _≤_};
 ghost use lib.ListN.{length};
-ghost use Rattle.numbers.specs.Limits.{ANSWER-NUMBERS};
+ghost use Rattle.numbers.specs.Limits.{ROW-NUMBERS, ANSWER-NUMBERS};
 ghost use Rattle.numbers.specs.Meaning.{answerNumbers};
-ghost use Rattle.model.specs.Sequence.{writeAt};
+ghost use Rattle.model.specs.Header.{stateOf};
+ghost use Rattle.model.specs.Sequence.{writeAt, turn, after, sequence};
+ghost use Rattle.operate.specs.Outcome.{Fit};
+ghost use Rattle.machine.specs.Run.{progress, ran, shapeOf};
+use model::Machine;
 use numbers::ANSWER_NUMBERS;
 use numbers::Answer;
+use numbers::ROW_NUMBERS;
+use numbers::Refusal;
+use rows::Decoded;
 
 // Answer k's four numbers, in their place of the answer room.
 fn write_answer(room: &mut [u64], k: usize, answer: Answer)
@@ -22,4 +29,179 @@ fn write_answer(room: &mut [u64], k: usize, answer: Answer)
     room[dropped] = numbers[2];
     let word = dropped + 1;
     room[word] = numbers[3];
+}
+
+// Row k carried out and answered; an unknown operation is refused.
+fn turn(
+    m: Machine,
+    sets: &mut [u64],
+    pairs: &mut [u64],
+    cpu_map: &mut [u64],
+    cpu_walker: &mut [u64],
+    cpu_cache: &mut [u64],
+    dma_map: &mut [u64],
+    dma_walker: &mut [u64],
+    dma_cache: &mut [u64],
+    memory: &mut [u64],
+    rows: &[u64],
+    room: &mut [u64],
+    k: usize,
+) -> Machine
+    requires { ⌜ Fit m (now sets) (now memory) ⌝ }
+    requires { ⌜ ((k + 1) * ROW-NUMBERS ≤ length (now rows)) × ((k + 1) * ANSWER-NUMBERS ≤ length (now room)) ⌝ }
+    ensures { λ r. ⌜ progress r (now (sets .exit)) (now (pairs .exit)) (now («cpu_map» .exit)) (now («cpu_walker» .exit)) (now («cpu_cache» .exit)) (now («dma_map» .exit)) (now («dma_walker» .exit)) (now («dma_cache» .exit)) (now (memory .exit)) (now (room .exit))
+        ≡ turn (now (rows .entry)) k (progress m (now (sets .entry)) (now (pairs .entry)) (now («cpu_map» .entry)) (now («cpu_walker» .entry)) (now («cpu_cache» .entry)) (now («dma_map» .entry)) (now («dma_walker» .entry)) (now («dma_cache» .entry)) (now (memory .entry)) (now (room .entry))) ⌝ }
+{
+    let decoded = rows::operation_at(rows, k);
+    match decoded {
+        Decoded::Known(operation) => {
+            let done = operate::operate(
+                m,
+                sets,
+                pairs,
+                cpu_map,
+                cpu_walker,
+                cpu_cache,
+                dma_map,
+                dma_walker,
+                dma_cache,
+                memory,
+                operation,
+            );
+            let answer = done.answer;
+            write_answer(room, k, answer);
+            let next = done.machine;
+            next
+        }
+        Decoded::Unknown => {
+            write_answer(
+                room,
+                k,
+                Answer::Refused {
+                    refusal: Refusal::OutOfRange,
+                    index: 0,
+                },
+            );
+            m
+        }
+    }
+}
+
+// The first `count` rows, one after the other, a refused row too.
+fn run(
+    m: Machine,
+    sets: &mut [u64],
+    pairs: &mut [u64],
+    cpu_map: &mut [u64],
+    cpu_walker: &mut [u64],
+    cpu_cache: &mut [u64],
+    dma_map: &mut [u64],
+    dma_walker: &mut [u64],
+    dma_cache: &mut [u64],
+    memory: &mut [u64],
+    rows: &[u64],
+    room: &mut [u64],
+    count: usize,
+) -> Machine
+    requires { ⌜ Fit m (now sets) (now memory) ⌝ }
+    requires { ⌜ (count * ROW-NUMBERS ≤ length (now rows)) × (count * ANSWER-NUMBERS ≤ length (now room)) ⌝ }
+    ensures { λ r. ⌜ progress r (now (sets .exit)) (now (pairs .exit)) (now («cpu_map» .exit)) (now («cpu_walker» .exit)) (now («cpu_cache» .exit)) (now («dma_map» .exit)) (now («dma_walker» .exit)) (now («dma_cache» .exit)) (now (memory .exit)) (now (room .exit))
+        ≡ after (now (rows .entry)) count (progress m (now (sets .entry)) (now (pairs .entry)) (now («cpu_map» .entry)) (now («cpu_walker» .entry)) (now («cpu_cache» .entry)) (now («dma_map» .entry)) (now («dma_walker» .entry)) (now («dma_cache» .entry)) (now (memory .entry)) (now (room .entry))) ⌝ }
+{
+    let mut next = m;
+    let mut k = 0;
+    while k < count {
+        next = turn(
+            next,
+            sets,
+            pairs,
+            cpu_map,
+            cpu_walker,
+            cpu_cache,
+            dma_map,
+            dma_walker,
+            dma_cache,
+            memory,
+            rows,
+            room,
+            k,
+        );
+        k += 1;
+    }
+    next
+}
+
+// What refuses a sequence as a whole, whatever the rows say: numbers that make no whole rows, or too little room.
+fn shape(rows: usize, room: usize) -> Answer
+    ensures { λ r. ⌜ r ≡ shapeOf rows room ⌝ }
+{
+    if !(rows % ROW_NUMBERS == 0) {
+        return Answer::Refused {
+            refusal: Refusal::OutOfRange,
+            index: 0,
+        };
+    }
+    if !(rows / ROW_NUMBERS * ANSWER_NUMBERS <= room) {
+        return Answer::Refused {
+            refusal: Refusal::OutOfRange,
+            index: 0,
+        };
+    }
+    Answer::Accepted {
+        dropped: 0,
+        word: 0,
+    }
+}
+
+pub struct Ran {
+    pub answer: Answer,
+    pub machine: Machine,
+}
+
+// All the rows; refused as a whole for its shape, it leaves everything.
+pub fn sequence(
+    m: Machine,
+    sets: &mut [u64],
+    pairs: &mut [u64],
+    cpu_map: &mut [u64],
+    cpu_walker: &mut [u64],
+    cpu_cache: &mut [u64],
+    dma_map: &mut [u64],
+    dma_walker: &mut [u64],
+    dma_cache: &mut [u64],
+    memory: &mut [u64],
+    rows: &[u64],
+    room: &mut [u64],
+) -> Ran
+    requires { ⌜ Fit m (now sets) (now memory) ⌝ }
+    ensures { λ r. ⌜ ran (r .answer) (progress (r .machine) (now (sets .exit)) (now (pairs .exit)) (now («cpu_map» .exit)) (now («cpu_walker» .exit)) (now («cpu_cache» .exit)) (now («dma_map» .exit)) (now («dma_walker» .exit)) (now («dma_cache» .exit)) (now (memory .exit)) (now (room .exit)))
+        ≡ sequence (stateOf m (now (sets .entry)) (now (pairs .entry)) (now («cpu_map» .entry)) (now («cpu_walker» .entry)) (now («cpu_cache» .entry)) (now («dma_map» .entry)) (now («dma_walker» .entry)) (now («dma_cache» .entry)) (now (memory .entry))) (now (rows .entry)) (now (room .entry)) ⌝ }
+{
+    let answer = shape(rows.len(), room.len());
+    if let Answer::Refused { refusal, index } = answer {
+        return Ran {
+            answer: Answer::Refused { refusal, index },
+            machine: m,
+        };
+    }
+    let count = rows.len() / ROW_NUMBERS;
+    let next = run(
+        m,
+        sets,
+        pairs,
+        cpu_map,
+        cpu_walker,
+        cpu_cache,
+        dma_map,
+        dma_walker,
+        dma_cache,
+        memory,
+        rows,
+        room,
+        count,
+    );
+    Ran {
+        answer: answer,
+        machine: next,
+    }
 }
