@@ -46,7 +46,7 @@ pub fn region_early(known: u64, pages: u64, region: Region) -> Answer
     accept(0)
 }
 
-// 11, 13: the region's pages go to the VM's pages of the side, and their entries into its map and its walker's.
+// Operations 11 and 13: the region's pages go to the VM's pages of the side, and their entries into its map and its walker's.
 pub fn insert_region(
     side: Side,
     known: u64,
@@ -92,7 +92,7 @@ pub fn insert_region(
     accept(0)
 }
 
-// 12, 14: the region's pages leave the VM's pages of the side, their entries both maps and their slots the cache.
+// Operations 12 and 14: the region's pages leave the VM's pages of the side, their entries both maps and their slots the cache.
 // A page on which the VM has no claim left is cleared.
 pub fn remove_region(
     side: Side,

@@ -70,10 +70,10 @@ pub fn lowest_present(map: &[u64], region: Region) -> u64
 {
     let mut k = 0;
     'region: while k < region.count {
-        let key = key_in(region, k);
+        let fresh = key_in(region, k);
         let mut i = 0;
         while i < map.len() {
-            if numbers::key_of(map[i]) == key {
+            if numbers::key_of(map[i]) == fresh {
                 break 'region;
             }
             i += 1;
@@ -181,10 +181,10 @@ pub fn lowest_in_use(side: Side, pairs: &[u64], map: &[u64], region: Region) -> 
     let mut k = 0;
     'region: while k < region.count {
         let page = page_in(region, k);
-        let key = key_in(region, k);
+        let own = key_in(region, k);
         let mut i = 0;
         while i < map.len() {
-            if !(numbers::key_of(map[i]) == key) & on_page(map[i], page) {
+            if !(numbers::key_of(map[i]) == own) & on_page(map[i], page) {
                 break 'region;
             }
             i += 1;

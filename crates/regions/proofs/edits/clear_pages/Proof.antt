@@ -35,11 +35,13 @@ loop-less c = search needs
 
 loop-again : tie.Need-loop-again Inv-loop μ-loop
 loop-again c =
-    let r = c .before .before .before .before .before .before .loop .inv in
-    let h = c .before .before .before .before .if1 .taken in
+    let g = c .before .before .before in
+    let t = g .before in
+    let r = t .before .before .loop .inv in
+    let h = t .if1 .taken in
     ⊎-elim
-    (λ w. rw (w .5) (clear-hit _ _ _ _ _ _ _ r h (w .2 .kept .0) (rw (← c .before .before .before .page-in .ensures, ← c .before .before .other-side .ensures, ← c .before .claims .ensures) (not-true _ (w .0 .taken))) (rw (w .2 .ensures, c .before .before .before .page-in .ensures))))
-    (λ w. rw (w .1) (clear-miss _ _ _ _ _ _ r h (rw (← c .before .before .before .page-in .ensures, ← c .before .before .other-side .ensures, ← c .before .claims .ensures) (not-false _ (w .0 .left)))))
+    (λ w. rw (w .5) (clear-hit _ _ _ _ _ _ _ r h (w .2 .kept .0) (rw (← g .page-in .ensures, ← c .before .before .other-side .ensures, ← c .before .claims .ensures) (not-true _ (w .0 .taken))) (rw (w .2 .ensures, g .page-in .ensures))))
+    (λ w. rw (w .1) (clear-miss _ _ _ _ _ _ r h (rw (← g .page-in .ensures, ← c .before .before .other-side .ensures, ← c .before .claims .ensures) (not-false _ (w .0 .left)))))
     (c .if2 .came)
 
 same-length : tie.Need-same-length Inv-loop μ-loop

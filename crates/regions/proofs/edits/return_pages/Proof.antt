@@ -27,7 +27,10 @@ loop-less : tie.Need-loop-less Inv-loop μ-loop
 loop-less c = search needs
 
 loop-again : tie.Need-loop-again Inv-loop μ-loop
-loop-again c = sweep-next _ _ _ _ _ _ (c .before .before .before .before .before .before .before .loop .inv) (c .before .before .before .before .before .if1 .taken) (rw (c .before .before .return-page .ensures, c .before .before .before .page-in .ensures)) (c .before .before .return-page .kept .1 .0)
+loop-again c =
+    let p = c .before .before in
+    let t = p .before .before .before in
+    sweep-next _ _ _ _ _ _ (t .before .before .loop .inv) (t .if1 .taken) (rw (p .return-page .ensures, p .before .page-in .ensures)) (p .return-page .kept .1 .0)
 
 same-length : tie.Need-same-length Inv-loop μ-loop
 same-length c = search needs

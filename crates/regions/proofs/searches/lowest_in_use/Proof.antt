@@ -72,7 +72,9 @@ loop-less : tie.Need-loop-less Inv-loop μ-loop Inv-loop2 μ-loop2 Inv-region μ
 loop-less c = search needs
 
 loop-again : tie.Need-loop-again Inv-loop μ-loop Inv-loop2 μ-loop2 Inv-region μ-region
-loop-again c = ask-next _ _ _ (c .before .before .before .before .before .before .loop .inv) (c .before .before .before .before .before .loop-test .taken) (rw (← c .before .on-page .ensures, ← c .before .before .before .key-of .ensures) (c .if2 .left))
+loop-again c =
+    let t = c .before .before .before .before .before in
+    ask-next _ _ _ (t .before .loop .inv) (t .loop-test .taken) (rw (← c .before .on-page .ensures, ← c .before .before .before .key-of .ensures) (c .if2 .left))
 
 loop2-holds : tie.Need-loop2-holds Inv-loop μ-loop Inv-loop2 μ-loop2 Inv-region μ-region
 loop2-holds c = ask-start _ _
@@ -95,7 +97,10 @@ loop2-less : tie.Need-loop2-less Inv-loop μ-loop Inv-loop2 μ-loop2 Inv-region 
 loop2-less c = search needs
 
 loop2-again : tie.Need-loop2-again Inv-loop μ-loop Inv-loop2 μ-loop2 Inv-region μ-region
-loop2-again c = part-next _ (c .before .before .before .before .before .before .before .before .before .before .before .before .binding-pairs .ensures) _ (c .before .before .before .before .loop2 .inv) (c .before .before .before .loop2-test .taken) (rw (← c .before .on-page2 .ensures) (c .if3 .left))
+loop2-again c =
+    let t = c .before .before .before in
+    let b = t .before .before .before .before .before .before .before .before .before in
+    part-next _ (b .binding-pairs .ensures) _ (t .before .loop2 .inv) (t .loop2-test .taken) (rw (← c .before .on-page2 .ensures) (c .if3 .left))
 
 add-k : tie.Need-add-k Inv-loop μ-loop Inv-loop2 μ-loop2 Inv-region μ-region
 add-k c = search needs
@@ -106,27 +111,45 @@ region-less c = search needs
 region-again : tie.Need-region-again Inv-loop μ-loop Inv-loop2 μ-loop2 Inv-region μ-region
 unfolding targeted edgeOn
 region-again c =
-    let e = sym (ask-no _ _ _ (c .before .before .before .loop .inv) (c .before .before .loop-test .left)) in
-    let f = part-no _ (c .before .before .before .before .before .before .before .before .before .binding-pairs .ensures) _ (c .before .loop2 .inv) (c .loop2-test .left) in
-    rise-next _ _ _ (c .before .before .before .before .before .before .before .before .region .inv) (c .before .before .before .before .before .before .if1 .taken) (rw (← c .before .before .before .before .before .page-in .ensures, ← c .before .before .before .before .key-in .ensures, e, f))
+    let m = c .before .before in
+    let k = m .before .before in
+    let t = k .before .before in
+    let b = t .before .before .before in
+    let e = sym (ask-no _ _ _ (m .before .loop .inv) (m .loop-test .left)) in
+    let f = part-no _ (b .binding-pairs .ensures) _ (c .before .loop2 .inv) (c .loop2-test .left) in
+    rise-next _ _ _ (t .before .before .region .inv) (t .if1 .taken) (rw (← k .before .page-in .ensures, ← k .key-in .ensures, e, f))
 
 returns : tie.Need-returns Inv-loop μ-loop Inv-loop2 μ-loop2 Inv-region μ-region
-returns c = rise-none _ _ _ (c .before .before .region .inv) (c .if1 .left) ∙ in-use-binding (c .before .before .before .before .before .before .args .map .now) (c .before .before .before .before .before .before .args .region) (c .before .before .before .binding-pairs .ensures)
+returns c =
+    let b = c .before .before .before in
+    let s = b .before .before .before in
+    rise-none _ _ _ (c .before .before .region .inv) (c .if1 .left) ∙ in-use-binding (s .args .map .now) (s .args .region) (b .binding-pairs .ensures)
 
 returns-2 : tie.Need-returns-2 Inv-loop μ-loop Inv-loop2 μ-loop2 Inv-region μ-region
 unfolding targeted edgeOn
 returns-2 c =
-    let e = sym (ask-yes _ _ _ (c .before .before .before .before .before .before .loop .inv) (c .before .before .before .before .before .loop-test .taken) (rw (← c .before .on-page .ensures, ← c .before .before .before .key-of .ensures) (c .if2 .taken))) in
-    rise-found _ _ _ (c .before .before .before .before .before .before .before .before .before .before .before .region .inv) (c .before .before .before .before .before .before .before .before .before .if1 .taken) (rw (← c .before .before .before .before .before .before .before .before .page-in .ensures, ← c .before .before .before .before .before .before .before .key-in .ensures, e))
-    ∙ in-use-binding (c .before .before .before .before .before .before .before .before .before .before .before .before .before .before .before .args .map .now) (c .before .before .before .before .before .before .before .before .before .before .before .before .before .before .before .args .region) (c .before .before .before .before .before .before .before .before .before .before .before .before .binding-pairs .ensures)
+    let i = c .before .before .before .before .before in
+    let k = i .before .before in
+    let t = k .before .before in
+    let b = t .before .before .before in
+    let s = b .before .before .before in
+    let e = sym (ask-yes _ _ _ (i .before .loop .inv) (i .loop-test .taken) (rw (← c .before .on-page .ensures, ← c .before .before .before .key-of .ensures) (c .if2 .taken))) in
+    rise-found _ _ _ (t .before .before .region .inv) (t .if1 .taken) (rw (← k .before .page-in .ensures, ← k .key-in .ensures, e))
+    ∙ in-use-binding (s .args .map .now) (s .args .region) (b .binding-pairs .ensures)
 
 returns-3 : tie.Need-returns-3 Inv-loop μ-loop Inv-loop2 μ-loop2 Inv-region μ-region
 unfolding targeted edgeOn
 returns-3 c =
-    let e = sym (ask-no _ _ _ (c .before .before .before .before .before .before .loop .inv) (c .before .before .before .before .before .loop-test .left)) in
-    let f = part-yes _ (c .before .before .before .before .before .before .before .before .before .before .before .before .binding-pairs .ensures) _ (c .before .before .before .before .loop2 .inv) (c .before .before .before .loop2-test .taken) (rw (← c .before .on-page2 .ensures) (c .if3 .taken)) in
-    rise-found _ _ _ (c .before .before .before .before .before .before .before .before .before .before .before .region .inv) (c .before .before .before .before .before .before .before .before .before .if1 .taken) (rw (← c .before .before .before .before .before .before .before .before .page-in .ensures, ← c .before .before .before .before .before .before .before .key-in .ensures, e, f))
-    ∙ in-use-binding (c .before .before .before .before .before .before .before .before .before .before .before .before .before .before .before .args .map .now) (c .before .before .before .before .before .before .before .before .before .before .before .before .before .before .before .args .region) (c .before .before .before .before .before .before .before .before .before .before .before .before .binding-pairs .ensures)
+    let j = c .before .before .before in
+    let m = j .before .before in
+    let k = m .before .before in
+    let t = k .before .before in
+    let b = t .before .before .before in
+    let s = b .before .before .before in
+    let e = sym (ask-no _ _ _ (m .before .loop .inv) (m .loop-test .left)) in
+    let f = part-yes _ (b .binding-pairs .ensures) _ (j .before .loop2 .inv) (j .loop2-test .taken) (rw (← c .before .on-page2 .ensures) (c .if3 .taken)) in
+    rise-found _ _ _ (t .before .before .region .inv) (t .if1 .taken) (rw (← k .before .page-in .ensures, ← k .key-in .ensures, e, f))
+    ∙ in-use-binding (s .args .map .now) (s .args .region) (b .binding-pairs .ensures)
 
 pub lowest-in-use-spec : {M : Type 1} → statement M
 lowest-in-use-spec =
