@@ -296,6 +296,8 @@ fn fresh_machine(pages: u64, shared_base: u64, shared_count: u64, units: &[u64])
     ensures { λ r. ⌜ r ≡ freshHeader (told pages «shared_base» «shared_count» (now (units .entry))) ⌝ }
 {
     let all = units_told(units);
+    // Replacement begins at the first slot.
+    let hand = 0;
     Machine {
         pages,
         shared_base,
@@ -305,8 +307,8 @@ fn fresh_machine(pages: u64, shared_base: u64, shared_count: u64, units: &[u64])
         known: 0,
         cpus: [IDLE; 8],
         devices: [IDLE; 8],
-        cpu_hand: 0,
-        dma_hand: 0,
+        cpu_hand: hand,
+        dma_hand: hand,
     }
 }
 

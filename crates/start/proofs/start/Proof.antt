@@ -5,6 +5,22 @@ use Rattle.start.specs.StartLaws.{start-passed, start-refused, start-acc
 use Rattle.start.proofs.start.Statement.{statement}
 use Rattle.start.proofs.start.Tie as tie
 
+-- on the way to the accepted answer: what was done to the DMA side, the CPU side, the pairs and the sets, and that all tests passed
+abbrev dma-made : tie.After-slice-known18 → tie.After-clear-route2
+dma-made c = c .before .before .before .before .before .before .before .before .before .before
+
+abbrev cpu-made : tie.After-slice-known18 → tie.After-clear-route
+cpu-made c = dma-made c .before .before .before .before .before .before .before .before .before .before
+
+abbrev pairs-made : tie.After-slice-known18 → tie.After-clear-words
+pairs-made c = cpu-made c .before .before .before .before .before .before
+
+abbrev sets-made : tie.After-slice-known18 → tie.After-fresh-sets
+sets-made c = pairs-made c .before .before .before .before
+
+abbrev passed : tie.After-slice-known18 → tie.After-enum-told
+passed c = sets-made c .before .before
+
 start-answer-requires : tie.Need-start-answer-requires
 start-answer-requires c κs = search needs
 
@@ -65,7 +81,7 @@ clear-words-requires-2 : tie.Need-clear-words-requires-2
 clear-words-requires-2 c κs = search needs
 
 fresh-machine-requires : tie.Need-fresh-machine-requires
-fresh-machine-requires c κs = start-passed _ _ (sym (c .before .before .before .before .before .before .before .before .before .before .before .before .before .before .before .before .before .before .before .before .before .before .before .before .before .before .before .before .before .before .before .before .before .before .start-answer .ensures) ∙ c .before .before .before .before .before .before .before .before .before .before .before .before .before .before .before .before .before .before .before .before .before .before .before .before .before .before .before .before .before .before .before .before .enum-told .given .1) .units-ok
+fresh-machine-requires c κs = start-passed _ _ (sym (passed c .before .before .start-answer .ensures) ∙ passed c .enum-told .given .1) .units-ok
 
 same-length-10 : tie.Need-same-length-10
 same-length-10 c = c .before .before .before .before .before .before .before .before .before .before .before .before .before .before .before .before .before .before .before .before .before .before .before .before .before .before .before .before .before .before .sets .given
@@ -96,17 +112,17 @@ same-length-18 c = search needs
 
 returns-2 : tie.Need-returns-2
 returns-2 c =
-    start-accepted _ _ _ _ (c .before .before .before .before .before .before .before .before .before .before .before .before .before .before .before .before .before .before .before .before .before .before .before .before .before .before .before .before .before .before .before .before .before .before .before .start-answer .ensures) _ _ _ _ _ _ _ _ _ _ _ (c .before .before .before .before .before .before .before .before .before .before .before .before .before .before .before .before .before .before .before .before .before .before .before .before .before .before .before .before .before .before .before .before .before .enum-told .given .1)
+    start-accepted _ _ _ _ (passed (c .before) .before .before .start-answer .ensures) _ _ _ _ _ _ _ _ _ _ _ (passed (c .before) .enum-told .given .1)
     (record {
       header-is = c .fresh-machine .ensures;
-      sets-are = c .before .before .before .before .before .before .before .before .before .before .before .before .before .before .before .before .before .before .before .before .before .before .before .before .before .before .before .before .before .before .before .fresh-sets .ensures;
-      pairs-are = c .before .before .before .before .before .before .before .before .before .before .before .before .before .before .before .before .before .before .before .before .before .before .before .before .before .before .before .clear-words .ensures;
-      cpu-map-is = c .before .before .before .before .before .before .before .before .before .before .before .before .before .before .before .before .before .before .before .before .before .clear-route .ensures .0;
-      cpu-walker-is = c .before .before .before .before .before .before .before .before .before .before .before .before .before .before .before .before .before .before .before .before .before .clear-route .ensures .1;
-      cpu-cache-is = c .before .before .before .before .before .before .before .before .before .before .before .before .before .before .before .before .before .before .before .before .before .clear-route .ensures .2;
-      dma-map-is = c .before .before .before .before .before .before .before .before .before .before .before .clear-route2 .ensures .0;
-      dma-walker-is = c .before .before .before .before .before .before .before .before .before .before .before .clear-route2 .ensures .1;
-      dma-cache-is = c .before .before .before .before .before .before .before .before .before .before .before .clear-route2 .ensures .2;
+      sets-are = sets-made (c .before) .fresh-sets .ensures;
+      pairs-are = pairs-made (c .before) .clear-words .ensures;
+      cpu-map-is = cpu-made (c .before) .clear-route .ensures .0;
+      cpu-walker-is = cpu-made (c .before) .clear-route .ensures .1;
+      cpu-cache-is = cpu-made (c .before) .clear-route .ensures .2;
+      dma-map-is = dma-made (c .before) .clear-route2 .ensures .0;
+      dma-walker-is = dma-made (c .before) .clear-route2 .ensures .1;
+      dma-cache-is = dma-made (c .before) .clear-route2 .ensures .2;
       memory-is = c .before .before .before .clear-words2 .ensures;
     })
 
