@@ -5,14 +5,14 @@ ghost use lib.ListN.{length};
 ghost use Rattle.numbers.specs.Limits.{PAGES, PAGE-WORDS, VMS, SETS, SET-WORDS};
 ghost use Rattle.model.specs.Effect.{kept, quiet, clears, apply};
 ghost use Rattle.model.specs.Ledger.{assignAnswer, assignSets, reclaimAnswer, reclaimSets, reclaimClears};
-use super::accept;
 use super::page_early;
-use super::refuse;
 use numbers::Answer;
 use numbers::PhysPage;
 use numbers::Refusal;
 use numbers::Side;
 use numbers::VmId;
+use numbers::accept;
+use numbers::refuse;
 use views::Test;
 
 // Operation 3: from the pool to the VM.
@@ -26,14 +26,14 @@ pub fn assign_page(known: u64, pages: u64, sets: &mut [u64], vm: VmId, page: Phy
         return Answer::Refused { refusal, index };
     }
     if !pages::holds(sets, pages::POOL, page) {
-        return refuse(Refusal::PageNotHeld);
+        return refuse(Refusal::PageNotHeld, 0);
     }
     if views::claimed_elsewhere(Side::Dma, sets, vm, page) {
-        return refuse(Refusal::PageClaimed);
+        return refuse(Refusal::PageClaimed, 0);
     }
     pages::remove(sets, pages::POOL, page);
     pages::add(sets, pages::cpu_row(vm), page);
-    accept()
+    accept(0)
 }
 
 // Clears a page that the VM gives up, unless it still claims the page for DMA.
@@ -68,13 +68,13 @@ pub fn reclaim_page(
         return Answer::Refused { refusal, index };
     }
     if !views::claims(Side::Cpu, sets, vm, page) {
-        return refuse(Refusal::PageNotHeld);
+        return refuse(Refusal::PageNotHeld, 0);
     }
     if views::any(cpu_map, Test::OnPage(page)) | views::any(pairs, Test::OnPage(page)) {
-        return refuse(Refusal::StillInUse);
+        return refuse(Refusal::StillInUse, 0);
     }
     clear_given_up(sets, memory, vm, page);
     pages::remove(sets, pages::cpu_row(vm), page);
     pages::add(sets, pages::POOL, page);
-    accept()
+    accept(0)
 }

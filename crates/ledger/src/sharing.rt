@@ -7,14 +7,14 @@ ghost use Rattle.numbers.specs.Packing.{pairKeyOf};
 ghost use Rattle.table.specs.Table.{erase};
 ghost use Rattle.model.specs.Effect.{kept};
 ghost use Rattle.model.specs.Ledger.{shareAnswer, sharePairs, borrowerMaps, unshareAnswer, unsharePairs};
-use super::accept;
 use super::pair_early;
-use super::refuse;
 use numbers::Answer;
 use numbers::PhysPage;
 use numbers::Refusal;
 use numbers::Side;
 use numbers::VmId;
+use numbers::accept;
+use numbers::refuse;
 use table::Found;
 use views::Test;
 
@@ -37,21 +37,21 @@ pub fn share_page(
         return Answer::Refused { refusal, index };
     }
     if left.0 == right.0 {
-        return refuse(Refusal::PairWrong);
+        return refuse(Refusal::PairWrong, 0);
     }
     if !views::claims(Side::Cpu, sets, left, page) {
-        return refuse(Refusal::PageNotHeld);
+        return refuse(Refusal::PageNotHeld, 0);
     }
     let stored = views::find_pair(pairs, left, right, page);
     if let Found::At(_) = stored {
-        return accept();
+        return accept(0);
     }
     let free = table::lowest_free(pairs);
     let Found::At(spot) = free else {
-        return refuse(Refusal::NoRoom);
+        return refuse(Refusal::NoRoom, 0);
     };
     pairs[spot] = numbers::pair_word(left, right, page);
-    accept()
+    accept(0)
 }
 
 // The VM maps a page that it does not own.
@@ -96,11 +96,11 @@ pub fn unshare_page(
     }
     let stored = views::find_pair(pairs, left, right, page);
     if let Found::Nothing = stored {
-        return refuse(Refusal::PairWrong);
+        return refuse(Refusal::PairWrong, 0);
     }
     if borrower_maps(sets, cpu_map, left, page) | borrower_maps(sets, cpu_map, right, page) {
-        return refuse(Refusal::StillInUse);
+        return refuse(Refusal::StillInUse, 0);
     }
     erase_pair(pairs, numbers::pair_key(left, right, page));
-    accept()
+    accept(0)
 }

@@ -5,14 +5,14 @@ ghost use lib.ListN.{length};
 ghost use Rattle.numbers.specs.Limits.{SETS, SET-WORDS};
 ghost use Rattle.model.specs.Effect.{kept};
 ghost use Rattle.model.specs.Ledger.{addVmAnswer, addVmKnown, removeVmAnswer, removeVmKnown};
-use super::accept;
-use super::refuse;
 use super::vm_early;
 use numbers::Answer;
 use numbers::Refusal;
 use numbers::Side;
 use numbers::VMS;
 use numbers::VmId;
+use numbers::accept;
+use numbers::refuse;
 use views::Test;
 
 pub struct Changed {
@@ -25,14 +25,14 @@ pub fn add_vm(known: u64, vm: VmId) -> Changed
     ensures { λ r. ⌜ (r .answer ≡ addVmAnswer known (vm .0)) × (r .known ≡ kept (addVmAnswer known (vm .0)) known (addVmKnown known (vm .0))) ⌝ }
 {
     if !(vm.0 < VMS) {
-        let answer = refuse(Refusal::OutOfRange);
+        let answer = refuse(Refusal::OutOfRange, 0);
         return Changed { answer, known };
     }
     if views::knows(known, vm) {
-        let answer = refuse(Refusal::VmKnown);
+        let answer = refuse(Refusal::VmKnown, 0);
         return Changed { answer, known };
     }
-    let answer = accept();
+    let answer = accept(0);
     let known = pages::with_bit(known, vm.0);
     Changed { answer, known }
 }
@@ -65,10 +65,10 @@ pub fn remove_vm(
         | views::any(&cpus, Test::Runs(vm))
         | views::any(&devices, Test::Runs(vm));
     if busy {
-        let answer = refuse(Refusal::VmBusy);
+        let answer = refuse(Refusal::VmBusy, 0);
         return Changed { answer, known };
     }
-    let answer = accept();
+    let answer = accept(0);
     let known = pages::without_bit(known, vm.0);
     Changed { answer, known }
 }

@@ -23,12 +23,6 @@ pub port-passed : (known port : ℕ) (target : Target) {dropped word : ℕ} → 
 unfolding portAnswer
 port-passed known port target e = ltb-true port PORTS (hold (isPort port) (isTarget target) (past (not (isPort port && isTarget target)) _ _ _ e .0) .0)
 
--- a place that there is reads the same, whatever else would be read past the end
-pub getD-there : (ws : List ℕ) (i a b : ℕ) → i < length ws → getD ws i a ≡ getD ws i b
-getD-there [] i a b h = absurd (omega arith)
-getD-there (w ∷ ws) zero a b h = refl
-getD-there (w ∷ ws) (suc i) a b h = getD-there ws i a b (omega arith)
-
 -- ---- the walker has the key exactly where its word is not 0
 module _ (ws : List ℕ) (k : ℕ) where
   there : (f : Found) → (wordAt ws f ≡ 0 → ⊥) → isFound f ≡ true

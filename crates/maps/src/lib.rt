@@ -7,7 +7,7 @@ ghost use Rattle.numbers.specs.Choice.{if_then_else_};
 ghost use Rattle.numbers.specs.Limits.{PAGES, SETS, SET-WORDS};
 ghost use Rattle.numbers.specs.Packing.{keyOf};
 ghost use Rattle.table.specs.Table.{place, isFound, setAt};
-ghost use Rattle.model.specs.Effect.{acceptedDropping, refused, kept};
+ghost use Rattle.model.specs.Effect.{kept};
 ghost use Rattle.model.specs.Maps.{mapEarly, unmapEarly, mapAnswer, mapTable, withoutSlots, unmapAnswer, unmapTable};
 ghost use Rattle.model.specs.Ports.{portAnswer, portPorts, fillAnswer, fillPlace, fillCache, nextHand, fillHand, emptyAnswer, emptyCache};
 use numbers::ACCESSES;
@@ -23,27 +23,9 @@ use numbers::Side;
 use numbers::Target;
 use numbers::VMS;
 use numbers::VmId;
+use numbers::accept;
+use numbers::refuse;
 use table::Found;
-
-// ---- Answers.
-
-fn refuse(refusal: Refusal) -> Answer
-    ensures { λ r. ⌜ r ≡ refused refusal ⌝ }
-{
-    Answer::Refused {
-        refusal: refusal,
-        index: 0,
-    }
-}
-
-fn accept(dropped: u64) -> Answer
-    ensures { λ r. ⌜ r ≡ acceptedDropping dropped ⌝ }
-{
-    Answer::Accepted {
-        dropped: dropped,
-        word: 0,
-    }
-}
 
 // ---- Maps.
 
@@ -64,10 +46,10 @@ pub fn map_early(
         & (page.0 < pages)
         & (access < ACCESSES)
         & (generation < GENERATIONS)) {
-        return refuse(Refusal::OutOfRange);
+        return refuse(Refusal::OutOfRange, 0);
     }
     if !views::knows(known, vm) {
-        return refuse(Refusal::VmUnknown);
+        return refuse(Refusal::VmUnknown, 0);
     }
     accept(0)
 }
@@ -77,10 +59,10 @@ pub fn unmap_early(known: u64, vm: VmId, guest: GuestPage) -> Answer
     ensures { λ r. ⌜ r ≡ unmapEarly known (vm .0) (guest .0) ⌝ }
 {
     if !((vm.0 < VMS) & (guest.0 < GUEST_PAGES)) {
-        return refuse(Refusal::OutOfRange);
+        return refuse(Refusal::OutOfRange, 0);
     }
     if !views::knows(known, vm) {
-        return refuse(Refusal::VmUnknown);
+        return refuse(Refusal::VmUnknown, 0);
     }
     accept(0)
 }
@@ -116,12 +98,12 @@ pub fn map_page(
         return Answer::Refused { refusal, index };
     }
     if !views::may_map(side, sets, pairs, vm, page) {
-        return refuse(Refusal::PageNotHeld);
+        return refuse(Refusal::PageNotHeld, 0);
     }
     let key = numbers::key(vm, guest);
     let spot = table::place(map, key);
     if let Found::Nothing = spot {
-        return refuse(Refusal::NoRoom);
+        return refuse(Refusal::NoRoom, 0);
     }
     let word = numbers::map_word(vm, guest, numbers::entry(page, access, generation));
     table::put(map, key, word);
@@ -150,7 +132,7 @@ pub fn unmap_page(
     let key = numbers::key(vm, guest);
     let spot = table::find(map, key);
     if let Found::Nothing = spot {
-        return refuse(Refusal::MappingDiffers);
+        return refuse(Refusal::MappingDiffers, 0);
     }
     table::erase(map, key);
     table::erase(walker, key);
@@ -170,16 +152,16 @@ fn port_answer(known: u64, port: u64, target: Target) -> Answer
     ensures { λ r. ⌜ r ≡ portAnswer known port target ⌝ }
 {
     if !(port < PORTS) {
-        return refuse(Refusal::OutOfRange);
+        return refuse(Refusal::OutOfRange, 0);
     }
     let Target::Vm(vm) = target else {
         return accept(0);
     };
     if !(vm.0 < VMS) {
-        return refuse(Refusal::OutOfRange);
+        return refuse(Refusal::OutOfRange, 0);
     }
     if !views::knows(known, vm) {
-        return refuse(Refusal::VmUnknown);
+        return refuse(Refusal::VmUnknown, 0);
     }
     accept(0)
 }
@@ -262,21 +244,21 @@ pub fn fill_slot(
 {
     if !((port < PORTS) & (guest.0 < GUEST_PAGES)) {
         return Filled {
-            answer: refuse(Refusal::OutOfRange),
+            answer: refuse(Refusal::OutOfRange, 0),
             hand: hand,
         };
     }
     let vm = VmId(ports[port as usize]);
     if !(vm.0 < VMS) {
         return Filled {
-            answer: refuse(Refusal::PortIdle),
+            answer: refuse(Refusal::PortIdle, 0),
             hand: hand,
         };
     }
     let found = table::lookup(walker, numbers::key(vm, guest));
     if found == 0 {
         return Filled {
-            answer: refuse(Refusal::MappingDiffers),
+            answer: refuse(Refusal::MappingDiffers, 0),
             hand: hand,
         };
     }
@@ -295,7 +277,7 @@ pub fn empty_slot(cache: &mut [u64], slot: u64) -> Answer
         × (now (cache .exit) ≡ kept (emptyAnswer slot) (now (cache .entry)) (emptyCache (now (cache .entry)) slot)) ⌝ }
 {
     if !(slot < SLOTS) {
-        return refuse(Refusal::OutOfRange);
+        return refuse(Refusal::OutOfRange, 0);
     }
     set_slot(cache, slot, 0);
     accept(0)

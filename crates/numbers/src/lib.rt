@@ -176,6 +176,20 @@ pub enum Operation {
     InstructionBarrier,
 }
 
+// ---- Answers, made.
+
+pub fn accept(dropped: u64) -> Answer
+    ensures { λ r. ⌜ r ≡ Answer.Accepted dropped 0 ⌝ }
+{
+    Answer::Accepted { dropped, word: 0 }
+}
+
+pub fn refuse(refusal: Refusal, index: u64) -> Answer
+    ensures { λ r. ⌜ r ≡ Answer.Refused refusal index ⌝ }
+{
+    Answer::Refused { refusal, index }
+}
+
 // ---- The numbers of an enum.
 
 pub fn refusal_number(refusal: Refusal) -> u64

@@ -4,31 +4,20 @@ ghost use mathlib.Core.Path.{_≡_};
 ghost use Prim.Native.Nat.{_*_, _≤_};
 ghost use lib.ListN.{length};
 ghost use Rattle.numbers.specs.Limits.{PAGES, SETS, SET-WORDS, PAGE-WORDS};
-ghost use Rattle.numbers.specs.declared.Answer.the-variants.{Refused};
-ghost use Rattle.model.specs.Effect.{acceptedDropping, kept, apply, clears, quiet};
+ghost use Rattle.model.specs.Effect.{kept, apply, clears, quiet};
 ghost use Rattle.model.specs.Regions.{regionEarly, insertAnswer, insertSets, insertTable, removeAnswer, removeSets, removeTable, removeClears};
 use numbers::ACCESSES;
 use numbers::Answer;
 use numbers::Refusal;
 use numbers::Side;
 use numbers::VMS;
+use numbers::accept;
+use numbers::refuse;
 use units::Region;
 use units::Unit;
 
 mod edits; // edits.rt: what an accepted operation changes
 mod searches; // searches.rt: the lowest page of a region that fails a check
-
-fn accept(dropped: u64) -> Answer
-    ensures { λ r. ⌜ r ≡ acceptedDropping dropped ⌝ }
-{
-    Answer::Accepted { dropped, word: 0 }
-}
-
-fn refuse(refusal: Refusal, index: u64) -> Answer
-    ensures { λ r. ⌜ r ≡ Refused refusal index ⌝ }
-{
-    Answer::Refused { refusal, index }
-}
 
 // Early checks, of numbers alone. Spans are judged by refusal 3 and never by 2.
 pub fn region_early(known: u64, pages: u64, region: Region) -> Answer

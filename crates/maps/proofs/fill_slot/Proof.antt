@@ -7,7 +7,8 @@ use borrow.Author.Tests.{ltb-true, not-false}
 use Rattle.numbers.specs.Limits.{PORTS, GUEST-PAGES, VMS, IDLE}
 use Rattle.model.specs.EarlyLaws.{hold}
 use Rattle.model.specs.Ports.{fillAnswer, fillCache, fillHand}
-use Rattle.maps.specs.PortLaws.{getD-there, walk-some, walk-none}
+use Rattle.model.specs.MemoryLaws.{getD-there}
+use Rattle.maps.specs.PortLaws.{walk-some, walk-none}
 use Rattle.maps.proofs.fill_slot.Statement.{statement}
 use Rattle.maps.proofs.fill_slot.Tie as tie
 
