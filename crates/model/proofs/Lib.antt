@@ -1,3 +1,4 @@
 -- What is proved of the machine.
 pub mod Computes
+pub mod Rows
 pub mod Worked

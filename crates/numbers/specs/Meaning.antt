@@ -119,3 +119,32 @@ operationNumber (CpuWrite port guest word value) = 23
 operationNumber (DmaWrite port guest word value) = 24
 operationNumber DataBarrier = 25
 operationNumber InstructionBarrier = 26
+
+-- the arguments, in the paper's order
+abbrev pub operationArguments : Operation → List ℕ
+operationArguments (AddVm vm) = vm .0 ∷ []
+operationArguments (RemoveVm vm) = vm .0 ∷ []
+operationArguments (AssignPage vm page) = vm .0 ∷ page .0 ∷ []
+operationArguments (ReclaimPage vm page) = vm .0 ∷ page .0 ∷ []
+operationArguments (SharePage left right page) = left .0 ∷ right .0 ∷ page .0 ∷ []
+operationArguments (UnsharePage left right page) = left .0 ∷ right .0 ∷ page .0 ∷ []
+operationArguments (CpuMap vm guest page access generation) = vm .0 ∷ guest .0 ∷ page .0 ∷ access ∷ generation ∷ []
+operationArguments (DmaMap vm guest page access generation) = vm .0 ∷ guest .0 ∷ page .0 ∷ access ∷ generation ∷ []
+operationArguments (CpuUnmap vm guest) = vm .0 ∷ guest .0 ∷ []
+operationArguments (DmaUnmap vm guest) = vm .0 ∷ guest .0 ∷ []
+operationArguments (InsertRegion vm guest page count access) = vm .0 ∷ guest .0 ∷ page .0 ∷ count ∷ access ∷ []
+operationArguments (RemoveRegion vm guest page count access) = vm .0 ∷ guest .0 ∷ page .0 ∷ count ∷ access ∷ []
+operationArguments (DmaInsertRegion vm guest page count access) = vm .0 ∷ guest .0 ∷ page .0 ∷ count ∷ access ∷ []
+operationArguments (DmaRemoveRegion vm guest page count access) = vm .0 ∷ guest .0 ∷ page .0 ∷ count ∷ access ∷ []
+operationArguments (SwitchCpu port target) = port ∷ targetNumber target ∷ []
+operationArguments (BindDevice port target) = port ∷ targetNumber target ∷ []
+operationArguments (CpuFill port guest) = port ∷ guest .0 ∷ []
+operationArguments (DmaFill port guest) = port ∷ guest .0 ∷ []
+operationArguments (EmptyCpuSlot slot) = slot ∷ []
+operationArguments (EmptyDmaSlot slot) = slot ∷ []
+operationArguments (CpuRead port guest word) = port ∷ guest .0 ∷ word ∷ []
+operationArguments (DmaRead port guest word) = port ∷ guest .0 ∷ word ∷ []
+operationArguments (CpuWrite port guest word value) = port ∷ guest .0 ∷ word ∷ value ∷ []
+operationArguments (DmaWrite port guest word value) = port ∷ guest .0 ∷ word ∷ value ∷ []
+operationArguments DataBarrier = []
+operationArguments InstructionBarrier = []
