@@ -5,7 +5,6 @@ ghost use Prim.Native.Nat.{_*_, _<_};
 ghost use lib.ListN.{length};
 ghost use Rattle.numbers.specs.Limits.{SETS, SET-WORDS};
 ghost use Rattle.table.specs.Scan.{lowest};
-ghost use Rattle.model.specs.Views.{onPage};
 ghost use Rattle.model.specs.Regions.{pageIn, keyIn, regionEntry, notFree, present, claimed, notHeld, differs, inUse};
 ghost use Rattle.regions.specs.RegionLaws.{Placed, Binding};
 use numbers::GuestPage;
@@ -155,13 +154,6 @@ pub fn lowest_differs(map: &[u64], region: Region) -> u64
     k
 }
 
-// A filled word on the page: a mapping onto it, or a pair whose edges name it.
-fn on_page(w: u64, page: PhysPage) -> bool
-    ensures { λ r. ⌜ r ≡ onPage (page .0) w ⌝ }
-{
-    (numbers::filled_of(w) == 1) & (numbers::page_of(w).0 == page.0)
-}
-
 // How many pairs may hold a page back: edges are the CPU's alone.
 fn binding_pairs(side: Side, pairs: &[u64]) -> usize
     ensures { λ r. ⌜ Binding side (now (pairs .entry)) r ⌝ }
@@ -184,14 +176,14 @@ pub fn lowest_in_use(side: Side, pairs: &[u64], map: &[u64], region: Region) -> 
         let own = key_in(region, k);
         let mut i = 0;
         while i < map.len() {
-            if !(numbers::key_of(map[i]) == own) & on_page(map[i], page) {
+            if !(numbers::key_of(map[i]) == own) & views::on_page(map[i], page) {
                 break 'region;
             }
             i += 1;
         }
         let mut j = 0;
         while j < edges {
-            if on_page(pairs[j], page) {
+            if views::on_page(pairs[j], page) {
                 break 'region;
             }
             j += 1;

@@ -6,7 +6,7 @@ ghost use Rattle.numbers.specs.Limits.{PAGES, VMS, SETS, SET-WORDS};
 ghost use Rattle.numbers.specs.Packing.{pairKey, pairKeyOf};
 ghost use Rattle.table.specs.Scan.{any};
 ghost use Rattle.table.specs.Table.{find};
-ghost use Rattle.model.specs.Views.{knows, claims, claimedElsewhere, hasPages, isFilled, mayMap};
+ghost use Rattle.model.specs.Views.{knows, claims, claimedElsewhere, hasPages, onPage, mayMap};
 ghost use Rattle.views.specs.Tests.{passes};
 use numbers::PAGES;
 use numbers::PhysPage;
@@ -78,8 +78,9 @@ pub enum Test {
     Runs(VmId),
 }
 
-fn on_page(w: u64, page: PhysPage) -> bool
-    ensures { λ r. ⌜ r ≡ passes (Test.OnPage page) w ⌝ }
+// A mapping onto the page, or a pair on it.
+pub fn on_page(w: u64, page: PhysPage) -> bool
+    ensures { λ r. ⌜ r ≡ onPage (page .0) w ⌝ }
 {
     (numbers::filled_of(w) == 1) & (numbers::page_of(w).0 == page.0)
 }
