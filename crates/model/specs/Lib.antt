@@ -15,3 +15,5 @@ pub mod Step
 pub mod ShapeLaws
 pub mod Start
 pub mod Sequence
+pub mod Good
+pub mod Entries

@@ -58,20 +58,20 @@ pub data Home : ℕ → Type 0 where
   shared : Home sharedRow
   cpu : (vm : ℕ) → vm < VMS → Home (cpuRow vm)
 
-pub record PagesGood (s : Setup) (known : ℕ) (sets : List ℕ) : Type 0 where
+pub record PagesGood (pages base count known : ℕ) (sets : List ℕ) : Type 0 where
   -- no page bit at N or above
-  pub inside : (row page : ℕ) → row < SETS → page < PAGES → s .pages ≤ page → holds sets row page ≡ false
+  pub inside : (row page : ℕ) → row < SETS → page < PAGES → pages ≤ page → holds sets row page ≡ false
   -- the shared row is the span
-  pub span : (page : ℕ) → page < s .pages → inShared sets page ≡ inSpan (s .sharedBase) (s .sharedCount) page
+  pub span : (page : ℕ) → page < pages → inShared sets page ≡ inSpan base count page
   -- every page in exactly one home
-  pub some-home : (page : ℕ) → page < s .pages → (row : ℕ) × (Home row × (holds sets row page ≡ true))
-  pub one-home : (row row′ page : ℕ) → Home row → Home row′ → page < s .pages → holds sets row page ≡ true → holds sets row′ page ≡ true → row ≡ row′
+  pub some-home : (page : ℕ) → page < pages → (row : ℕ) × (Home row × (holds sets row page ≡ true))
+  pub one-home : (row row′ page : ℕ) → Home row → Home row′ → page < pages → holds sets row page ≡ true → holds sets row′ page ≡ true → row ≡ row′
   -- no page held for DMA by two VMs, and each is its VM's own CPU page or lies in the pool
-  pub one-dma : (vm vm′ page : ℕ) → vm < VMS → vm′ < VMS → page < s .pages → holdsDma sets vm page ≡ true → holdsDma sets vm′ page ≡ true → vm ≡ vm′
-  pub dma-home : (vm page : ℕ) → vm < VMS → page < s .pages → holdsDma sets vm page ≡ true → (owns sets vm page ≡ true) ⊎ (inPool sets page ≡ true)
+  pub one-dma : (vm vm′ page : ℕ) → vm < VMS → vm′ < VMS → page < pages → holdsDma sets vm page ≡ true → holdsDma sets vm′ page ≡ true → vm ≡ vm′
+  pub dma-home : (vm page : ℕ) → vm < VMS → page < pages → holdsDma sets vm page ≡ true → (owns sets vm page ≡ true) ⊎ (inPool sets page ≡ true)
   -- an id that is not known holds no pages
-  pub cpu-known : (vm page : ℕ) → vm < VMS → page < s .pages → owns sets vm page ≡ true → knows known vm ≡ true
-  pub dma-known : (vm page : ℕ) → vm < VMS → page < s .pages → holdsDma sets vm page ≡ true → knows known vm ≡ true
+  pub cpu-known : (vm page : ℕ) → vm < VMS → page < pages → owns sets vm page ≡ true → knows known vm ≡ true
+  pub dma-known : (vm page : ℕ) → vm < VMS → page < pages → holdsDma sets vm page ≡ true → knows known vm ≡ true
 
 -- ---- 5: sharing pairs
 -- a word that packs a pair of two different known VMs on a page that one of them owns
@@ -137,7 +137,7 @@ pub record ValidTables (t : Tables) : Type 0 where
   pub lengths : Lengths t
   pub setup : SetupGood (t .setup)
   pub known : KnownGood (t .known)
-  pub pages : PagesGood (t .setup) (t .known) (t .sets)
+  pub pages : PagesGood (t .setup .pages) (t .setup .sharedBase) (t .setup .sharedCount) (t .known) (t .sets)
   pub pairs : PairsGood (t .setup .pages) (t .known) (t .sets) (t .pairs)
   pub cpu : RouteGood Cpu (t .setup .pages) (t .known) (t .sets) (t .pairs) (t .cpu)
   pub dma : RouteGood Dma (t .setup .pages) (t .known) (t .sets) (t .pairs) (t .dma)

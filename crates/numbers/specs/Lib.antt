@@ -1,5 +1,6 @@
 -- What the machine's numbers mean.
 pub mod Choice
+pub mod Decides
 pub mod Limits
 pub mod Meaning
 pub mod Packing

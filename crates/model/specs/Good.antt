@@ -1,0 +1,89 @@
+-- What a step owes to valid tables (docs/MACHINE.md, 12): what it leaves is valid, a VM reaches only what it may, and
+-- a page is cleared when, and only when, nobody claims it any longer. Secrecy rests on this alone.
+use Prim.{Unit}
+use Prim.Native.Nat.{ℕ, _<_}
+use mathlib.Core.Bool.{Bool, true, false, _||_}
+use mathlib.Core.List.{List, [], _∷_}
+use mathlib.Core.Logic.{_⊎_}
+use mathlib.Core.Path.{_≡_}
+use Rattle.numbers.specs.Limits.{VMS}
+use Rattle.numbers.specs.Packing.{leftOf, rightOf, pageOf}
+use Rattle.numbers.specs.declared.Answer.{Answer}
+use Rattle.numbers.specs.declared.Operation.{Operation}
+use Rattle.numbers.specs.declared.Operation.the-variants.{SharePage}
+use Rattle.table.specs.Table.{Has}
+use Rattle.model.specs.State.{Tables}
+use Rattle.model.specs.Views.{owns, holdsDma, inShared, shares}
+use Rattle.model.specs.Effect.{Place, Store, Effect, reads, writes, clears, Control, accepted}
+use Rattle.model.specs.Sequence.{vmId, physPage}
+use Rattle.model.specs.Valid.{ValidTables}
+
+-- ---- claims
+-- the VM holds the page for CPU or for DMA
+abbrev pub holdsPage : List ℕ → ℕ → ℕ → Bool
+holdsPage sets vm page = owns sets vm page || holdsDma sets vm page
+
+-- ---- what an effect does to a page
+abbrev pub PlaceOn : ℕ → List Place → Type 0
+PlaceOn page [] = ⊥
+PlaceOn page (x ∷ xs) = (x .page ≡ page) ⊎ PlaceOn page xs
+
+abbrev pub StoreOn : ℕ → List Store → Type 0
+StoreOn page [] = ⊥
+StoreOn page (x ∷ xs) = (x .place .page ≡ page) ⊎ StoreOn page xs
+
+abbrev pub PageIn : ℕ → List ℕ → Type 0
+PageIn page [] = ⊥
+PageIn page (x ∷ xs) = (x ≡ page) ⊎ PageIn page xs
+
+-- the VM writes a word of the page; reads or writes one
+abbrev pub Wrote : Effect → ℕ → ℕ → Type 0
+Wrote (reads vm places) v page = ⊥
+Wrote (writes vm stores) v page = (vm ≡ v) × StoreOn page stores
+Wrote (clears pages) v page = ⊥
+
+abbrev pub Touches : Effect → ℕ → ℕ → Type 0
+Touches (reads vm places) v page = (vm ≡ v) × PlaceOn page places
+Touches (writes vm stores) v page = (vm ≡ v) × StoreOn page stores
+Touches (clears pages) v page = ⊥
+
+-- the effect is a VM's access; the page is cleared
+abbrev pub IsAccess : Effect → Type 0
+IsAccess (reads vm places) = Unit {0}
+IsAccess (writes vm stores) = Unit {0}
+IsAccess (clears pages) = ⊥
+
+abbrev pub Cleared : Effect → ℕ → Type 0
+Cleared (reads vm places) page = ⊥
+Cleared (writes vm stores) page = ⊥
+Cleared (clears pages) page = PageIn page pages
+
+-- ---- what a VM may reach: a page that it holds, that a pair lends to it, or of the shared span
+pub data Way (t : Tables) (vm page : ℕ) : Type 0 where
+  own : holdsPage (t .sets) vm page ≡ true → Way t vm page
+  lent : shares (t .pairs) vm page ≡ true → Way t vm page
+  span : inShared (t .sets) page ≡ true → Way t vm page
+
+pub record Reaches (t : Tables) (vm page : ℕ) : Type 0 where
+  pub vm-ok : vm < VMS
+  pub page-ok : page < t .setup .pages
+  pub way : Way t vm page
+
+-- ---- the pair was made by an accepted share of the page's owner
+pub record Made (t : Tables) (operation : Operation) (answer : Answer) (w : ℕ) : Type 0 where
+  pub share : operation ≡ SharePage (vmId (leftOf w)) (vmId (rightOf w)) (physPage (pageOf w))
+  pub agreed : answer ≡ accepted
+  pub owned : owns (t .sets) (leftOf w) (pageOf w) ≡ true
+
+-- ---- all that a step owes
+pub record Good (t : Tables) (operation : Operation) (c : Control) : Type 0 where
+  pub valid : ValidTables (c .tables)
+  pub reach : (vm page : ℕ) → Touches (c .effect) vm page → Reaches t vm page
+  -- an access changes no table
+  pub still : IsAccess (c .effect) → c .tables ≡ t
+  -- a page on which a VM's last claim ended is cleared
+  pub wiped : (vm page : ℕ) → vm < VMS → page < t .setup .pages → holdsPage (t .sets) vm page ≡ true → holdsPage (c .tables .sets) vm page ≡ false → Cleared (c .effect) page
+  -- a page that was cleared is claimed by nobody
+  pub free : (vm page : ℕ) → vm < VMS → page < t .setup .pages → Cleared (c .effect) page → holdsPage (c .tables .sets) vm page ≡ true → ⊥
+  -- no edge comes from nowhere
+  pub edges : (w : ℕ) → Has (c .tables .pairs) w → Has (t .pairs) w ⊎ Made t operation (c .answer) w
