@@ -17,3 +17,4 @@ pub mod Start
 pub mod Sequence
 pub mod Good
 pub mod Entries
+pub mod Conditions
