@@ -2,3 +2,5 @@
 pub mod Computes
 pub mod Rows
 pub mod Worked
+pub mod ExactLaws
+pub mod ExactViews

@@ -2,12 +2,14 @@
 -- show (who is known, owns, holds, shares, maps) and in no order of checks.
 use Prim.{Unit as Anything}
 use Prim.Native.Nat.{ℕ, _+_, _/_, _%_, _≤_, _<_}
-use mathlib.Core.Bool.{true, false}
+use mathlib.Core.Bool.{Bool, true, false}
 use mathlib.Core.Logic.{_⊎_}
 use mathlib.Core.Path.{_≡_}
 use lib.ListN.{getD}
 use Rattle.numbers.specs.Limits.{VMS, GUEST-PAGES, PAGE-WORDS, PAGES, PORTS, SLOTS, ACCESSES, GENERATIONS, READ, WRITE, IDLE}
 use Rattle.numbers.specs.Packing.{vmOf, guestOf, pageOf, accessOf, generationOf, leftOf, rightOf}
+use Rattle.numbers.specs.declared.Answer.{Answer}
+use Rattle.numbers.specs.declared.Answer.the-variants.{Accepted, Refused}
 use Rattle.numbers.specs.declared.Side.{Side}
 use Rattle.numbers.specs.declared.Side.the-variants.{Cpu, Dma}
 use Rattle.numbers.specs.declared.Target.{Target}
@@ -49,6 +51,11 @@ use Rattle.model.specs.State.{Tables, route}
 use Rattle.model.specs.Views.{knows, inPool, inShared, owns, holdsDma, claims}
 use Rattle.model.specs.Start.{unitRegion}
 use Rattle.model.specs.Step.{regionOf}
+
+-- ---- the answer accepts
+abbrev pub accepts : Answer → Bool
+accepts (Accepted dropped word) = true
+accepts (Refused refusal index) = false
 
 -- ---- what the tables show
 abbrev pub Knows : Tables → ℕ → Type 0
