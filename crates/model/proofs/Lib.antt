@@ -2,3 +2,4 @@
 pub mod Computes
 pub mod Rows
 pub mod Worked
+pub mod ViewLaws
