@@ -3,3 +3,5 @@ pub mod Computes
 pub mod Rows
 pub mod Worked
 pub mod ViewLaws
+pub mod Refused
+pub mod Carried
