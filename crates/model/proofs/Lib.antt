@@ -2,5 +2,9 @@
 pub mod Computes
 pub mod Rows
 pub mod Worked
+pub mod ViewLaws
+pub mod Refused
+pub mod Carried
+pub mod PagesKept
 pub mod ExactLaws
 pub mod ExactViews
