@@ -4,7 +4,7 @@ use Prim.Native.Nat.{ℕ, _+_, _<_, min, max}
 use mathlib.Core.Bool.{Bool, true, false, not, true≢false}
 use mathlib.Core.List.{List}
 use mathlib.Core.Logic.{_⊎_, inl, inr, ⊎-elim}
-use mathlib.Core.Path.{_≡_, refl, sym, _∙_}
+use mathlib.Core.Path.{_≡_, refl, sym, ap, _∙_}
 use native.Mathlib.Omega.{arith}
 use lib.Dec.{eqb}
 use lib.ListN.{length, getD}
@@ -12,7 +12,8 @@ use borrow.Author.Tests.{eqb-true, eq-eqb}
 use Rattle.numbers.specs.Limits.{VMS, GUEST-PAGES, PAGES, PORTS, IDLE}
 use Rattle.numbers.specs.Decides.{Decides}
 use Rattle.numbers.specs.DecidesLaws.{decides-as, decides-itself, decides-equal, decides-not, decides-and, decides-or}
-use Rattle.numbers.specs.Packing.{portOf, vmOf, guestOf, filledOf, pageOf, leftOf, rightOf, key, keyOf, pairKey, pairKeyOf}
+use Rattle.numbers.specs.Packing.{portOf, vmOf, guestOf, filledOf, pageOf, accessOf, generationOf, leftOf, rightOf, key, keyOf, pairKey, pairKeyOf}
+use Rattle.numbers.specs.PackingLaws.{key-same}
 use Rattle.numbers.specs.declared.Side.{Side}
 use Rattle.numbers.specs.declared.Side.the-variants.{Cpu, Dma}
 use Rattle.table.specs.ScanLaws.{cases}
@@ -65,15 +66,36 @@ place-exact keys ws k = go (find keys ws k) (lowestFree ws) refl
         nowhere : 0 < freeEntries ws → ⊥
         nowhere h = let (i, q) = free-place ws h in let z : At i ≡ Nothing = sym q ∙ e in true≢false (ap isFound z)
 
--- ---- mappings
+-- ---- mappings of valid tables
+-- a map's filled word has the key of its VM and guest page
+pub map-key : (w : ℕ) → portOf w ≡ 0 → filledOf w ≡ 1 → keyOf w ≡ key (vmOf w) (guestOf w)
+map-key w p f = omega arith
+
 module _ (side : Side) (t : Tables) (v : ValidTables t) where
-  good : RouteGood side (t .setup .pages) (t .known) (t .sets) (t .pairs) (route side t)
-  good = pick side
+  pub route-good : RouteGood side (t .setup .pages) (t .known) (t .sets) (t .pairs) (route side t)
+  route-good = pick side
     where
       pick : (s : Side) → RouteGood s (t .setup .pages) (t .known) (t .sets) (t .pairs) (route s t)
       pick Cpu = v .cpu
       pick Dma = v .dma
 
+  entry : (w : ℕ) → Has (route side t .map) w → EntryGood side (t .setup .pages) (t .known) (t .sets) (t .pairs) w
+  entry w h = route-good .map .each w h
+
   -- a filled word of a map, as a mapping
-  pub mapping : (w : ℕ) → Has (route side t .map) w → Maps side t (vmOf w) (guestOf w) (pageOf w) (accessOf w) (generationOf w)
+  mapping : (w : ℕ) → Has (route side t .map) w → Maps side t (vmOf w) (guestOf w) (pageOf w) (accessOf w) (generationOf w)
   mapping w h = record { word = w; stored = h; vm-of = refl; guest-of = refl; page-of = refl; access-of = refl; generation-of = refl }
+
+  pub mapped-exact : (vm guest : ℕ) → guest < GUEST-PAGES → Decides (isFound (find keyOf (route side t .map) (key vm guest))) (Mapped side t vm guest)
+  mapped-exact vm guest g = decides-as (key-exact keyOf (route side t .map) (key vm guest) (λ e. omega arith)) to fro
+    where
+      to : (w : ℕ) × Has (route side t .map) w × (keyOf w ≡ key vm guest) → Mapped side t vm guest
+      to (w, h, e) =
+          let r = entry w h in
+          let s = key-same (vmOf w) (guestOf w) vm guest (omega arith) g (sym (map-key w (r .port) (r .filled)) ∙ e) in
+          record { page = pageOf w; access = accessOf w; generation = generationOf w; mapping = rw (s .0, s .1) at (mapping w h) }
+
+      fro : Mapped side t vm guest → (w : ℕ) × Has (route side t .map) w × (keyOf w ≡ key vm guest)
+      fro m =
+          let r = entry (m .mapping .word) (m .mapping .stored) in
+          (m .mapping .word, m .mapping .stored, map-key (m .mapping .word) (r .port) (r .filled) ∙ rw (m .mapping .vm-of, m .mapping .guest-of))
