@@ -1,26 +1,27 @@
 -- What the machine looks up is exactly what the tables show, in valid tables.
 use Prim.{Unit, tt}
-use Prim.Native.Nat.{ℕ, _+_, _<_, min, max}
-use mathlib.Core.Bool.{Bool, true, false, not, true≢false}
+use Prim.Native.Nat.{ℕ, _+_, _≤_, _<_, min, max}
+use mathlib.Core.Bool.{Bool, true, false, not, _&&_, true≢false}
 use mathlib.Core.List.{List}
 use mathlib.Core.Logic.{_⊎_, inl, inr, ⊎-elim}
 use mathlib.Core.Path.{_≡_, refl, sym, ap, _∙_}
 use native.Mathlib.Omega.{arith}
-use lib.Dec.{eqb}
+use lib.Dec.{eqb, leb}
 use lib.ListN.{length, getD}
-use borrow.Author.Tests.{eqb-true, eq-eqb}
+use borrow.Author.Tests.{eqb-true, eq-eqb, leb-true, leb-false}
 use Rattle.numbers.specs.Limits.{VMS, GUEST-PAGES, PAGES, PORTS, IDLE}
 use Rattle.numbers.specs.Decides.{Decides}
 use Rattle.numbers.specs.DecidesLaws.{decides-as, decides-itself, decides-equal, decides-not, decides-and, decides-or}
-use Rattle.numbers.specs.Packing.{portOf, vmOf, guestOf, filledOf, pageOf, accessOf, generationOf, leftOf, rightOf, key, keyOf, pairKey, pairKeyOf}
-use Rattle.numbers.specs.PackingLaws.{key-same}
+use Rattle.numbers.specs.Packing.{portOf, vmOf, guestOf, filledOf, pageOf, accessOf, generationOf, leftOf, rightOf, entryOf, slotWord, slotKey, key, keyOf, pairKey, pairKeyOf}
+use Rattle.numbers.specs.PackingLaws.{word-key, word-whole, key-same, pair-same, pair-either}
 use Rattle.numbers.specs.declared.Side.{Side}
 use Rattle.numbers.specs.declared.Side.the-variants.{Cpu, Dma}
-use Rattle.table.specs.ScanLaws.{cases}
+use Rattle.table.specs.ScanLaws.{cases, any-at, any-here}
 use Rattle.table.specs.Table.{Has, find, place, isFound, orElse, lowestFree, freeEntries}
 use Rattle.table.specs.TableLaws.{find-at, find-none, free-place, place-free}
 use Rattle.table.specs.declared.Found.{Found}
 use Rattle.table.specs.declared.Found.the-variants.{At, Nothing}
+use Rattle.model.specs.MemoryLaws.{getD-there}
 use Rattle.model.specs.State.{Tables, route}
 use Rattle.model.specs.Views.{claims, claimedElsewhere, hasPages, onPage, ofVm, joins, isFilled, shares, edgeOn, edgeOf, paired, targeted, hasMappings, mayMap, onPort, whichever}
 use Rattle.model.specs.Valid.{ValidTables, RouteGood, MapGood, EntryGood, PairsGood, PairGood}
@@ -66,10 +67,27 @@ place-exact keys ws k = go (find keys ws k) (lowestFree ws) refl
         nowhere : 0 < freeEntries ws → ⊥
         nowhere h = let (i, q) = free-place ws h in let z : At i ≡ Nothing = sym q ∙ e in true≢false (ap isFound z)
 
+-- ---- words of valid tables are filled as the machine wants them
+filled-too : (w : ℕ) {b : Bool} {P : Type 0} → filledOf w ≡ 1 → Decides b P → Decides (isFilled w && b) P
+filled-too w f d = rw (eq-eqb (filledOf w) 1 f) d
+
+-- two numbers with the same least and greatest, in whichever order
+either-order : (a b c d : ℕ) → min a b ≡ min c d → max a b ≡ max c d → ((a ≡ c) × (b ≡ d)) ⊎ ((a ≡ d) × (b ≡ c))
+either-order a b c d l g = ⊎-elim (λ t. pick (leb-true a b t) (cases (leb c d))) (λ f. flip (leb-false a b f) (cases (leb c d))) (cases (leb a b))
+  where
+    pick : a ≤ b → (leb c d ≡ true) ⊎ (leb c d ≡ false) → ((a ≡ c) × (b ≡ d)) ⊎ ((a ≡ d) × (b ≡ c))
+    pick h = ⊎-elim (λ t. let k = leb-true c d t in inl (omega arith, omega arith)) (λ f. let k = leb-false c d f in inr (omega arith, omega arith))
+
+    flip : b < a → (leb c d ≡ true) ⊎ (leb c d ≡ false) → ((a ≡ c) × (b ≡ d)) ⊎ ((a ≡ d) × (b ≡ c))
+    flip h = ⊎-elim (λ t. let k = leb-true c d t in inr (omega arith, omega arith)) (λ f. let k = leb-false c d f in inl (omega arith, omega arith))
+
 -- ---- mappings of valid tables
 -- a map's filled word has the key of its VM and guest page
 pub map-key : (w : ℕ) → portOf w ≡ 0 → filledOf w ≡ 1 → keyOf w ≡ key (vmOf w) (guestOf w)
-map-key w p f = omega arith
+map-key w p f =
+    let e : keyOf (slotWord 0 (vmOf w) (guestOf w) (entryOf w)) ≡ slotKey 0 (vmOf w) (guestOf w) = word-key 0 (vmOf w) (guestOf w) (entryOf w) (omega arith) (omega arith) (omega arith) (omega arith) in
+    let z = rw p at (word-whole w) in
+    sym (ap keyOf z) ∙ e ∙ omega arith
 
 module _ (side : Side) (t : Tables) (v : ValidTables t) where
   pub route-good : RouteGood side (t .setup .pages) (t .known) (t .sets) (t .pairs) (route side t)
@@ -99,3 +117,96 @@ module _ (side : Side) (t : Tables) (v : ValidTables t) where
       fro m =
           let r = entry (m .mapping .word) (m .mapping .stored) in
           (m .mapping .word, m .mapping .stored, map-key (m .mapping .word) (r .port) (r .filled) ∙ rw (m .mapping .vm-of, m .mapping .guest-of))
+
+  -- some mapping of the VM
+  pub mappings-exact : (vm : ℕ) → Decides (hasMappings (route side t .map) vm) ((guest : ℕ) × Mapped side t vm guest)
+  unfolding hasMappings
+  mappings-exact vm =
+      decides-as (some-word (ofVm vm) (λ w. vmOf w ≡ vm) (route side t .map) refl (λ w h. filled-too w (entry w h .filled) (decides-equal (vmOf w) vm)))
+      (λ (w, h, e). (guestOf w, record { page = pageOf w; access = accessOf w; generation = generationOf w; mapping = rw e at (mapping w h) }))
+      (λ (guest, m). (m .mapping .word, m .mapping .stored, m .mapping .vm-of))
+
+  -- some mapping that counts onto the page
+  pub targets-exact : (counts : ℕ → Bool) (C : ℕ → Type 0) (page : ℕ) → ((w : ℕ) → Has (route side t .map) w → Decides (counts w) (C w)) →
+      Decides (targeted counts (route side t .map) page) ((w : ℕ) × Has (route side t .map) w × (C w × (pageOf w ≡ page)))
+  unfolding targeted
+  targets-exact counts C page d =
+      some-word _ (λ w. C w × (pageOf w ≡ page)) (route side t .map) (none (counts 0)) (λ w h. decides-and (d w h) (filled-too w (entry w h .filled) (decides-equal (pageOf w) page)))
+    where
+      none : (b : Bool) → (b && false) ≡ false
+      none true = refl
+      none false = refl
+
+-- ---- pairs of valid tables
+module _ (t : Tables) (v : ValidTables t) where
+  good-pair : (w : ℕ) → Has (t .pairs) w → PairGood (t .setup .pages) (t .known) (t .sets) w
+  good-pair w h = v .pairs .each w h
+
+  edge : (w : ℕ) → Has (t .pairs) w → Edge t (leftOf w) (rightOf w) (pageOf w)
+  edge w h = record { pair = w; stored = h; ends = inl (refl, refl); on = refl }
+
+  turned : {left right page : ℕ} → Edge t left right page → Edge t right left page
+  turned e = record { pair = e .pair; stored = e .stored; ends = ⊎-elim inr inl (e .ends); on = e .on }
+
+  pub edge-on-exact : (page : ℕ) → Decides (edgeOn (t .pairs) page) ((left : ℕ) × (right : ℕ) × Edge t left right page)
+  unfolding edgeOn
+  edge-on-exact page =
+      decides-as (some-word (onPage page) (λ w. pageOf w ≡ page) (t .pairs) refl (λ w h. filled-too w (good-pair w h .filled) (decides-equal (pageOf w) page)))
+      (λ (w, h, e). (leftOf w, rightOf w, rw e at (edge w h)))
+      (λ (left, right, e). (e .pair, e .stored, e .on))
+
+  -- a pair with the VM at one of its ends, read from there
+  joins-exact : (vm w : ℕ) → Has (t .pairs) w → Decides (joins vm w) ((leftOf w ≡ vm) ⊎ (rightOf w ≡ vm))
+  joins-exact vm w h = filled-too w (good-pair w h .filled) (decides-or (decides-equal (leftOf w) vm) (decides-equal (rightOf w) vm))
+
+  from-end : (vm w : ℕ) → Has (t .pairs) w → (leftOf w ≡ vm) ⊎ (rightOf w ≡ vm) → (other : ℕ) × Edge t vm other (pageOf w)
+  from-end vm w h = ⊎-elim (λ l. (rightOf w, rw l at (edge w h))) (λ r. (leftOf w, rw r at (turned (edge w h))))
+
+  to-end : {vm other page : ℕ} (e : Edge t vm other page) → (leftOf (e .pair) ≡ vm) ⊎ (rightOf (e .pair) ≡ vm)
+  to-end e = ⊎-elim (λ a. inl (a .0)) (λ a. inr (a .1)) (e .ends)
+
+  pub edge-of-exact : (vm : ℕ) → Decides (edgeOf (t .pairs) vm) ((other : ℕ) × (page : ℕ) × Edge t vm other page)
+  unfolding edgeOf
+  edge-of-exact vm =
+      decides-as (some-word (joins vm) (λ w. (leftOf w ≡ vm) ⊎ (rightOf w ≡ vm)) (t .pairs) refl (joins-exact vm))
+      (λ (w, h, e). let (other, x) = from-end vm w h e in (other, pageOf w, x))
+      (λ (other, page, e). (e .pair, e .stored, to-end e))
+
+  pub shares-exact : (vm page : ℕ) → Decides (shares (t .pairs) vm page) ((other : ℕ) × Edge t vm other page)
+  unfolding shares
+  shares-exact vm page =
+      decides-as
+      (some-word _ (λ w. ((leftOf w ≡ vm) ⊎ (rightOf w ≡ vm)) × (pageOf w ≡ page)) (t .pairs) refl
+      (λ w h. decides-and (joins-exact vm w h) (filled-too w (good-pair w h .filled) (decides-equal (pageOf w) page))))
+      (λ (w, h, e). rw (e .1) at (from-end vm w h (e .0)))
+      (λ (other, e). (e .pair, e .stored, (to-end e, e .on)))
+
+  pub paired-exact : (left right page : ℕ) → left < VMS → right < VMS → page < PAGES → Decides (paired (t .pairs) left right page) (Edge t left right page)
+  unfolding paired
+  paired-exact left right page l r p = decides-as (key-exact pairKeyOf (t .pairs) (pairKey left right page) (λ e. omega arith)) to fro
+    where
+      to : (w : ℕ) × Has (t .pairs) w × (pairKeyOf w ≡ pairKey left right page) → Edge t left right page
+      to (w, h, e) =
+          let q : pairKey (leftOf w) (rightOf w) (pageOf w) ≡ pairKey left right page = rw (good-pair w h .filled) at e in
+          let s = pair-same (leftOf w) (rightOf w) (pageOf w) left right page (omega arith) (omega arith) (omega arith) (omega arith) (omega arith) (omega arith) q in
+          record { pair = w; stored = h; ends = either-order (leftOf w) (rightOf w) left right (s .1) (s .2); on = s .0 }
+
+      fro : Edge t left right page → (w : ℕ) × Has (t .pairs) w × (pairKeyOf w ≡ pairKey left right page)
+      fro e =
+          let k : pairKeyOf (e .pair) ≡ pairKey (leftOf (e .pair)) (rightOf (e .pair)) (pageOf (e .pair)) = rw (good-pair (e .pair) (e .stored) .filled) in
+          (e .pair, e .stored, k ∙ ⊎-elim (λ a. rw (a .0, a .1, e .on)) (λ a. rw (a .0, a .1, e .on) (pair-either right left page)) (e .ends))
+
+  -- ---- what a VM may map
+  pub may-exact : (side : Side) (vm page : ℕ) → Decides (mayMap side (t .sets) (t .pairs) vm page) (MayMap side t vm page)
+  unfolding mayMap
+  may-exact Cpu vm page = decides-or (decides-itself _) (shares-exact vm page)
+  may-exact Dma vm page = decides-or (decides-itself _) (decides-itself _)
+
+-- ---- ports
+pub port-exact : (ports : List ℕ) (vm : ℕ) → length ports ≡ PORTS → Decides (onPort ports vm) ((port : ℕ) × (port < PORTS) × (getD ports port IDLE ≡ vm))
+unfolding onPort
+port-exact ports vm l =
+    record {
+      sound = λ e. let (i, h, q) = any-at (eqb vm) ports e in (i, rw l at h, getD-there ports i IDLE 0 h ∙ sym (eqb-true vm _ q));
+      complete = λ (i, h, q). let b = rw (← l) at h in any-here (eqb vm) ports i b (eq-eqb vm _ (sym (getD-there ports i 0 IDLE b ∙ q)));
+    }
