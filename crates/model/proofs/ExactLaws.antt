@@ -44,6 +44,11 @@ pub and-then : (early next : Answer) {P Q : Type 0} → Decides (accepts early) 
 and-then (Accepted dropped word) next d e = record { sound = λ t. (d .sound refl, e .sound t); complete = λ p. e .complete (p .1) }
 and-then (Refused refusal index) next d e = record { sound = λ t. absurd (true≢false (sym t)); complete = λ p. d .complete (p .0) }
 
+-- where what follows is exact only for what the early chain lets through
+pub after-early : (early next : Answer) {P Q : Type 0} → Decides (accepts early) P → (P → Decides (accepts next) Q) → Decides (accepts (andThen early next)) (P × Q)
+after-early (Accepted dropped word) next d e = let q = e (d .sound refl) in record { sound = λ t. (d .sound refl, q .sound t); complete = λ p. q .complete (p .1) }
+after-early (Refused refusal index) next d e = record { sound = λ t. absurd (true≢false (sym t)); complete = λ p. d .complete (p .0) }
+
 -- a check of every page of a region
 pub no-clash : (fails : ℕ → Bool) (F : ℕ → Type 0) (region : Region) (refusal : Refusal) (next : Answer) {Q : Type 0} →
     ((k : ℕ) → k < region .count → Decides (fails k) (F k)) → Decides (accepts next) Q →

@@ -68,7 +68,7 @@ place-exact keys ws k = go (find keys ws k) (lowestFree ws) refl
         nowhere h = let (i, q) = free-place ws h in let z : At i ≡ Nothing = sym q ∙ e in true≢false (ap isFound z)
 
 -- ---- words of valid tables are filled as the machine wants them
-filled-too : (w : ℕ) {b : Bool} {P : Type 0} → filledOf w ≡ 1 → Decides b P → Decides (isFilled w && b) P
+pub filled-too : (w : ℕ) {b : Bool} {P : Type 0} → filledOf w ≡ 1 → Decides b P → Decides (isFilled w && b) P
 filled-too w f d = rw (eq-eqb (filledOf w) 1 f) d
 
 -- two numbers with the same least and greatest, in whichever order
@@ -97,11 +97,11 @@ module _ (side : Side) (t : Tables) (v : ValidTables t) where
       pick Cpu = v .cpu
       pick Dma = v .dma
 
-  entry : (w : ℕ) → Has (route side t .map) w → EntryGood side (t .setup .pages) (t .known) (t .sets) (t .pairs) w
+  pub entry : (w : ℕ) → Has (route side t .map) w → EntryGood side (t .setup .pages) (t .known) (t .sets) (t .pairs) w
   entry w h = route-good .map .each w h
 
   -- a filled word of a map, as a mapping
-  mapping : (w : ℕ) → Has (route side t .map) w → Maps side t (vmOf w) (guestOf w) (pageOf w) (accessOf w) (generationOf w)
+  pub mapping : (w : ℕ) → Has (route side t .map) w → Maps side t (vmOf w) (guestOf w) (pageOf w) (accessOf w) (generationOf w)
   mapping w h = record { word = w; stored = h; vm-of = refl; guest-of = refl; page-of = refl; access-of = refl; generation-of = refl }
 
   pub mapped-exact : (vm guest : ℕ) → guest < GUEST-PAGES → Decides (isFound (find keyOf (route side t .map) (key vm guest))) (Mapped side t vm guest)
@@ -136,6 +136,19 @@ module _ (side : Side) (t : Tables) (v : ValidTables t) where
       none : (b : Bool) → (b && false) ≡ false
       none true = refl
       none false = refl
+
+  -- some mapping onto the page; one of this VM
+  pub target-exact : (page : ℕ) → Decides (targeted whichever (route side t .map) page) ((mapper : ℕ) × Targets side t mapper page)
+  target-exact page =
+      decides-as (targets-exact whichever (λ w. Unit {0}) page (λ w h. record { sound = λ e. tt; complete = λ u. refl }))
+      (λ (w, h, e). (vmOf w, record { guest = guestOf w; access = accessOf w; generation = generationOf w; mapping = rw (e .1) at (mapping w h) }))
+      (λ (mapper, m). (m .mapping .word, m .mapping .stored, (tt, m .mapping .page-of)))
+
+  pub targets-of-exact : (vm page : ℕ) → Decides (targeted (ofVm vm) (route side t .map) page) (Targets side t vm page)
+  targets-of-exact vm page =
+      decides-as (targets-exact (ofVm vm) (λ w. vmOf w ≡ vm) page (λ w h. filled-too w (entry w h .filled) (decides-equal (vmOf w) vm)))
+      (λ (w, h, e). record { guest = guestOf w; access = accessOf w; generation = generationOf w; mapping = rw (e .0, e .1) at (mapping w h) })
+      (λ m. (m .mapping .word, m .mapping .stored, (m .mapping .vm-of, m .mapping .page-of)))
 
 -- ---- pairs of valid tables
 module _ (t : Tables) (v : ValidTables t) where

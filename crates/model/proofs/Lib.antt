@@ -8,3 +8,4 @@ pub mod Carried
 pub mod PagesKept
 pub mod ExactLaws
 pub mod ExactViews
+pub mod ExactLedger
