@@ -49,6 +49,11 @@ pub after-early : (early next : Answer) {P Q : Type 0} → Decides (accepts earl
 after-early (Accepted dropped word) next d e = let q = e (d .sound refl) in record { sound = λ t. (d .sound refl, q .sound t); complete = λ p. q .complete (p .1) }
 after-early (Refused refusal index) next d e = record { sound = λ t. absurd (true≢false (sym t)); complete = λ p. d .complete (p .0) }
 
+pub after-check : (b : Bool) (refusal : Refusal) (index : ℕ) (rest : Answer) {P Q : Type 0} → Decides b P → (P → Decides (accepts rest) Q) →
+    Decides (accepts (if not b then Refused refusal index else rest)) (P × Q)
+after-check true refusal index rest d e = where-so true refusal index rest d (e (d .sound refl))
+after-check false refusal index rest d e = record { sound = λ t. absurd (true≢false (sym t)); complete = λ p. absurd (refutes d refl (p .0)) }
+
 -- a check of every page of a region
 pub no-clash : (fails : ℕ → Bool) (F : ℕ → Type 0) (region : Region) (refusal : Refusal) (next : Answer) {Q : Type 0} →
     ((k : ℕ) → k < region .count → Decides (fails k) (F k)) → Decides (accepts next) Q →

@@ -12,8 +12,8 @@ use borrow.Author.Tests.{eqb-true, eq-eqb, leb-true, leb-false}
 use Rattle.numbers.specs.Limits.{VMS, GUEST-PAGES, PAGES, PORTS, IDLE}
 use Rattle.numbers.specs.Decides.{Decides}
 use Rattle.numbers.specs.DecidesLaws.{decides-as, decides-itself, decides-equal, decides-not, decides-and, decides-or}
-use Rattle.numbers.specs.Packing.{portOf, vmOf, guestOf, filledOf, pageOf, accessOf, generationOf, leftOf, rightOf, entryOf, slotWord, slotKey, key, keyOf, pairKey, pairKeyOf}
-use Rattle.numbers.specs.PackingLaws.{word-key, word-whole, key-same, pair-same, pair-either}
+use Rattle.numbers.specs.Packing.{portOf, vmOf, guestOf, filledOf, pageOf, accessOf, generationOf, leftOf, rightOf, entryOf, entry, mapWord, slotWord, slotKey, key, keyOf, pairKey, pairKeyOf}
+use Rattle.numbers.specs.PackingLaws.{entry-whole, word-key, word-whole, key-same, pair-same, pair-either}
 use Rattle.numbers.specs.declared.Side.{Side}
 use Rattle.numbers.specs.declared.Side.the-variants.{Cpu, Dma}
 use Rattle.table.specs.ScanLaws.{cases, any-at, any-here}
@@ -97,32 +97,38 @@ module _ (side : Side) (t : Tables) (v : ValidTables t) where
       pick Cpu = v .cpu
       pick Dma = v .dma
 
-  pub entry : (w : ℕ) → Has (route side t .map) w → EntryGood side (t .setup .pages) (t .known) (t .sets) (t .pairs) w
-  entry w h = route-good .map .each w h
+  pub entry-good : (w : ℕ) → Has (route side t .map) w → EntryGood side (t .setup .pages) (t .known) (t .sets) (t .pairs) w
+  entry-good w h = route-good .map .each w h
 
   -- a filled word of a map, as a mapping
   pub mapping : (w : ℕ) → Has (route side t .map) w → Maps side t (vmOf w) (guestOf w) (pageOf w) (accessOf w) (generationOf w)
   mapping w h = record { word = w; stored = h; vm-of = refl; guest-of = refl; page-of = refl; access-of = refl; generation-of = refl }
+
+  -- and a mapping is one whole word
+  pub whole : (vm guest page access generation : ℕ) (m : Maps side t vm guest page access generation) → mapWord vm guest (entry page access generation) ≡ m .word
+  whole vm guest page access generation m =
+      let r = entry-good (m .word) (m .stored) in
+      rw (← m .vm-of, ← m .guest-of, ← m .page-of, ← m .access-of, ← m .generation-of, entry-whole (m .word) (r .filled)) (rw (r .port) at (word-whole (m .word)))
 
   pub mapped-exact : (vm guest : ℕ) → guest < GUEST-PAGES → Decides (isFound (find keyOf (route side t .map) (key vm guest))) (Mapped side t vm guest)
   mapped-exact vm guest g = decides-as (key-exact keyOf (route side t .map) (key vm guest) (λ e. omega arith)) to fro
     where
       to : (w : ℕ) × Has (route side t .map) w × (keyOf w ≡ key vm guest) → Mapped side t vm guest
       to (w, h, e) =
-          let r = entry w h in
+          let r = entry-good w h in
           let s = key-same (vmOf w) (guestOf w) vm guest (omega arith) g (sym (map-key w (r .port) (r .filled)) ∙ e) in
           record { page = pageOf w; access = accessOf w; generation = generationOf w; mapping = rw (s .0, s .1) at (mapping w h) }
 
       fro : Mapped side t vm guest → (w : ℕ) × Has (route side t .map) w × (keyOf w ≡ key vm guest)
       fro m =
-          let r = entry (m .mapping .word) (m .mapping .stored) in
+          let r = entry-good (m .mapping .word) (m .mapping .stored) in
           (m .mapping .word, m .mapping .stored, map-key (m .mapping .word) (r .port) (r .filled) ∙ rw (m .mapping .vm-of, m .mapping .guest-of))
 
   -- some mapping of the VM
   pub mappings-exact : (vm : ℕ) → Decides (hasMappings (route side t .map) vm) ((guest : ℕ) × Mapped side t vm guest)
   unfolding hasMappings
   mappings-exact vm =
-      decides-as (some-word (ofVm vm) (λ w. vmOf w ≡ vm) (route side t .map) refl (λ w h. filled-too w (entry w h .filled) (decides-equal (vmOf w) vm)))
+      decides-as (some-word (ofVm vm) (λ w. vmOf w ≡ vm) (route side t .map) refl (λ w h. filled-too w (entry-good w h .filled) (decides-equal (vmOf w) vm)))
       (λ (w, h, e). (guestOf w, record { page = pageOf w; access = accessOf w; generation = generationOf w; mapping = rw e at (mapping w h) }))
       (λ (guest, m). (m .mapping .word, m .mapping .stored, m .mapping .vm-of))
 
@@ -131,7 +137,7 @@ module _ (side : Side) (t : Tables) (v : ValidTables t) where
       Decides (targeted counts (route side t .map) page) ((w : ℕ) × Has (route side t .map) w × (C w × (pageOf w ≡ page)))
   unfolding targeted
   targets-exact counts C page d =
-      some-word _ (λ w. C w × (pageOf w ≡ page)) (route side t .map) (none (counts 0)) (λ w h. decides-and (d w h) (filled-too w (entry w h .filled) (decides-equal (pageOf w) page)))
+      some-word _ (λ w. C w × (pageOf w ≡ page)) (route side t .map) (none (counts 0)) (λ w h. decides-and (d w h) (filled-too w (entry-good w h .filled) (decides-equal (pageOf w) page)))
     where
       none : (b : Bool) → (b && false) ≡ false
       none true = refl
@@ -146,7 +152,7 @@ module _ (side : Side) (t : Tables) (v : ValidTables t) where
 
   pub targets-of-exact : (vm page : ℕ) → Decides (targeted (ofVm vm) (route side t .map) page) (Targets side t vm page)
   targets-of-exact vm page =
-      decides-as (targets-exact (ofVm vm) (λ w. vmOf w ≡ vm) page (λ w h. filled-too w (entry w h .filled) (decides-equal (vmOf w) vm)))
+      decides-as (targets-exact (ofVm vm) (λ w. vmOf w ≡ vm) page (λ w h. filled-too w (entry-good w h .filled) (decides-equal (vmOf w) vm)))
       (λ (w, h, e). record { guest = guestOf w; access = accessOf w; generation = generationOf w; mapping = rw (e .0, e .1) at (mapping w h) })
       (λ m. (m .mapping .word, m .mapping .stored, (m .mapping .vm-of, m .mapping .page-of)))
 

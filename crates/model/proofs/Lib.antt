@@ -9,3 +9,5 @@ pub mod PagesKept
 pub mod ExactLaws
 pub mod ExactViews
 pub mod ExactLedger
+pub mod ExactMaps
+pub mod ExactRegions

@@ -19,6 +19,11 @@ decides-itself b = record { sound = λ e. e; complete = λ e. e }
 pub refutes : {b : Bool} {P : Type 0} → Decides b P → b ≡ false → P → ⊥
 refutes d f p = true≢false (sym (d .complete p) ∙ f)
 
+-- what has an exact test and is not false is so
+pub twice-not : {b : Bool} {P : Type 0} → Decides b P → ((P → ⊥) → ⊥) → P
+twice-not {b = true} d n = d .sound refl
+twice-not {b = false} d n = absurd (n (refutes d refl))
+
 -- ---- comparisons
 pub decides-less : (a b : ℕ) → Decides (ltb a b) (a < b)
 decides-less a b = record { sound = ltb-true a b; complete = lt-ltb a b }
