@@ -2,3 +2,6 @@
 pub mod Computes
 pub mod Rows
 pub mod Worked
+pub mod ViewLaws
+pub mod Refused
+pub mod Carried
