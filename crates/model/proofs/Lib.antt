@@ -5,3 +5,4 @@ pub mod Worked
 pub mod ViewLaws
 pub mod Refused
 pub mod Carried
+pub mod RoutesKept
