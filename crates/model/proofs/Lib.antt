@@ -1,4 +1,6 @@
 -- What is proved of the machine.
 pub mod Computes
 pub mod Rows
+pub mod Repeats
+pub mod StartKept
 pub mod Worked
