@@ -4,3 +4,6 @@ pub mod Rows
 pub mod Repeats
 pub mod StartKept
 pub mod Worked
+pub mod ViewLaws
+pub mod Refused
+pub mod Carried

@@ -84,7 +84,7 @@ module _ (p : ℕ → Bool) where
 
 -- ---- whether a word passes
 module _ (p : ℕ → Bool) where
-  any-here : (ws : List ℕ) (i : ℕ) → i < length ws → p (getD ws i 0) ≡ true → any p ws ≡ true
+  pub any-here : (ws : List ℕ) (i : ℕ) → i < length ws → p (getD ws i 0) ≡ true → any p ws ≡ true
   any-here [] i h e = absurd (omega arith)
   any-here (w ∷ ws) zero h e = rw e
   any-here (w ∷ ws) (suc i) h e = ⊎-elim (λ t. rw t) (λ f. rw f (any-here ws i (omega arith) e)) (cases (p w))
