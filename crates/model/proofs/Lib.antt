@@ -7,3 +7,4 @@ pub mod Worked
 pub mod ViewLaws
 pub mod Refused
 pub mod Carried
+pub mod RegionLaws
