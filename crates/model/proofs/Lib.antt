@@ -3,8 +3,9 @@ pub mod Computes
 pub mod Rows
 pub mod Repeats
 pub mod StartKept
+pub mod RegionLaws
 pub mod Worked
 pub mod ViewLaws
 pub mod Refused
 pub mod Carried
-pub mod RegionLaws
+pub mod PagesKept
