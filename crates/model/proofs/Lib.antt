@@ -4,6 +4,7 @@ pub mod Rows
 pub mod Repeats
 pub mod StartKept
 pub mod RegionLaws
+pub mod RegionSets
 pub mod Worked
 pub mod ViewLaws
 pub mod Refused
