@@ -1,8 +1,13 @@
 -- What is proved of the machine.
 pub mod Computes
 pub mod Rows
+pub mod Repeats
+pub mod StartKept
+pub mod RegionLaws
+pub mod RegionSets
 pub mod Worked
 pub mod ViewLaws
 pub mod Refused
 pub mod Carried
 pub mod RoutesKept
+pub mod PagesKept
