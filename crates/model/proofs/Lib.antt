@@ -14,3 +14,4 @@ pub mod PagesKept
 pub mod OneRoute
 pub mod GoodMaps
 pub mod GoodPorts
+pub mod GoodAccess
