@@ -6,3 +6,4 @@ pub mod ViewLaws
 pub mod Refused
 pub mod Carried
 pub mod PagesKept
+pub mod GoodLedger
