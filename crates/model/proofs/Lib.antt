@@ -15,3 +15,4 @@ pub mod OneRoute
 pub mod GoodMaps
 pub mod GoodPorts
 pub mod GoodAccess
+pub mod GoodLedger
