@@ -5,6 +5,7 @@ pub mod Repeats
 pub mod StartKept
 pub mod RegionLaws
 pub mod RegionSets
+pub mod RegionKept
 pub mod Worked
 pub mod ViewLaws
 pub mod Refused
