@@ -10,4 +10,5 @@ pub mod Worked
 pub mod ViewLaws
 pub mod Refused
 pub mod Carried
+pub mod RoutesKept
 pub mod PagesKept

@@ -125,6 +125,14 @@ module _ (keyOf : ℕ → ℕ) where
       go (At j) q e′ = inl (q ∙ e′)
       go Nothing q e′ = inr (q, e′)
 
+  pub place-none : (ws : List ℕ) (k : ℕ) → place keyOf ws k ≡ Nothing → find keyOf ws k ≡ Nothing
+  unfolding place
+  place-none ws k e = go (find keyOf ws k) refl e
+    where
+      go : (f : Found) → find keyOf ws k ≡ f → orElse f (lowestFree ws) ≡ Nothing → find keyOf ws k ≡ Nothing
+      go (At j) q e′ = q ∙ e′
+      go Nothing q e′ = q
+
   pub place-within : (ws : List ℕ) (k i : ℕ) → place keyOf ws k ≡ At i → i < length ws
   place-within ws k i e = ⊎-elim (λ q. find-at ws k i q .within) (λ q. free-at ws i (q .1) .within) (place-at ws k i e)
 
