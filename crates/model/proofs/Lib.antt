@@ -6,6 +6,7 @@ pub mod StartKept
 pub mod RegionLaws
 pub mod RegionSets
 pub mod RegionKept
+pub mod RegionTables
 pub mod Worked
 pub mod ViewLaws
 pub mod Refused

@@ -1,22 +1,20 @@
 -- What a region's edit of the page sets leaves of routes and pairs.
-use Prim.Native.Nat.{ℕ, _+_, _≤_, _<_}
-use mathlib.Core.Bool.{Bool, true, false, true≢false}
+use Prim.Native.Nat.{ℕ, _≤_, _<_}
+use mathlib.Core.Bool.{true}
 use mathlib.Core.List.{List}
-use mathlib.Core.Logic.{_⊎_, inl, inr, ⊎-elim}
-use mathlib.Core.Path.{_≡_, refl, sym, _∙_}
+use mathlib.Core.Logic.{inl, inr, ⊎-elim}
+use mathlib.Core.Path.{_≡_, refl, _∙_}
 use native.Mathlib.Omega.{arith}
-use lib.ListN.{length}
 use Rattle.numbers.specs.Limits.{PAGES}
 use Rattle.numbers.specs.Packing.{pageOf, vmOf, leftOf, rightOf}
 use Rattle.numbers.specs.declared.Side.{Side}
 use Rattle.numbers.specs.declared.Side.the-variants.{Cpu, Dma}
 use Rattle.table.specs.Table.{Has}
 use Rattle.model.specs.State.{Route}
-use Rattle.model.specs.Views.{inShared, owns, claims, lentTo, mayMap}
+use Rattle.model.specs.Views.{inShared, owns, claims, lentTo}
 use Rattle.model.specs.Valid.{EntryGood, PairGood, PairsGood, RouteGood}
 use Rattle.model.proofs.ViewLaws.{may-own, may-lent, may-either}
-use Rattle.model.proofs.Carried.{Ground, route-carried, PairGround, pairs-carried}
-use Rattle.model.proofs.RegionSets.{Changed, Edited, changed-or}
+use Rattle.model.proofs.Carried.{Ground, route-carried, pairs-carried}
 
 -- what is lent stays lent where the shared span stays
 lent-same : (side : Side) (sets sets′ pairs : List ℕ) (vm page : ℕ) → inShared sets′ page ≡ inShared sets page → lentTo side sets′ pairs vm page ≡ lentTo side sets pairs vm page
