@@ -13,3 +13,5 @@ pub mod Refused
 pub mod Carried
 pub mod RoutesKept
 pub mod PagesKept
+pub mod OneRoute
+pub mod GoodMaps

@@ -9,9 +9,9 @@ use lib.Dec.{eqb, ltb}
 use lib.ListN.{length, set}
 use lib.Seq.{getD-set-same, getD-set-other}
 use borrow.Author.Tests.{eqb-false, ltb-true}
-use Rattle.numbers.specs.Limits.{VMS, GUEST-PAGES, PORTS, SLOTS, IDLE}
-use Rattle.numbers.specs.Packing.{entryOf, filledOf, keyOf, addressOf, slotWord, key}
-use Rattle.numbers.specs.PackingLaws.{word-port, word-vm, word-guest, word-entry, word-filled, word-address, key-whole, key-filled, address-filled, unported, unported-vm, unported-guest, unported-filled, unported-key}
+use Rattle.numbers.specs.Limits.{PAGES, VMS, GUEST-PAGES, ACCESSES, GENERATIONS, PORTS, SLOTS, IDLE}
+use Rattle.numbers.specs.Packing.{entryOf, filledOf, keyOf, addressOf, slotWord, mapWord, entry, key}
+use Rattle.numbers.specs.PackingLaws.{entry-fits, entry-filled, entry-page, word-port, word-page, word-vm, word-guest, word-entry, word-filled, word-address, key-whole, key-filled, address-filled, unported, unported-vm, unported-guest, unported-filled, unported-key}
 use Rattle.numbers.specs.declared.Side.{Side}
 use Rattle.table.specs.Scan.{wipe}
 use Rattle.table.specs.ScanLaws.{cases, equal, length-wipe, has-wipe-inv}
@@ -21,10 +21,31 @@ use Rattle.table.specs.AgreeLaws.{Keyed, agree-free, agree-place, agree-put, ag
 use Rattle.table.specs.declared.Found.{Found}
 use Rattle.table.specs.declared.Found.the-variants.{At, Nothing}
 use Rattle.units.specs.declared.Region.{Region}
-use Rattle.model.specs.Views.{knows}
+use Rattle.model.specs.Views.{knows, mayMap}
 use Rattle.model.specs.Regions.{inRegion}
 use Rattle.model.specs.Ports.{fillPlace, nextHand}
 use Rattle.model.specs.Valid.{EntryGood, MapGood, SameMap, SlotGood, CacheGood, PortsGood}
+
+-- ---- the word that a mapping makes
+module _ (vm guest page access generation : ℕ) (v : vm < VMS) (g : guest < GUEST-PAGES) (p : page < PAGES) (a : access < ACCESSES) (n : generation < GENERATIONS) where
+  pub entry-key : keyOf (mapWord vm guest (entry page access generation)) ≡ key vm guest
+  entry-key = omega arith
+
+  pub entry-made : (side : Side) (pages known : ℕ) (sets pairs : List ℕ) → page < pages → knows known vm ≡ true → mayMap side sets pairs vm page ≡ true →
+      EntryGood side pages known sets pairs (mapWord vm guest (entry page access generation))
+  entry-made side pages known sets pairs b k m =
+      let v′ : vm < 256 = omega arith in
+      let p′ : page < 4096 = omega arith in
+      let l = entry-fits page access generation p′ a n in
+      let vm-is = word-vm 0 vm guest (entry page access generation) v′ g l in
+      let page-is = word-page 0 vm guest (entry page access generation) v′ g l ∙ entry-page page access generation p′ a n in
+      record {
+        port = word-port 0 vm guest (entry page access generation) v′ g l;
+        filled = word-filled 0 vm guest (entry page access generation) v′ g l ∙ entry-filled page access generation p′ a n;
+        page = rw page-is b;
+        vm = rw vm-is k;
+        may = rw (vm-is, page-is) m;
+      }
 
 -- ---- a side's two maps
 module _ (side : Side) (pages known : ℕ) (sets pairs : List ℕ) where
