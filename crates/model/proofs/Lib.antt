@@ -15,3 +15,4 @@ pub mod RoutesKept
 pub mod PagesKept
 pub mod OneRoute
 pub mod GoodMaps
+pub mod GoodLedger
