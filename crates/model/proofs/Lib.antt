@@ -5,7 +5,6 @@ pub mod Repeats
 pub mod StartKept
 pub mod RegionLaws
 pub mod RegionSets
-pub mod RegionKept
 pub mod RegionTables
 pub mod Worked
 pub mod ViewLaws
@@ -16,3 +15,5 @@ pub mod PagesKept
 pub mod OneRoute
 pub mod GoodMaps
 pub mod GoodLedger
+pub mod RegionKept
+pub mod GoodRegions

@@ -68,15 +68,15 @@ pub record Changed (side : Side) (vm first count : ℕ) (s : Side) (other page :
 side-differs : {X : Type 0} → Cpu ≡ Dma → X
 side-differs e = absurd (let z : _≡_ {A = ℕ} 0 1 = cc in omega arith)
 
-same-side : (s side : Side) → (s ≡ side) ⊎ (s ≡ side → ⊥)
-same-side Cpu Cpu = inl refl
-same-side Cpu Dma = inr side-differs
-same-side Dma Cpu = inr (λ e. side-differs (sym e))
-same-side Dma Dma = inl refl
-
 pub other-differs : (side : Side) → otherSide side ≡ side → ⊥
 other-differs Cpu e = side-differs (sym e)
 other-differs Dma e = side-differs e
+
+pub this-or-other : (side s : Side) → (s ≡ side) ⊎ (s ≡ otherSide side)
+this-or-other Cpu Cpu = inl refl
+this-or-other Cpu Dma = inr refl
+this-or-other Dma Cpu = inr refl
+this-or-other Dma Dma = inl refl
 
 span-or : (first count page : ℕ) → ((first ≤ page) × (page < first + count)) ⊎ Outside first count page
 span-or first count page =
@@ -85,7 +85,7 @@ span-or first count page =
 pub changed-or : (side : Side) (vm : ℕ) (now : Bool) (first count : ℕ) (sets sets′ : List ℕ) → Edited side vm now first count sets sets′ → (s : Side) (other page : ℕ) → page < PAGES →
     Changed side vm first count s other page ⊎ (claims s sets′ other page ≡ claims s sets other page)
 changed-or side vm now first count sets sets′ r s other page h =
-    ⊎-elim (λ a. ⊎-elim (here a) (λ n. same (λ e f. absurd (n f))) (equal other vm)) (λ n. same (λ e. absurd (n e))) (same-side s side)
+    ⊎-elim (λ a. ⊎-elim (here a) (λ n. same (λ e f. absurd (n f))) (equal other vm)) (λ o. same (λ e. absurd (other-differs side (sym o ∙ e)))) (this-or-other side s)
   where
     same : (s ≡ side → other ≡ vm → Outside first count page) → Changed side vm first count s other page ⊎ (claims s sets′ other page ≡ claims s sets other page)
     same n = inr (r .outside s other page h n)
