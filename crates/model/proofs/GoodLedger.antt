@@ -1,35 +1,38 @@
 -- Operations 1 to 6 owe what Good says.
-use Prim.Native.Nat.{ℕ, _+_, _*_, _≤_, _<_}
+use Prim.Native.Nat.{ℕ, _*_, _<_, min, max}
 use mathlib.Core.Bool.{Bool, true, false, not, _&&_, _||_, true≢false, or-true}
 use mathlib.Core.List.{List, [], _∷_}
 use mathlib.Core.Logic.{_⊎_, inl, inr, ⊎-elim}
 use mathlib.Core.Path.{_≡_, refl, sym, _∙_}
 use native.Mathlib.Omega.{arith}
 use lib.ListN.{length, getD}
-use borrow.Author.Tests.{ltb-true, not-false}
+use borrow.Author.Tests.{eqb-false, ne-eqb, ltb-true, not-false}
+use lib.Dec.{eqb}
 use Rattle.numbers.specs.Limits.{PAGES, PORTS, VMS, PAIRS, SETS, SET-WORDS, IDLE}
-use Rattle.numbers.specs.Packing.{filledOf, pageOf, vmOf, leftOf, rightOf}
+use Rattle.numbers.specs.Packing.{filledOf, pageOf, vmOf, leftOf, rightOf, entry, pairWord, pairKey, pairKeyOf}
+use Rattle.numbers.specs.PackingLaws.{entry-fits, entry-filled, entry-access, entry-generation, word-port, word-filled, word-access, word-generation, pair-left, pair-right, pair-page, pair-key, pair-same}
 use Rattle.numbers.specs.declared.Answer.{Answer}
 use Rattle.numbers.specs.declared.Answer.the-variants.{Accepted}
-use Rattle.numbers.specs.declared.Operation.the-variants.{AddVm, RemoveVm, AssignPage, ReclaimPage}
+use Rattle.numbers.specs.declared.Operation.the-variants.{AddVm, RemoveVm, AssignPage, ReclaimPage, SharePage, UnsharePage}
 use Rattle.numbers.specs.declared.Side.{Side}
 use Rattle.numbers.specs.declared.Side.the-variants.{Cpu, Dma}
 use Rattle.numbers.specs.declared.VmId.{VmId}
 use Rattle.numbers.specs.declared.PhysPage.{PhysPage}
-use Rattle.table.specs.ScanLaws.{cases, equal}
-use Rattle.table.specs.Table.{Has}
+use Rattle.table.specs.ScanLaws.{cases, equal, length-wipe, has-wipe-inv, has-wipe-keep}
+use Rattle.table.specs.Table.{Has, hasKey, put, erase, roomFor}
+use Rattle.table.specs.TableLaws.{length-put, has-put-inv, has-put-keep, distinct-put, distinct-wipe}
 use Rattle.pages.specs.BitLaws.{hasBit-with-same, hasBit-with-other, hasBit-without-other, withBit-fits, withoutBit-fits}
 use Rattle.pages.specs.Rows.{holds, poolRow, sharedRow, cpuRow, dmaRow}
 use Rattle.model.specs.State.{Tables, route, withKnown, withSets, withPairs}
-use Rattle.model.specs.Views.{isVm, knows, inPool, owns, holdsDma, claims, claimedElsewhere, targeted, whichever, edgeOn, hasPages, hasMappings, edgeOf, onPort, shares, paired, mayMap}
-use Rattle.model.specs.Effect.{quiet, clears}
-use Rattle.model.specs.EarlyLaws.{past, then-passed, PagePassed, page-passed}
-use Rattle.model.specs.Ledger.{vmEarly, pageEarly, addVmAnswer, addVmKnown, removeVmAnswer, removeVmKnown, assignAnswer, assignSets, reclaimAnswer, reclaimSets, reclaimClears}
+use Rattle.model.specs.Views.{isVm, knows, inPool, owns, holdsDma, claims, claimedElsewhere, targeted, whichever, ofVm, edgeOn, hasPages, hasMappings, edgeOf, onPort, shares, paired, mayMap}
+use Rattle.model.specs.Effect.{quiet, clears, accepted}
+use Rattle.model.specs.EarlyLaws.{past, then-passed, PagePassed, page-passed, PairPassed, pair-passed}
+use Rattle.model.specs.Ledger.{vmEarly, pageEarly, pairEarly, addVmAnswer, addVmKnown, removeVmAnswer, removeVmKnown, assignAnswer, assignSets, reclaimAnswer, reclaimSets, reclaimClears, shareAnswer, sharePairs, borrowerMaps, unshareAnswer, unsharePairs}
 use Rattle.model.specs.ShapeLaws.{length-assign, length-reclaim}
-use Rattle.model.specs.Step.{addVmControl, removeVmControl, assignControl, reclaimControl}
-use Rattle.model.specs.Valid.{Home, pool, cpu, KnownGood, PagesGood, PairsGood, EntryGood, PortsGood, RouteGood, ValidTables}
-use Rattle.model.specs.Good.{Good, holdsPage, Cleared, PageIn}
-use Rattle.model.proofs.ViewLaws.{AtEnd, either, neither, no-mappings, no-edge-of, no-edge-on, not-targeted, no-pages, on-no-port, may-own, may-lent, may-either}
+use Rattle.model.specs.Step.{addVmControl, removeVmControl, assignControl, reclaimControl, shareControl, unshareControl}
+use Rattle.model.specs.Valid.{Home, pool, cpu, KnownGood, PagesGood, PairGood, PairsGood, EntryGood, PortsGood, RouteGood, ValidTables}
+use Rattle.model.specs.Good.{Good, Made, holdsPage, Cleared}
+use Rattle.model.proofs.ViewLaws.{Lends, AtEnd, of-vm, either, neither, no-mappings, no-edge-of, no-edge-on, not-targeted, not-paired, lends-shares, shares-lends, no-pages, on-no-port, may-own, may-lent, may-either}
 use Rattle.model.proofs.PagesKept.{Moved, moved-keeps, moved-back, home-dma, assign-moved, reclaim-moved, pages-assigned, pages-reclaimed, one-holder}
 use Rattle.model.proofs.Refused.{quiet-good, decided-good}
 use Rattle.model.proofs.Carried.{Ground, route-carried, PairGround, pairs-carried, pages-carried}
@@ -350,3 +353,172 @@ module _ (t : Tables) (v : ValidTables t) (pairs : List ℕ) where
           record { vm = g .vm; may = ⊎-elim (may-own Cpu (t .sets) pairs (vmOf w) (pageOf w)) (lent w h (g .filled)) (may-either Cpu (t .sets) (t .pairs) (vmOf w) (pageOf w) (g .may)) }
       carries Dma w h g =
           record { vm = g .vm; may = ⊎-elim (may-own Dma (t .sets) pairs (vmOf w) (pageOf w)) (may-lent Dma (t .sets) pairs (vmOf w) (pageOf w)) (may-either Dma (t .sets) (t .pairs) (vmOf w) (pageOf w) (g .may)) }
+
+-- the pair that a share stores
+record SharePassed (t : Tables) (left right page : ℕ) (answer : Answer) : Type 0 where
+  early : PairPassed (t .known) (t .setup .pages) left right page
+  apart : left ≡ right → ⊥
+  owned : owns (t .sets) left page ≡ true
+  agreed : answer ≡ accepted
+
+share-passed : (t : Tables) (left right page : ℕ) {dropped word : ℕ} → shareAnswer (t .known) (t .setup .pages) (t .sets) (t .pairs) left right page ≡ Accepted dropped word → SharePassed t left right page (shareAnswer (t .known) (t .setup .pages) (t .sets) (t .pairs) left right page)
+unfolding shareAnswer
+share-passed t left right page e =
+    let (d, w, early, rest) = then-passed (pairEarly (t .known) (t .setup .pages) left right page) _ e in
+    let a = past (eqb left right) _ _ _ rest in
+    let b = past (not (owns (t .sets) left page)) _ _ _ (a .1) in
+    let c = past (not (paired (t .pairs) left right page || roomFor (t .pairs) 1)) _ _ _ (b .1) in
+    record {
+      early = pair-passed (t .known) (t .setup .pages) left right page early;
+      apart = eqb-false left right (a .0);
+      owned = not-false _ (b .0);
+      agreed = e ∙ sym (c .1);
+    }
+
+-- a pair's word unpacks to what was packed
+module _ (left right page : ℕ) (l : left < 256) (r : right < 65536) (s : page < 4096) where
+  fits : entry page 0 0 < 4294967296
+  fits = entry-fits page 0 0 s (omega arith) (omega arith)
+
+  pair-good : (pages known : ℕ) (sets : List ℕ) → page < pages → (left ≡ right → ⊥) → knows known left ≡ true → knows known right ≡ true → owns sets left page ≡ true → PairGood pages known sets (pairWord left right page)
+  pair-good pages known sets h n k k′ o =
+      record {
+        port = word-port 0 left right (entry page 0 0) l r fits;
+        filled = word-filled 0 left right (entry page 0 0) l r fits ∙ entry-filled page 0 0 s (omega arith) (omega arith);
+        access = word-access 0 left right (entry page 0 0) l r fits ∙ entry-access page 0 0 s (omega arith) (omega arith);
+        generation = word-generation 0 left right (entry page 0 0) l r fits ∙ entry-generation page 0 0 s (omega arith) (omega arith);
+        page = rw (pair-page left right page l r s) h;
+        apart = rw (pair-left left right page l r s, pair-right left right page l r s) n;
+        left = rw (pair-left left right page l r s) k;
+        right = rw (pair-right left right page l r s) k′;
+        owned = inl (rw (pair-left left right page l r s, pair-page left right page l r s) o);
+      }
+
+-- what holds of the pairs, and of them with the new one, holds of what a share leaves
+share-case : (pairs : List ℕ) (left right page : ℕ) (P : List ℕ → Type 0) → P pairs → (paired pairs left right page ≡ false → P (put pairKeyOf pairs (pairKey left right page) (pairWord left right page))) → P (sharePairs pairs left right page)
+unfolding sharePairs
+share-case pairs left right page P old new = ⊎-elim (λ y. rw y old) (λ f. rw f (new f)) (cases (paired pairs left right page))
+
+module _ (t : Tables) (v : ValidTables t) (left right page : ℕ) {answer : Answer} (p : SharePassed t left right page answer) where
+  small-left : left < 256
+  small-left = omega (arith, p .early .left-ok)
+
+  small-right : right < 65536
+  small-right = omega (arith, p .early .right-ok)
+
+  small-page : page < 4096
+  small-page = omega (arith, v .setup .most-pages, p .early .page-ok)
+
+  share-pairs : PairsGood (t .setup .pages) (t .known) (t .sets) (sharePairs (t .pairs) left right page)
+  share-pairs =
+      share-case (t .pairs) left right page (PairsGood (t .setup .pages) (t .known) (t .sets)) (v .pairs)
+      (λ f.
+      record {
+        each = λ w h. ⊎-elim (λ q. rw q new) (v .pairs .each w) (has-put-inv pairKeyOf (t .pairs) (pairKey left right page) (pairWord left right page) w h);
+        once = distinct-put pairKeyOf (t .pairs) (pairKey left right page) (pairWord left right page) (pair-key left right page small-left small-right small-page) (omega arith) (v .pairs .once);
+      })
+    where
+      new : PairGood (t .setup .pages) (t .known) (t .sets) (pairWord left right page)
+      new = pair-good left right page small-left small-right small-page (t .setup .pages) (t .known) (t .sets) (p .early .page-ok) (p .apart) (p .early .knows-left) (p .early .knows-right) (p .owned)
+
+  -- what was shared is shared still
+  share-keeps : (vm page′ : ℕ) → shares (t .pairs) vm page′ ≡ true → shares (sharePairs (t .pairs) left right page) vm page′ ≡ true
+  share-keeps vm page′ e = share-case (t .pairs) left right page (λ pairs. shares pairs vm page′ ≡ true) e kept
+    where
+      kept : paired (t .pairs) left right page ≡ false → shares (put pairKeyOf (t .pairs) (pairKey left right page) (pairWord left right page)) vm page′ ≡ true
+      kept f =
+          let (w, r) = shares-lends (t .pairs) vm page′ e in
+          let there = has-put-keep pairKeyOf (t .pairs) (pairKey left right page) (pairWord left right page) w (r .there) (λ q. not-paired (t .pairs) left right page w f (record { there = r .there; key = q })) in
+          lends-shares _ vm page′ w (record { there = there; filled = r .filled; same = r .same; end = r .end })
+
+  share-valid : ValidTables (withPairs t (sharePairs (t .pairs) left right page))
+  share-valid = pairs-valid t v (sharePairs (t .pairs) left right page) long share-pairs (λ w h f s. may-lent Cpu (t .sets) _ (vmOf w) (pageOf w) (share-keeps (vmOf w) (pageOf w) s))
+    where
+      long : length (sharePairs (t .pairs) left right page) ≡ PAIRS
+      long = share-case (t .pairs) left right page (λ pairs. length pairs ≡ PAIRS) (v .lengths .pairs) (λ f. length-put pairKeyOf (t .pairs) _ _ ∙ v .lengths .pairs)
+
+-- the one pair that may be new is what was asked for
+share-made : (t : Tables) → ValidTables t → (left right : VmId) (page : PhysPage) {answer : Answer} → SharePassed t (left .0) (right .0) (page .0) answer → Made t (SharePage left right page) answer (pairWord (left .0) (right .0) (page .0))
+share-made t v left right page p =
+    let l = small-left t v (left .0) (right .0) (page .0) p in
+    let r = small-right t v (left .0) (right .0) (page .0) p in
+    let s = small-page t v (left .0) (right .0) (page .0) p in
+    record {
+      share = rw (pair-left (left .0) (right .0) (page .0) l r s, pair-right (left .0) (right .0) (page .0) l r s, pair-page (left .0) (right .0) (page .0) l r s);
+      agreed = p .agreed;
+      owned = rw (pair-left (left .0) (right .0) (page .0) l r s, pair-page (left .0) (right .0) (page .0) l r s) (p .owned);
+    }
+
+share-edges : (t : Tables) → ValidTables t → (left right : VmId) (page : PhysPage) (answer : Answer) → SharePassed t (left .0) (right .0) (page .0) answer → (w : ℕ) → Has (sharePairs (t .pairs) (left .0) (right .0) (page .0)) w → Has (t .pairs) w ⊎ Made t (SharePage left right page) answer w
+share-edges t v left right page answer p w =
+    share-case (t .pairs) (left .0) (right .0) (page .0) (λ pairs. Has pairs w → Has (t .pairs) w ⊎ Made t (SharePage left right page) answer w) inl
+    (λ f h. ⊎-elim (λ q. inr (rw q (share-made t v left right page p))) inl (has-put-inv pairKeyOf (t .pairs) _ _ w h))
+
+pub share-good : (t : Tables) → ValidTables t → (left right : VmId) (page : PhysPage) → Good t (SharePage left right page) (shareControl t (left .0) (right .0) (page .0))
+unfolding shareControl
+share-good t v left right page =
+    decided-good t v (SharePage left right page) _ (withPairs t (sharePairs (t .pairs) (left .0) (right .0) (page .0))) quiet
+    (λ dropped word e.
+    let p = share-passed t (left .0) (right .0) (page .0) e in
+    quiet-good t (SharePage left right page) _ _ (share-valid t v (left .0) (right .0) (page .0) p) (λ other page′ l b h. h) (share-edges t v left right page _ p))
+
+record UnsharePassed (t : Tables) (left right page : ℕ) : Type 0 where
+  early : PairPassed (t .known) (t .setup .pages) left right page
+  no-left : borrowerMaps (t .sets) (t .cpu .map) left page ≡ false
+  no-right : borrowerMaps (t .sets) (t .cpu .map) right page ≡ false
+
+unshare-passed : (t : Tables) (left right page : ℕ) {dropped word : ℕ} → unshareAnswer (t .known) (t .setup .pages) (t .sets) (t .pairs) (t .cpu .map) left right page ≡ Accepted dropped word → UnsharePassed t left right page
+unfolding unshareAnswer
+unshare-passed t left right page e =
+    let (d, w, early, rest) = then-passed (pairEarly (t .known) (t .setup .pages) left right page) _ e in
+    let a = past (not (paired (t .pairs) left right page)) _ _ _ rest in
+    let b = past (borrowerMaps (t .sets) (t .cpu .map) left page || borrowerMaps (t .sets) (t .cpu .map) right page) _ _ _ (a .1) in
+    let c = neither (borrowerMaps (t .sets) (t .cpu .map) left page) (borrowerMaps (t .sets) (t .cpu .map) right page) (b .0) in
+    record { early = pair-passed (t .known) (t .setup .pages) left right page early; no-left = c .0; no-right = c .1 }
+
+-- a VM that maps the page and is no borrower owns it
+not-borrower : (sets map : List ℕ) (vm page w : ℕ) → borrowerMaps sets map vm page ≡ false → Has map w → filledOf w ≡ 1 → vmOf w ≡ vm → pageOf w ≡ page → owns sets (vmOf w) (pageOf w) ≡ true
+not-borrower sets map vm page w n h f e q =
+    rw (e, q) (⊎-elim (λ o. o) (λ g. absurd (not-targeted (ofVm vm) map page w (rw g at n) h (of-vm vm w f e) f q)) (cases (owns sets vm page)))
+
+-- pairs of one key have the same ends
+same-end : (a b left right vm : ℕ) → min a b ≡ min left right → max a b ≡ max left right → (a ≡ vm) ⊎ (b ≡ vm) → (vm ≡ left) ⊎ (vm ≡ right)
+same-end a b left right vm low high e = ⊎-elim inl (λ n. inr (⊎-elim (λ q. omega arith) (λ q. omega arith) e)) (equal vm left)
+
+module _ (t : Tables) (v : ValidTables t) (left right page : ℕ) (p : UnsharePassed t left right page) where
+  -- an entry whose pair goes is of an end that owns the page
+  ended : (w u : ℕ) → Has (t .cpu .map) w → filledOf w ≡ 1 → Lends (t .pairs) (vmOf w) (pageOf w) u → pairKeyOf u ≡ pairKey left right page → owns (t .sets) (vmOf w) (pageOf w) ≡ true
+  ended w u h f r k =
+      let e = pair-same (leftOf u) (rightOf u) (pageOf u) left right page (omega arith) (omega arith) (omega arith) (omega (arith, p .early .left-ok)) (omega (arith, p .early .right-ok)) (omega (arith, v .setup .most-pages, p .early .page-ok)) (rw (r .filled) at k) in
+      let q : pageOf w ≡ page = sym (r .same) ∙ e .0 in
+      ⊎-elim (λ l. not-borrower (t .sets) (t .cpu .map) left page w (p .no-left) h f l q) (λ l. not-borrower (t .sets) (t .cpu .map) right page w (p .no-right) h f l q)
+      (same-end (leftOf u) (rightOf u) left right (vmOf w) (e .1) (e .2) (r .end))
+
+  unshare-lent : (w : ℕ) → Has (t .cpu .map) w → filledOf w ≡ 1 → shares (t .pairs) (vmOf w) (pageOf w) ≡ true → mayMap Cpu (t .sets) (unsharePairs (t .pairs) left right page) (vmOf w) (pageOf w) ≡ true
+  unfolding unsharePairs erase
+  unshare-lent w h f s =
+      let (u, r) = shares-lends (t .pairs) (vmOf w) (pageOf w) s in
+      ⊎-elim (λ k. may-own Cpu (t .sets) _ (vmOf w) (pageOf w) (ended w u h f r k))
+      (λ d.
+      may-lent Cpu (t .sets) _ (vmOf w) (pageOf w)
+      (lends-shares _ (vmOf w) (pageOf w) u
+      (record { there = has-wipe-keep (hasKey pairKeyOf (pairKey left right page)) (t .pairs) u (r .there) (ne-eqb _ _ d); filled = r .filled; same = r .same; end = r .end })))
+      (equal (pairKeyOf u) (pairKey left right page))
+
+  unshare-valid : ValidTables (withPairs t (unsharePairs (t .pairs) left right page))
+  unfolding unsharePairs erase
+  unshare-valid =
+      pairs-valid t v (unsharePairs (t .pairs) left right page) (length-wipe gone (t .pairs) ∙ v .lengths .pairs)
+      (record { each = λ w h. v .pairs .each w (has-wipe-inv gone (t .pairs) w h .0); once = distinct-wipe pairKeyOf refl gone (t .pairs) (v .pairs .once) })
+      unshare-lent
+    where
+      gone : ℕ → Bool
+      gone = hasKey pairKeyOf (pairKey left right page)
+
+pub unshare-good : (t : Tables) → ValidTables t → (left right : VmId) (page : PhysPage) → Good t (UnsharePage left right page) (unshareControl t (left .0) (right .0) (page .0))
+unfolding unshareControl unsharePairs erase
+unshare-good t v left right page =
+    decided-good t v (UnsharePage left right page) _ (withPairs t (unsharePairs (t .pairs) (left .0) (right .0) (page .0))) quiet
+    (λ dropped word e.
+    quiet-good t (UnsharePage left right page) _ _ (unshare-valid t v (left .0) (right .0) (page .0) (unshare-passed t (left .0) (right .0) (page .0) e)) (λ other page′ l b h. h)
+    (λ w h. inl (has-wipe-inv (hasKey pairKeyOf (pairKey (left .0) (right .0) (page .0))) (t .pairs) w h .0)))
