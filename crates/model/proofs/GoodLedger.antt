@@ -38,20 +38,20 @@ use Rattle.model.proofs.Refused.{quiet-good, decided-good}
 use Rattle.model.proofs.Carried.{Ground, route-carried, PairGround, pairs-carried, pages-carried}
 
 -- what holds for CPU and for DMA
-each-side : (P : Side → Type 0) → P Cpu → P Dma → (side : Side) → P side
+pub each-side : (P : Side → Type 0) → P Cpu → P Dma → (side : Side) → P side
 each-side P c d Cpu = c
 each-side P c d Dma = d
 
 -- ---- the known VMs, the page sets and the pairs replaced
-abbrev ledger : Tables → ℕ → List ℕ → List ℕ → Tables
+abbrev pub ledger : Tables → ℕ → List ℕ → List ℕ → Tables
 ledger t known sets pairs = record { setup = t .setup; known = known; sets = sets; pairs = pairs; cpu = t .cpu; dma = t .dma }
 
 module _ (t : Tables) (v : ValidTables t) (known : ℕ) (sets pairs : List ℕ) where
   -- an entry that rests on the old ones rests on the new
-  abbrev Carries : Side → Type 0
+  abbrev pub Carries : Side → Type 0
   Carries side = (w : ℕ) → Has (route side t .map) w → EntryGood side (t .setup .pages) (t .known) (t .sets) (t .pairs) w → Ground side known sets pairs w
 
-  ledger-valid : length sets ≡ SETS * SET-WORDS → length pairs ≡ PAIRS → KnownGood known →
+  pub ledger-valid : length sets ≡ SETS * SET-WORDS → length pairs ≡ PAIRS → KnownGood known →
       PagesGood (t .setup .pages) (t .setup .sharedBase) (t .setup .sharedCount) known sets → PairsGood (t .setup .pages) known sets pairs →
       ((side : Side) → Carries side) → ((side : Side) → PortsGood known (route side t .ports)) → ValidTables (ledger t known sets pairs)
   ledger-valid long long′ k g p carries ports =
@@ -206,7 +206,7 @@ module _ (t : Tables) (v : ValidTables t) (sets : List ℕ) (from to page : ℕ)
       (each-side (λ side. PortsGood (t .known) (route side t .ports)) (v .cpu .ports) (v .dma .ports))
 
 -- the VM holds the page as it did
-page-held : (sets sets′ : List ℕ) (vm page : ℕ) → (owns sets vm page ≡ true → owns sets′ vm page ≡ true) → (holdsDma sets vm page ≡ true → holdsDma sets′ vm page ≡ true) → holdsPage sets vm page ≡ true → holdsPage sets′ vm page ≡ true
+pub page-held : (sets sets′ : List ℕ) (vm page : ℕ) → (owns sets vm page ≡ true → owns sets′ vm page ≡ true) → (holdsDma sets vm page ≡ true → holdsDma sets′ vm page ≡ true) → holdsPage sets vm page ≡ true → holdsPage sets′ vm page ≡ true
 page-held sets sets′ vm page o d e =
     ⊎-elim (λ a. rw (o a)) (λ b. rw (d b) (or-true (owns sets′ vm page))) (either (owns sets vm page) (holdsDma sets vm page) e)
 

@@ -1,18 +1,21 @@
 -- What is proved of the machine.
 pub mod Computes
 pub mod Rows
-pub mod Repeats
-pub mod StartKept
-pub mod RegionLaws
-pub mod RegionSets
 pub mod Worked
+pub mod Repeats
 pub mod ViewLaws
 pub mod Refused
 pub mod Carried
-pub mod RoutesKept
 pub mod PagesKept
+pub mod StartKept
+pub mod RoutesKept
 pub mod OneRoute
+pub mod RegionLaws
+pub mod RegionSets
+pub mod RegionTables
+pub mod RegionKept
+pub mod GoodLedger
 pub mod GoodMaps
+pub mod GoodRegions
 pub mod GoodPorts
 pub mod GoodAccess
-pub mod GoodLedger
