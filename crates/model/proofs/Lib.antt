@@ -19,3 +19,4 @@ pub mod GoodMaps
 pub mod GoodRegions
 pub mod GoodPorts
 pub mod GoodAccess
+pub mod Kept
