@@ -7,12 +7,15 @@ use mathlib.Core.Logic.{_⊎_, inl, inr, ⊎-elim}
 use mathlib.Core.Path.{_≡_, refl, sym, ap, _∙_}
 use native.Mathlib.Omega.{arith}
 use lib.Dec.{eqb}
-use lib.ListN.{getD}
+use borrow.Author.Tests.{eqb-false}
 use Rattle.numbers.specs.Choice.{if_then_else_}
 use Rattle.numbers.specs.Limits.{VMS, GUEST-PAGES, PAGE-WORDS, PORTS, SLOTS, ACCESSES, GENERATIONS, IDLE}
 use Rattle.numbers.specs.Decides.{Decides}
 use Rattle.numbers.specs.DecidesLaws.{decides-as, decides-itself, decides-less, decides-equal, decides-not, decides-and, decides-or, refutes}
 use Rattle.numbers.specs.Packing.{vmOf, guestOf, pageOf, accessOf, filledOf, key, keyOf, slotKey, addressOf, mapWord, entryOf}
+use Rattle.numbers.specs.PackingLaws.{unported, unported-access, slot-address, key-filled}
+use Rattle.numbers.specs.declared.Answer.the-variants.{Accepted, Refused}
+use Rattle.numbers.specs.declared.Refusal.the-variants.{MappingDiffers, AccessLacking}
 use Rattle.numbers.specs.declared.Side.{Side}
 use Rattle.numbers.specs.declared.Target.{Target}
 use Rattle.numbers.specs.declared.Target.the-variants.{Idle, Vm}
@@ -25,10 +28,11 @@ use Rattle.model.specs.Valid.{ValidTables, SameMap}
 use Rattle.model.specs.EarlyLaws.{both}
 use Rattle.model.specs.Maps.{mapEarly, unmapEarly, mapAnswer, unmapAnswer}
 use Rattle.model.specs.Ports.{isTarget, knowsTarget, portAnswer, vmOn, fillAnswer, emptyAnswer}
-use Rattle.model.specs.Access.{translate, accessAnswer}
+use Rattle.model.specs.Access.{translate, allows, accessAnswer}
 use Rattle.model.specs.Conditions.{accepts, Maps, Mapped, MayMap, TargetGood, MapsPage, UnmapsPage, SwitchesPort, Fills, EmptiesSlot, Accesses}
-use Rattle.model.proofs.ExactLaws.{always, unless, where-so, and-then, after-early}
-use Rattle.model.proofs.ExactViews.{place-exact, mapped-exact, may-exact, route-good, entry-good, mapping}
+use Rattle.model.proofs.OneRoute.{route-of}
+use Rattle.model.proofs.ExactLaws.{always, unless, where-so, after-early, after-check}
+use Rattle.model.proofs.ExactViews.{place-exact, mapped-exact, walked-exact, may-exact, keyed-mapped, mapped-keyed}
 
 -- ---- early checks
 map-early : (known pages vm guest page access generation : ℕ) →
@@ -88,3 +92,108 @@ module _ (side : Side) (t : Tables) (v : ValidTables t) where
       (λ ((a, g), _). where-so _ _ _ _ (mapped-exact side t v vm guest g) always))
       (λ (((a, g), (k, _)), (m, _)). record { vm-ok = a; guest-ok = g; known = k; mapped = m })
       (λ c. (((c .vm-ok, c .guest-ok), (c .known, tt)), (c .mapped, tt)))
+
+  -- ---- 17, 18
+  pub fill-exact : (port guest : ℕ) → Decides (accepts (fillAnswer (route side t .ports) (route side t .walker) port guest)) (Fills side t port guest)
+  unfolding fillAnswer
+  fill-exact port guest =
+      decides-as
+      (after-check _ _ _ _ (decides-and (decides-less port PORTS) (decides-less guest GUEST-PAGES))
+      (λ (p, g). where-so _ _ _ _ (decides-less (vmOn (route side t .ports) port) VMS) (where-so _ _ _ _ (walked-exact side t v (vmOn (route side t .ports) port) guest g) always)))
+      (λ ((p, g), (a, (m, _))). record { port-ok = p; guest-ok = g; vm = vmOn (route side t .ports) port; vm-ok = a; runs = refl; mapped = m })
+      (λ c. ((c .port-ok, c .guest-ok), (rw (c .runs) (c .vm-ok), (rw (c .runs) (c .mapped), tt))))
+
+  -- ---- 21 to 24
+  -- the walker's word, and what a translation has of it
+  abbrev walks : ℕ → ℕ → ℕ
+  walks vm guest = lookup keyOf (route side t .walker) (key vm guest)
+
+  record Translated (vm guest w : ℕ) : Type 0 where
+    none : w ≡ 0 → walks vm guest ≡ 0
+    some : walks vm guest ≡ 0 → w ≡ 0
+    access : accessOf w ≡ accessOf (walks vm guest)
+
+  by-slot : (port vm guest w : ℕ) → vm < VMS → guest < GUEST-PAGES → Has (route side t .cache) w → keyOf w ≡ slotKey port vm guest → Translated vm guest w
+  by-slot port vm guest w a g h e =
+      let s = route-of side t v .cache .each w h in
+      let q : walks vm guest ≡ unported w = rw (← slot-address port vm guest w (omega arith) g e) (s .entry) in
+      record { none = λ z. absurd (h .filled z); some = λ z. absurd (let y = sym q ∙ z in omega (arith, s .filled)); access = sym (unported-access w) ∙ ap accessOf (sym q) }
+
+  translated : (port vm guest : ℕ) → vm < VMS → guest < GUEST-PAGES → Translated vm guest (translate (route side t .cache) (route side t .walker) port vm guest)
+  unfolding translate
+  translated port vm guest a g =
+      ⊎-elim (λ e. rw e (record { none = λ z. z; some = λ z. z; access = refl }))
+      (λ f. rw f (let (h, e) = lookup-has keyOf (route side t .cache) (slotKey port vm guest) (eqb-false _ 0 f) in by-slot port vm guest _ a g h e))
+      (cases (eqb (lookup keyOf (route side t .cache) (slotKey port vm guest)) 0))
+
+  -- a mapping of the guest page that has the access bit
+  record Allowed (bit vm guest : ℕ) : Type 0 where
+    page : ℕ
+    access : ℕ
+    generation : ℕ
+    mapped : Maps side t vm guest page access generation
+    allowed : access / bit % 2 ≡ 1
+
+  -- the walker's word of a guest page is the mapping's
+  walks-mapping : (vm guest page access generation : ℕ) (m : Maps side t vm guest page access generation) → walks vm guest ≡ m .word
+  unfolding SameMap
+  walks-mapping vm guest page access generation m =
+      let r = route-of side t v in
+      let e = mapped-keyed side t v vm guest page access generation m in
+      sym (r .same (key vm guest) (omega arith)) ∙ rw (← e) (has-lookup keyOf (route side t .map) (m .word) (r .map .once) (m .stored) (key-filled (m .word) (r .map .each (m .word) (m .stored) .filled)))
+
+  walks-mapped : (vm guest : ℕ) → guest < GUEST-PAGES → (walks vm guest ≡ 0 → ⊥) → Mapped side t vm guest
+  unfolding SameMap
+  walks-mapped vm guest g n =
+      let e = route-of side t v .same (key vm guest) (omega arith) in
+      let (h, q) = lookup-has keyOf (route side t .map) (key vm guest) (λ z. n (sym e ∙ z)) in
+      keyed-mapped side t v vm guest g (_, h, q)
+
+  allowed-exact : (bit port vm guest : ℕ) → vm < VMS → guest < GUEST-PAGES →
+      Decides (accepts (if eqb (translate (route side t .cache) (route side t .walker) port vm guest) 0 then Refused MappingDiffers 0 else if not (allows bit (translate (route side t .cache) (route side t .walker) port vm guest)) then Refused AccessLacking 0 else Accepted 0 0)) (Allowed bit vm guest)
+  allowed-exact bit port vm guest a g = decides-as (unless _ _ _ _ (decides-equal w 0) (where-so _ _ _ _ (decides-equal (accessOf w / bit % 2) 1) always)) to fro
+    where
+      w : ℕ
+      w = translate (route side t .cache) (route side t .walker) port vm guest
+
+      r : Translated vm guest w
+      r = translated port vm guest a g
+
+      to : (w ≡ 0 → ⊥) × ((accessOf w / bit % 2 ≡ 1) × Unit {0}) → Allowed bit vm guest
+      to (n, (e, _)) =
+          let m = walks-mapped vm guest g (λ z. n (r .some z)) in
+          let q : accessOf w ≡ m .access = r .access ∙ ap accessOf (walks-mapping vm guest (m .page) (m .access) (m .generation) (m .mapping)) ∙ m .mapping .access-of in
+          record { page = m .page; access = m .access; generation = m .generation; mapped = m .mapping; allowed = rw (← q) e }
+
+      fro : Allowed bit vm guest → (w ≡ 0 → ⊥) × ((accessOf w / bit % 2 ≡ 1) × Unit {0})
+      fro c =
+          let e = walks-mapping vm guest (c .page) (c .access) (c .generation) (c .mapped) in
+          let q : accessOf w ≡ c .access = r .access ∙ ap accessOf e ∙ c .mapped .access-of in
+          ((λ z. c .mapped .stored .filled (sym e ∙ r .none z)), (rw q (c .allowed), tt))
+
+  pub access-exact : (bit port guest word : ℕ) → Decides (accepts (accessAnswer (route side t .ports) (route side t .cache) (route side t .walker) bit port guest word)) (Accesses side t bit port guest word)
+  unfolding accessAnswer
+  access-exact bit port guest word =
+      decides-as
+      (after-check _ _ _ _ (decides-and (decides-and (decides-less port PORTS) (decides-less guest GUEST-PAGES)) (decides-less word PAGE-WORDS))
+      (λ ((p, g), k).
+      after-check _ _ _ _ (decides-less (vmOn (route side t .ports) port) VMS)
+      (λ a. allowed-exact bit port (vmOn (route side t .ports) port) guest a g)))
+      (λ (((p, g), k), (a, m)).
+      record {
+        port-ok = p;
+        guest-ok = g;
+        word-ok = k;
+        vm = vmOn (route side t .ports) port;
+        page = m .page;
+        access = m .access;
+        generation = m .generation;
+        vm-ok = a;
+        runs = refl;
+        mapped = m .mapped;
+        allowed = m .allowed;
+      })
+      (λ c. (
+        ((c .port-ok, c .guest-ok), c .word-ok),
+        (rw (c .runs) (c .vm-ok), rw (c .runs) (record { page = c .page; access = c .access; generation = c .generation; mapped = c .mapped; allowed = c .allowed })),
+      ))

@@ -29,8 +29,9 @@ use Rattle.model.specs.Valid.{ValidTables}
 use Rattle.model.specs.Start.{unitRegion}
 use Rattle.model.specs.Regions.{pageIn, guestIn, keyIn, regionEntry, regionEarly, notFree, present, claimed, notHeld, differs, inUse, insertAnswer, removeAnswer}
 use Rattle.model.specs.Conditions.{accepts, Claims, Edge, Maps, Mapped, IsUnit, RegionGood, Insertable, Inserts, Unshared, Removes}
+use Rattle.model.proofs.OneRoute.{route-of}
 use Rattle.model.proofs.ExactLaws.{always, unless, where-so, and-then, after-early, after-check, no-clash, some-below}
-use Rattle.model.proofs.ExactViews.{claimed-exact, mapped-exact, targets-exact, edge-on-exact, map-key, whole, route-good, entry-good, mapping}
+use Rattle.model.proofs.ExactViews.{claimed-exact, mapped-exact, targets-exact, edge-on-exact, map-key, whole, mapped-keyed, entry-good, mapping}
 
 -- ---- units
 -- a unit's five fields are the region's
@@ -176,8 +177,8 @@ module _ (side : Side) (t : Tables) (v : ValidTables t) (region : Region) where
       fro m =
           let r = entry-good side t v (m .word) (m .stored) in
           let w = whole side t v (region .vm .0) (guestIn region k) (pageIn region k) (region .access) 0 m in
-          let e : keyOf (m .word) ≡ keyIn region k = map-key (m .word) (r .port) (r .filled) ∙ rw (m .vm-of, m .guest-of) in
-          rw (← e) (has-lookup keyOf (route side t .map) (m .word) (route-good side t v .map .once) (m .stored) (key-filled (m .word) (r .filled))) ∙ sym w
+          let e : keyOf (m .word) ≡ keyIn region k = mapped-keyed side t v (region .vm .0) (guestIn region k) _ _ _ m in
+          rw (← e) (has-lookup keyOf (route side t .map) (m .word) (route-of side t v .map .once) (m .stored) (key-filled (m .word) (r .filled))) ∙ sym w
 
   -- another mapping of the side onto page k
   abbrev Another : ℕ → Type 0

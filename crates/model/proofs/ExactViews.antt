@@ -24,8 +24,10 @@ use Rattle.table.specs.declared.Found.the-variants.{At, Nothing}
 use Rattle.model.specs.MemoryLaws.{getD-there}
 use Rattle.model.specs.State.{Tables, route}
 use Rattle.model.specs.Views.{claims, claimedElsewhere, hasPages, onPage, ofVm, joins, isFilled, shares, edgeOn, edgeOf, paired, targeted, hasMappings, mayMap, onPort, whichever}
-use Rattle.model.specs.Valid.{ValidTables, RouteGood, MapGood, EntryGood, PairsGood, PairGood}
+use Rattle.model.specs.Valid.{ValidTables, EntryGood, PairGood, SameMap}
 use Rattle.model.specs.Conditions.{Claims, Edge, Maps, Mapped, Targets, RunsOn, MayMap, HoldsDma}
+use Rattle.model.proofs.Carried.{same-has}
+use Rattle.model.proofs.OneRoute.{GoodRoute, route-of}
 use Rattle.model.proofs.ExactLaws.{some-word, some-below}
 
 -- ---- page sets
@@ -90,15 +92,8 @@ map-key w p f =
     sym (ap keyOf z) ∙ e ∙ omega arith
 
 module _ (side : Side) (t : Tables) (v : ValidTables t) where
-  pub route-good : RouteGood side (t .setup .pages) (t .known) (t .sets) (t .pairs) (route side t)
-  route-good = pick side
-    where
-      pick : (s : Side) → RouteGood s (t .setup .pages) (t .known) (t .sets) (t .pairs) (route s t)
-      pick Cpu = v .cpu
-      pick Dma = v .dma
-
   pub entry-good : (w : ℕ) → Has (route side t .map) w → EntryGood side (t .setup .pages) (t .known) (t .sets) (t .pairs) w
-  entry-good w h = route-good .map .each w h
+  entry-good w h = route-of side t v .map .each w h
 
   -- a filled word of a map, as a mapping
   pub mapping : (w : ℕ) → Has (route side t .map) w → Maps side t (vmOf w) (guestOf w) (pageOf w) (accessOf w) (generationOf w)
@@ -110,19 +105,36 @@ module _ (side : Side) (t : Tables) (v : ValidTables t) where
       let r = entry-good (m .word) (m .stored) in
       rw (← m .vm-of, ← m .guest-of, ← m .page-of, ← m .access-of, ← m .generation-of, entry-whole (m .word) (r .filled)) (rw (r .port) at (word-whole (m .word)))
 
-  pub mapped-exact : (vm guest : ℕ) → guest < GUEST-PAGES → Decides (isFound (find keyOf (route side t .map) (key vm guest))) (Mapped side t vm guest)
-  mapped-exact vm guest g = decides-as (key-exact keyOf (route side t .map) (key vm guest) (λ e. omega arith)) to fro
-    where
-      to : (w : ℕ) × Has (route side t .map) w × (keyOf w ≡ key vm guest) → Mapped side t vm guest
-      to (w, h, e) =
-          let r = entry-good w h in
-          let s = key-same (vmOf w) (guestOf w) vm guest (omega arith) g (sym (map-key w (r .port) (r .filled)) ∙ e) in
-          record { page = pageOf w; access = accessOf w; generation = generationOf w; mapping = rw (s .0, s .1) at (mapping w h) }
+  -- a mapping of a guest page is a word of its key, in the walker's map as in the software's
+  abbrev Keyed : List ℕ → ℕ → ℕ → Type 0
+  Keyed table vm guest = (w : ℕ) × Has table w × (keyOf w ≡ key vm guest)
 
-      fro : Mapped side t vm guest → (w : ℕ) × Has (route side t .map) w × (keyOf w ≡ key vm guest)
-      fro m =
-          let r = entry-good (m .mapping .word) (m .mapping .stored) in
-          (m .mapping .word, m .mapping .stored, map-key (m .mapping .word) (r .port) (r .filled) ∙ rw (m .mapping .vm-of, m .mapping .guest-of))
+  pub keyed-mapped : (vm guest : ℕ) → guest < GUEST-PAGES → Keyed (route side t .map) vm guest → Mapped side t vm guest
+  keyed-mapped vm guest g (w, h, e) =
+      let r = entry-good w h in
+      let s = key-same (vmOf w) (guestOf w) vm guest (omega arith) g (sym (map-key w (r .port) (r .filled)) ∙ e) in
+      record { page = pageOf w; access = accessOf w; generation = generationOf w; mapping = rw (s .0, s .1) at (mapping w h) }
+
+  pub mapped-keyed : (vm guest page access generation : ℕ) (m : Maps side t vm guest page access generation) → keyOf (m .word) ≡ key vm guest
+  mapped-keyed vm guest page access generation m =
+      let r = entry-good (m .word) (m .stored) in
+      map-key (m .word) (r .port) (r .filled) ∙ rw (m .vm-of, m .guest-of)
+
+  keyed-of : (vm guest : ℕ) → Mapped side t vm guest → Keyed (route side t .map) vm guest
+  keyed-of vm guest m = (m .mapping .word, m .mapping .stored, mapped-keyed vm guest _ _ _ (m .mapping))
+
+  pub mapped-exact : (vm guest : ℕ) → guest < GUEST-PAGES → Decides (isFound (find keyOf (route side t .map) (key vm guest))) (Mapped side t vm guest)
+  mapped-exact vm guest g = decides-as (key-exact keyOf (route side t .map) (key vm guest) (λ e. omega arith)) (keyed-mapped vm guest g) (keyed-of vm guest)
+
+  pub walked-exact : (vm guest : ℕ) → guest < GUEST-PAGES → Decides (isFound (find keyOf (route side t .walker) (key vm guest))) (Mapped side t vm guest)
+  unfolding SameMap
+  walked-exact vm guest g =
+      decides-as (key-exact keyOf (route side t .walker) (key vm guest) (λ e. omega arith))
+      (λ (w, h, e). keyed-mapped vm guest g (w, same-has (route side t .map) (route side t .walker) w (r .same) (r .walker .once) h (r .walker .each w h .filled), e))
+      (λ m. let (w, h, e) = keyed-of vm guest m in (w, same-has (route side t .walker) (route side t .map) w (λ k o. sym (r .same k o)) (r .map .once) h (r .map .each w h .filled), e))
+    where
+      r : GoodRoute side t (route side t)
+      r = route-of side t v
 
   -- some mapping of the VM
   pub mappings-exact : (vm : ℕ) → Decides (hasMappings (route side t .map) vm) ((guest : ℕ) × Mapped side t vm guest)

@@ -25,3 +25,4 @@ pub mod ExactViews
 pub mod ExactLedger
 pub mod ExactMaps
 pub mod ExactRegions
+pub mod Exactly
