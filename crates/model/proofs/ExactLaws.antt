@@ -1,13 +1,12 @@
 -- Chains of checks and searches as exact tests: a chain accepts just where nothing that it refuses holds.
 use Prim.{Unit, tt}
-use Prim.Native.Nat.{ℕ, _≤_, _<_}
+use Prim.Native.Nat.{ℕ, _<_}
 use mathlib.Core.Bool.{Bool, true, false, not, true≢false}
 use mathlib.Core.List.{List}
 use mathlib.Core.Logic.{⊎-elim}
-use mathlib.Core.Path.{_≡_, refl, sym, _∙_}
-use native.Mathlib.Omega.{arith}
+use mathlib.Core.Path.{_≡_, refl, sym}
 use lib.Dec.{ltb}
-use borrow.Author.Tests.{ltb-true, ltb-false, le-ltb}
+use borrow.Author.Tests.{ltb-true, ltb-false}
 use Rattle.numbers.specs.Choice.{if_then_else_}
 use Rattle.numbers.specs.Decides.{Decides}
 use Rattle.numbers.specs.DecidesLaws.{refutes}
@@ -15,7 +14,7 @@ use Rattle.numbers.specs.declared.Answer.{Answer}
 use Rattle.numbers.specs.declared.Answer.the-variants.{Accepted, Refused}
 use Rattle.numbers.specs.declared.Refusal.{Refusal}
 use Rattle.table.specs.Scan.{any, anyBelow, lowest}
-use Rattle.table.specs.ScanLaws.{cases, has-any, any-true, below-any, any-below-true, lowest-within, lowest-found, lowest-none}
+use Rattle.table.specs.ScanLaws.{cases, has-any, any-true, below-any, any-below-true, lowest-found, lowest-none}
 use Rattle.table.specs.Table.{Has}
 use Rattle.units.specs.declared.Region.{Region}
 use Rattle.model.specs.Conditions.{accepts}

@@ -1,11 +1,10 @@
 -- Operations 1 to 6 are accepted exactly where their conditions hold.
 use Prim.{Unit, tt}
 use Prim.Native.Nat.{ℕ, _<_}
-use mathlib.Core.Bool.{Bool, true, false, not, _&&_, _||_}
+use mathlib.Core.Bool.{true}
 use mathlib.Core.Logic.{_⊎_, inl, inr, ⊎-elim}
-use mathlib.Core.Path.{_≡_, refl, sym, _∙_}
+use mathlib.Core.Path.{_≡_, refl}
 use native.Mathlib.Omega.{arith}
-use lib.Dec.{eqb}
 use Rattle.numbers.specs.Limits.{VMS, PAGES, PORTS}
 use Rattle.numbers.specs.Decides.{Decides}
 use Rattle.numbers.specs.DecidesLaws.{decides-as, decides-itself, decides-less, decides-most, decides-equal, decides-not, decides-and, decides-or}
@@ -13,7 +12,7 @@ use Rattle.numbers.specs.declared.Side.{Side}
 use Rattle.numbers.specs.declared.Side.the-variants.{Cpu, Dma}
 use Rattle.table.specs.Table.{freeEntries}
 use Rattle.model.specs.State.{Tables}
-use Rattle.model.specs.Views.{knows, inPool, owns, claims, hasPages, hasMappings, edgeOf, onPort, claimedElsewhere, targeted, whichever, edgeOn, paired, ofVm}
+use Rattle.model.specs.Views.{knows, inPool, owns, claims}
 use Rattle.model.specs.Valid.{ValidTables}
 use Rattle.model.specs.Ledger.{vmEarly, pageEarly, pairEarly, addVmAnswer, removeVmAnswer, assignAnswer, reclaimAnswer, shareAnswer, unshareAnswer, borrowerMaps}
 use Rattle.model.specs.Conditions.{accepts, Edge, Mapped, Targets, RunsOn, AddsVm, RemovesVm, Assigns, Reclaims, Shares, Unshares}

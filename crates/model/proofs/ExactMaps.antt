@@ -1,18 +1,17 @@
 -- Operations 7 to 10 and 15 to 24 are accepted exactly where their conditions hold, on either side.
 use Prim.{Unit, tt}
-use Prim.Native.Nat.{ℕ, _/_, _%_, _≤_, _<_}
-use mathlib.Core.Bool.{Bool, true, false, not, _&&_, true≢false}
-use mathlib.Core.List.{List}
+use Prim.Native.Nat.{ℕ, _/_, _%_, _<_}
+use mathlib.Core.Bool.{true, not, _&&_}
 use mathlib.Core.Logic.{_⊎_, inl, inr, ⊎-elim}
 use mathlib.Core.Path.{_≡_, refl, sym, ap, _∙_}
 use native.Mathlib.Omega.{arith}
 use lib.Dec.{eqb}
 use borrow.Author.Tests.{eqb-false}
 use Rattle.numbers.specs.Choice.{if_then_else_}
-use Rattle.numbers.specs.Limits.{VMS, GUEST-PAGES, PAGE-WORDS, PORTS, SLOTS, ACCESSES, GENERATIONS, IDLE}
+use Rattle.numbers.specs.Limits.{VMS, GUEST-PAGES, PAGE-WORDS, PORTS, SLOTS, ACCESSES, GENERATIONS}
 use Rattle.numbers.specs.Decides.{Decides}
-use Rattle.numbers.specs.DecidesLaws.{decides-as, decides-itself, decides-less, decides-equal, decides-not, decides-and, decides-or, refutes}
-use Rattle.numbers.specs.Packing.{vmOf, guestOf, pageOf, accessOf, filledOf, key, keyOf, slotKey, addressOf, mapWord, entryOf}
+use Rattle.numbers.specs.DecidesLaws.{decides-as, decides-itself, decides-less, decides-equal, decides-and}
+use Rattle.numbers.specs.Packing.{accessOf, key, keyOf, slotKey}
 use Rattle.numbers.specs.PackingLaws.{unported, unported-access, slot-address, key-filled}
 use Rattle.numbers.specs.declared.Answer.the-variants.{Accepted, Refused}
 use Rattle.numbers.specs.declared.Refusal.the-variants.{MappingDiffers, AccessLacking}
@@ -20,16 +19,16 @@ use Rattle.numbers.specs.declared.Side.{Side}
 use Rattle.numbers.specs.declared.Target.{Target}
 use Rattle.numbers.specs.declared.Target.the-variants.{Idle, Vm}
 use Rattle.table.specs.ScanLaws.{cases}
-use Rattle.table.specs.Table.{Has, find, place, isFound, lookup, freeEntries}
+use Rattle.table.specs.Table.{Has, place, isFound, lookup, freeEntries}
 use Rattle.table.specs.TableLaws.{has-lookup, lookup-has}
 use Rattle.model.specs.State.{Tables, route}
-use Rattle.model.specs.Views.{knows, mayMap}
+use Rattle.model.specs.Views.{knows}
 use Rattle.model.specs.Valid.{ValidTables, SameMap}
 use Rattle.model.specs.EarlyLaws.{both}
 use Rattle.model.specs.Maps.{mapEarly, unmapEarly, mapAnswer, unmapAnswer}
 use Rattle.model.specs.Ports.{isTarget, knowsTarget, portAnswer, vmOn, fillAnswer, emptyAnswer}
 use Rattle.model.specs.Access.{translate, allows, accessAnswer}
-use Rattle.model.specs.Conditions.{accepts, Maps, Mapped, MayMap, TargetGood, MapsPage, UnmapsPage, SwitchesPort, Fills, EmptiesSlot, Accesses}
+use Rattle.model.specs.Conditions.{accepts, Maps, Mapped, TargetGood, MapsPage, UnmapsPage, SwitchesPort, Fills, EmptiesSlot, Accesses}
 use Rattle.model.proofs.OneRoute.{route-of}
 use Rattle.model.proofs.ExactLaws.{always, unless, where-so, after-early, after-check}
 use Rattle.model.proofs.ExactViews.{place-exact, mapped-exact, walked-exact, may-exact, keyed-mapped, mapped-keyed}

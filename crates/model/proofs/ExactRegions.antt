@@ -1,25 +1,22 @@
 -- Operations 11 to 14 are accepted exactly where their conditions hold, on either side.
 use Prim.{Unit as Anything, tt}
 use Prim.Native.Nat.{ℕ, _+_, _≤_, _<_}
-use mathlib.Core.Bool.{Bool, true, false, not, _&&_, _||_, true≢false}
-use mathlib.Core.List.{List}
+use mathlib.Core.Bool.{true, false, true≢false}
 use mathlib.Core.Logic.{_⊎_, inl, inr, ⊎-elim}
-use mathlib.Core.Path.{_≡_, refl, sym, ap, _∙_}
+use mathlib.Core.Path.{_≡_, sym, ap, _∙_}
 use native.Mathlib.Omega.{arith}
 use lib.Dec.{eqb}
 use lib.ListN.{getD}
-use borrow.Author.Tests.{eq-eqb}
 use Rattle.numbers.specs.Limits.{VMS, GUEST-PAGES, ACCESSES}
 use Rattle.numbers.specs.Decides.{Decides}
 use Rattle.numbers.specs.DecidesLaws.{decides-as, decides-itself, decides-less, decides-most, decides-equal, decides-not, decides-and, decides-or, twice-not}
-use Rattle.numbers.specs.Packing.{vmOf, guestOf, pageOf, accessOf, generationOf, entry, mapWord, key, keyOf}
+use Rattle.numbers.specs.Packing.{vmOf, guestOf, pageOf, accessOf, generationOf, entry, keyOf}
 use Rattle.numbers.specs.PackingLaws.{entry-fits, entry-page, entry-access, entry-generation, word-vm, word-guest, word-page, word-access, word-generation, key-same, key-filled}
 use Rattle.numbers.specs.declared.Side.{Side}
 use Rattle.numbers.specs.declared.Side.the-variants.{Cpu, Dma}
 use Rattle.table.specs.ScanLaws.{cases, equal}
 use Rattle.table.specs.Table.{Has, lookup, freeEntries}
 use Rattle.table.specs.TableLaws.{has-lookup, lookup-has}
-use Rattle.units.specs.Spans.{regionSpan}
 use Rattle.units.specs.Units.{suits, isUnit, noUnit, assignable}
 use Rattle.units.specs.declared.Region.{Region}
 use Rattle.units.specs.declared.Unit.{Unit}
@@ -27,10 +24,10 @@ use Rattle.model.specs.State.{Tables, route}
 use Rattle.model.specs.Views.{knows, inPool, inShared, targeted, butKey}
 use Rattle.model.specs.Valid.{ValidTables}
 use Rattle.model.specs.Start.{unitRegion}
-use Rattle.model.specs.Regions.{pageIn, guestIn, keyIn, regionEntry, regionEarly, notFree, present, claimed, notHeld, differs, inUse, insertAnswer, removeAnswer}
+use Rattle.model.specs.Regions.{pageIn, guestIn, keyIn, regionEntry, regionEarly, notFree, claimed, inUse, insertAnswer, removeAnswer}
 use Rattle.model.specs.Conditions.{accepts, Claims, Edge, Maps, Mapped, IsUnit, RegionGood, Insertable, Inserts, Unshared, Removes}
 use Rattle.model.proofs.OneRoute.{route-of}
-use Rattle.model.proofs.ExactLaws.{always, unless, where-so, and-then, after-early, after-check, no-clash, some-below}
+use Rattle.model.proofs.ExactLaws.{always, where-so, after-early, after-check, no-clash, some-below}
 use Rattle.model.proofs.ExactViews.{claimed-exact, mapped-exact, targets-exact, edge-on-exact, map-key, whole, mapped-keyed, entry-good, mapping}
 
 -- ---- units

@@ -1,7 +1,7 @@
 -- What the machine looks up is exactly what the tables show, in valid tables.
 use Prim.{Unit, tt}
-use Prim.Native.Nat.{ℕ, _+_, _≤_, _<_, min, max}
-use mathlib.Core.Bool.{Bool, true, false, not, _&&_, true≢false}
+use Prim.Native.Nat.{ℕ, _≤_, _<_, min, max}
+use mathlib.Core.Bool.{Bool, true, false, _&&_, true≢false}
 use mathlib.Core.List.{List}
 use mathlib.Core.Logic.{_⊎_, inl, inr, ⊎-elim}
 use mathlib.Core.Path.{_≡_, refl, sym, ap, _∙_}
@@ -25,7 +25,7 @@ use Rattle.model.specs.MemoryLaws.{getD-there}
 use Rattle.model.specs.State.{Tables, route}
 use Rattle.model.specs.Views.{claims, claimedElsewhere, hasPages, onPage, ofVm, joins, isFilled, shares, edgeOn, edgeOf, paired, targeted, hasMappings, mayMap, onPort, whichever}
 use Rattle.model.specs.Valid.{ValidTables, EntryGood, PairGood, SameMap}
-use Rattle.model.specs.Conditions.{Claims, Edge, Maps, Mapped, Targets, RunsOn, MayMap, HoldsDma}
+use Rattle.model.specs.Conditions.{Edge, Maps, Mapped, Targets, MayMap}
 use Rattle.model.proofs.Carried.{same-has}
 use Rattle.model.proofs.OneRoute.{GoodRoute, route-of}
 use Rattle.model.proofs.ExactLaws.{some-word, some-below}

@@ -1,10 +1,6 @@
 -- In valid tables an operation is accepted exactly where its conditions hold.
-use Prim.{Unit, tt}
-use mathlib.Core.Bool.{true}
-use mathlib.Core.Path.{_≡_, refl}
 use Rattle.numbers.specs.Decides.{Decides}
 use Rattle.numbers.specs.Limits.{READ, WRITE}
-use Rattle.numbers.specs.declared.Answer.{Answer}
 use Rattle.numbers.specs.declared.Side.the-variants.{Cpu, Dma}
 use Rattle.numbers.specs.declared.Operation.{Operation}
 use Rattle.numbers.specs.declared.Operation.the-variants.{

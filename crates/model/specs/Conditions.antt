@@ -46,7 +46,6 @@ use Rattle.numbers.specs.declared.Operation.the-variants.{
 use Rattle.table.specs.Table.{Has, freeEntries}
 use Rattle.units.specs.Units.{suits, noUnit}
 use Rattle.units.specs.declared.Region.{Region}
-use Rattle.units.specs.declared.Unit.{Unit}
 use Rattle.model.specs.State.{Tables, route}
 use Rattle.model.specs.Views.{knows, inPool, inShared, owns, holdsDma, claims}
 use Rattle.model.specs.Start.{unitRegion}

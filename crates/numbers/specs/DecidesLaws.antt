@@ -1,5 +1,4 @@
 -- Exact tests put together from exact tests.
-use Prim.{Unit, tt}
 use Prim.Native.Nat.{ℕ, _≤_, _<_}
 use mathlib.Core.Bool.{Bool, true, false, not, _&&_, _||_, true≢false}
 use mathlib.Core.Logic.{_⊎_, inl, inr}
