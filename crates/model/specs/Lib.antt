@@ -19,3 +19,4 @@ pub mod Sequence
 pub mod Good
 pub mod Entries
 pub mod Conditions
+pub mod Secrecy
