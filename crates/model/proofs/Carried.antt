@@ -4,7 +4,7 @@ use Prim.Native.Nat.{ℕ, _<_}
 use mathlib.Core.Bool.{true}
 use mathlib.Core.List.{List}
 use mathlib.Core.Logic.{_⊎_}
-use mathlib.Core.Path.{_≡_, refl}
+use mathlib.Core.Path.{_≡_}
 use Rattle.numbers.specs.Limits.{VMS}
 use Rattle.numbers.specs.Packing.{filledOf, pageOf, vmOf, leftOf, rightOf, keyOf}
 use Rattle.numbers.specs.PackingLaws.{key-filled}
@@ -24,7 +24,7 @@ pub record Ground (side : Side) (known : ℕ) (sets pairs : List ℕ) (w : ℕ) 
 -- tables that are equal as maps have the same words
 pub same-has : (a b : List ℕ) (w : ℕ) → SameMap a b → Distinct keyOf b → Has b w → filledOf w ≡ 1 → Has a w
 unfolding SameMap
-same-has a b w same once h f = agree-has keyOf refl a b w once same h (key-filled w f)
+same-has a b w same once h f = agree-has keyOf a b w once same h (key-filled w f)
 
 module _ (side : Side) (pages known known′ : ℕ) (sets sets′ pairs pairs′ : List ℕ) where
   map-carried : (table : List ℕ) → MapGood side pages known sets pairs table → ((w : ℕ) → Has table w → Ground side known′ sets′ pairs′ w) → MapGood side pages known′ sets′ pairs′ table

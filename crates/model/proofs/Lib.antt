@@ -14,6 +14,8 @@ pub mod RoutesKept
 pub mod PagesKept
 pub mod OneRoute
 pub mod GoodMaps
+pub mod GoodPorts
+pub mod GoodAccess
 pub mod GoodLedger
 pub mod RegionKept
 pub mod GoodRegions
