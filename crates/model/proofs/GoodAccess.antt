@@ -34,14 +34,14 @@ use Rattle.model.proofs.RoutesKept.{slot-walks}
 use Rattle.model.proofs.OneRoute.{GoodRoute, route-of}
 
 -- ---- what an accepted access tells
-record AccessAgreed (ports cache walker : List ℕ) (port guest : ℕ) : Type 0 where
+record AccessPassed (ports cache walker : List ℕ) (port guest : ℕ) : Type 0 where
   guest-ok : guest < GUEST-PAGES
   vm-ok : vmOn ports port < VMS
   translates : translate cache walker port (vmOn ports port) guest ≡ 0 → ⊥
 
-access-agreed : (ports cache walker : List ℕ) (bit port guest word : ℕ) {dropped read : ℕ} → accessAnswer ports cache walker bit port guest word ≡ Accepted dropped read → AccessAgreed ports cache walker port guest
+access-passed : (ports cache walker : List ℕ) (bit port guest word : ℕ) {dropped read : ℕ} → accessAnswer ports cache walker bit port guest word ≡ Accepted dropped read → AccessPassed ports cache walker port guest
 unfolding accessAnswer
-access-agreed ports cache walker bit port guest word e =
+access-passed ports cache walker bit port guest word e =
     let (a, b) = past (not (isPort port && isGuest guest && isWord word)) _ _ _ e in
     let (c, d) = past (isIdle (vmOn ports port)) _ _ _ b in
     let (f, h) = past (eqb (translate cache walker port (vmOn ports port) guest) 0) _ _ _ d in
@@ -93,7 +93,7 @@ behind-reaches side t vm w v e =
     record { vm-ok = v; page-ok = rw (← e .page-is) (e .good .page); way = way side t vm (pageOf w) (rw (← e .page-is, ← e .vm-is) (e .good .may)) }
 
 -- the VM on the port, and the page that it gets to
-reached : (side : Side) (t : Tables) (r : Route) → GoodRoute side t r → (port guest : ℕ) → AccessAgreed (r .ports) (r .cache) (r .walker) port guest →
+reached : (side : Side) (t : Tables) (r : Route) → GoodRoute side t r → (port guest : ℕ) → AccessPassed (r .ports) (r .cache) (r .walker) port guest →
     Reaches t (vmOn (r .ports) port) (pageOf (translate (r .cache) (r .walker) port (vmOn (r .ports) port) guest))
 reached side t r g port guest a =
     let vm = vmOn (r .ports) port in
@@ -124,7 +124,7 @@ read-good side t v operation port guest word =
     decided-good t v operation _ _ _
     (λ dropped read e.
     still-good t v operation _ _
-    (one-word t _ _ (reached side t r (route-of side t v) port guest (access-agreed (r .ports) (r .cache) (r .walker) READ port guest word e)))
+    (one-word t _ _ (reached side t r (route-of side t v) port guest (access-passed (r .ports) (r .cache) (r .walker) READ port guest word e)))
     (λ page h. h))
 
 pub write-good : (side : Side) (t : Tables) → ValidTables t → (operation : Operation) (port guest word value : ℕ) → Good t operation (writeControl side t port guest word value)
@@ -134,7 +134,7 @@ write-good side t v operation port guest word value =
     decided-good t v operation _ _ _
     (λ dropped read e.
     still-good t v operation _ _
-    (one-word t _ _ (reached side t r (route-of side t v) port guest (access-agreed (r .ports) (r .cache) (r .walker) WRITE port guest word e)))
+    (one-word t _ _ (reached side t r (route-of side t v) port guest (access-passed (r .ports) (r .cache) (r .walker) WRITE port guest word e)))
     (λ page h. h))
 
 pub barrier-good : (t : Tables) → ValidTables t → (operation : Operation) → Good t operation (barrierControl t)

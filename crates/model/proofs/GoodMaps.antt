@@ -28,16 +28,16 @@ use Rattle.model.proofs.OneRoute.{GoodRoute, route-of, maps-of, maps-ro
 
 -- ---- map
 -- what an accepted map tells
-record MapAgreed (side : Side) (known pages : ℕ) (sets pairs map : List ℕ) (vm guest page access generation : ℕ) : Type 0 where
+record MapAllPassed (side : Side) (known pages : ℕ) (sets pairs map : List ℕ) (vm guest page access generation : ℕ) : Type 0 where
   early : MapPassed known pages vm guest page access generation
   may : mayMap side sets pairs vm page ≡ true
   spot : ℕ
   placed : place keyOf map (key vm guest) ≡ At spot
 
-map-agreed : (side : Side) (known pages : ℕ) (sets pairs map cache : List ℕ) (vm guest page access generation : ℕ) {dropped word : ℕ} →
-    mapAnswer side known pages sets pairs map cache vm guest page access generation ≡ Accepted dropped word → MapAgreed side known pages sets pairs map vm guest page access generation
+map-all-passed : (side : Side) (known pages : ℕ) (sets pairs map cache : List ℕ) (vm guest page access generation : ℕ) {dropped word : ℕ} →
+    mapAnswer side known pages sets pairs map cache vm guest page access generation ≡ Accepted dropped word → MapAllPassed side known pages sets pairs map vm guest page access generation
 unfolding mapAnswer
-map-agreed side known pages sets pairs map cache vm guest page access generation e =
+map-all-passed side known pages sets pairs map cache vm guest page access generation e =
     let (d, w, early, a) = then-passed (mapEarly known pages vm guest page access generation) _ e in
     let (may, b) = past (not (mayMap side sets pairs vm page)) _ _ _ a in
     let (found, c) = past (not (isFound (place keyOf map (key vm guest)))) _ _ _ b in
@@ -50,7 +50,7 @@ map-same r vm guest page access generation =
     record { map = length-put keyOf (r .map) _ _; walker = length-put keyOf (r .walker) _ _; cache = length-wipe (hasKey addressOf (key vm guest)) (r .cache); ports = refl }
 
 map-kept : (side : Side) (t : Tables) → ValidTables t → (vm guest page access generation : ℕ) →
-    MapAgreed side (t .known) (t .setup .pages) (t .sets) (t .pairs) (route side t .map) vm guest page access generation → GoodRoute side t (mapRoute (route side t) vm guest page access generation)
+    MapAllPassed side (t .known) (t .setup .pages) (t .sets) (t .pairs) (route side t .map) vm guest page access generation → GoodRoute side t (mapRoute (route side t) vm guest page access generation)
 unfolding mapTable withoutSlots
 map-kept side t v vm guest page access generation a =
     let g = route-of side t v in
@@ -68,7 +68,7 @@ map-good side t v operation vm guest page access generation =
     decided-good t v operation _ _ _
     (λ dropped word e.
     route-good side t v operation _ _ (map-same (route side t) vm guest page access generation)
-    (map-kept side t v vm guest page access generation (map-agreed side (t .known) (t .setup .pages) (t .sets) (t .pairs) (route side t .map) (route side t .cache) vm guest page access generation e)))
+    (map-kept side t v vm guest page access generation (map-all-passed side (t .known) (t .setup .pages) (t .sets) (t .pairs) (route side t .map) (route side t .cache) vm guest page access generation e)))
 
 -- ---- unmap, which takes an entry and its slots whatever they are
 unmap-same : (r : Route) (vm guest : ℕ) → SameRoute r (unmapRoute r vm guest)
