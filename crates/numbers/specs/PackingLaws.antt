@@ -129,6 +129,9 @@ key-whole port vm guest w e = omega arith
 pub key-vm : (port vm guest w : ℕ) → vm < 256 → guest < 65536 → keyOf w ≡ slotKey port vm guest → vmOf w ≡ vm
 key-vm port vm guest w v g e = ap vmOf (sym (key-whole port vm guest w e)) ∙ word-vm port vm guest (entryOf w) v g (omega arith)
 
+pub key-guest : (port vm guest w : ℕ) → vm < 256 → guest < 65536 → keyOf w ≡ slotKey port vm guest → guestOf w ≡ guest
+key-guest port vm guest w v g e = ap guestOf (sym (key-whole port vm guest w e)) ∙ word-guest port vm guest (entryOf w) v g (omega arith)
+
 -- a filled word's key is never that of an empty one
 pub key-filled : (w : ℕ) → filledOf w ≡ 1 → 0 < keyOf w
 key-filled w f = omega arith
