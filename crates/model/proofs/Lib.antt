@@ -6,4 +6,5 @@ pub mod ViewLaws
 pub mod Refused
 pub mod Carried
 pub mod PagesKept
+pub mod LedgerKept
 pub mod GoodLedger
