@@ -28,15 +28,15 @@ ports-good : (t : Tables) → ValidTables t → (side : Side) → PortsGood (t .
 ports-good t v = each-side (λ side. PortsGood (t .known) (route side t .ports)) (v .cpu .ports) (v .dma .ports)
 
 -- ---- all three replaced
-abbrev ledger : Tables → ℕ → List ℕ → List ℕ → Tables
+abbrev pub ledger : Tables → ℕ → List ℕ → List ℕ → Tables
 ledger t known sets pairs = record { setup = t .setup; known = known; sets = sets; pairs = pairs; cpu = t .cpu; dma = t .dma }
 
 -- an entry of the side that rests on the old ones rests on the new
-abbrev Carries : Tables → ℕ → List ℕ → List ℕ → Side → Type 0
+abbrev pub Carries : Tables → ℕ → List ℕ → List ℕ → Side → Type 0
 Carries t known sets pairs side = (w : ℕ) → Has (route side t .map) w → EntryGood side (t .setup .pages) (t .known) (t .sets) (t .pairs) w → Ground side known sets pairs w
 
 module _ (t : Tables) (v : ValidTables t) (known : ℕ) (sets pairs : List ℕ) where
-  ledger-valid : length sets ≡ SETS * SET-WORDS → length pairs ≡ PAIRS → KnownGood known →
+  pub ledger-valid : length sets ≡ SETS * SET-WORDS → length pairs ≡ PAIRS → KnownGood known →
       PagesGood (t .setup .pages) (t .setup .sharedBase) (t .setup .sharedCount) known sets → PairsGood (t .setup .pages) known sets pairs →
       ((side : Side) → Carries t known sets pairs side) → ((side : Side) → PortsGood known (route side t .ports)) → ValidTables (ledger t known sets pairs)
   ledger-valid sets-long pairs-long k g p carries ports =

@@ -193,6 +193,10 @@ module _ (p : ℕ → Bool) where
   count-cons : (w : ℕ) (ws : List ℕ) → count p (w ∷ ws) ≡ count p ws + (if p w then 1 else 0)
   count-cons w ws = ⊎-elim (λ t. rw t) (λ f. rw f (omega arith)) (cases (p w))
 
+  pub count-most : (ws : List ℕ) → count p ws ≤ length ws
+  count-most [] = omega arith
+  count-most (w ∷ ws) = omega (arith, count-most ws, count-cons w ws, at-most-one (p w))
+
   -- a store changes the count by the word that goes and the word that comes
   pub count-set : (ws : List ℕ) (i w : ℕ) → i < length ws → count p (set ws i w) + (if p (getD ws i 0) then 1 else 0) ≡ count p ws + (if p w then 1 else 0)
   count-set [] i w h = absurd (omega arith)

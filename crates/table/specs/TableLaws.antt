@@ -12,7 +12,7 @@ use borrow.Author.Tests.{eq-eqb, ne-eqb, eqb-true, eqb-false, ltb-true, ltb-fals
 use Rattle.numbers.specs.Choice.{if_then_else_}
 use Rattle.table.specs.Scan.{first, cleared, wipe}
 use Rattle.table.specs.ScanLaws.{cases, equal, IsFirst, first-at, first-none, first-is, first-lacks, first-set, first-map, length-wipe, wipe-at, count-set, count-found, found-count, count-wipe, at-most-one}
-use Rattle.table.specs.Table.{isEmpty, lowestFree, freeEntries, orElse, setAt, wordAt, Has, hasKey, find, lookup, place, put, erase, Distinct}
+use Rattle.table.specs.Table.{isEmpty, lowestFree, freeEntries, orElse, isFound, setAt, wordAt, Has, hasKey, find, lookup, place, put, erase, Distinct}
 use Rattle.table.specs.declared.Found.{Found}
 use Rattle.table.specs.declared.Found.the-variants.{At, Nothing}
 
@@ -31,6 +31,11 @@ has-set-inv ws i w u r = ⊎-elim (λ t. inl (new t)) (λ f. inr (old f)) (equal
 
     old : (r .spot ≡ i → ⊥) → Has ws u
     old n = record { spot = r .spot; within = h; holds = sym (getD-set-other ws i (r .spot) w 0 n) ∙ r .holds; filled = r .filled }
+
+-- ---- what was found
+pub found-at : (f : Found) → isFound f ≡ true → (i : ℕ) × (f ≡ At i)
+found-at (At i) t = (i, refl)
+found-at Nothing t = absurd (true≢false (sym t))
 
 -- ---- empty places
 pub free-at : (ws : List ℕ) (i : ℕ) → lowestFree ws ≡ At i → IsFirst isEmpty ws i
@@ -125,6 +130,14 @@ module _ (keyOf : ℕ → ℕ) where
       go (At j) q e′ = inl (q ∙ e′)
       go Nothing q e′ = inr (q, e′)
 
+  pub place-none : (ws : List ℕ) (k : ℕ) → place keyOf ws k ≡ Nothing → find keyOf ws k ≡ Nothing
+  unfolding place
+  place-none ws k e = go (find keyOf ws k) refl e
+    where
+      go : (f : Found) → find keyOf ws k ≡ f → orElse f (lowestFree ws) ≡ Nothing → find keyOf ws k ≡ Nothing
+      go (At j) q e′ = q ∙ e′
+      go Nothing q e′ = q
+
   pub place-within : (ws : List ℕ) (k i : ℕ) → place keyOf ws k ≡ At i → i < length ws
   place-within ws k i e = ⊎-elim (λ q. find-at ws k i q .within) (λ q. free-at ws i (q .1) .within) (place-at ws k i e)
 
@@ -162,10 +175,10 @@ module _ (keyOf : ℕ → ℕ) where
       other : r .spot ≡ i → ⊥
       other q = let e = rw q at (r .holds) in ⊎-elim (λ t. n (rw e at t)) (λ t. r .filled (sym e ∙ t)) f
 
-  -- whatever word was replaced
-  pub distinct-set : (ws : List ℕ) (k i w : ℕ) → keyOf w ≡ k → Alone ws k i → Distinct keyOf ws → Distinct keyOf (set ws i w)
+  -- whatever word was replaced, where no other place has the new word's key
+  distinct-store : (ws : List ℕ) (i w : ℕ) → ((j : ℕ) → j < length ws → (j ≡ i → ⊥) → keyOf (getD ws j 0) ≡ keyOf w → keyOf w ≡ 0) → Distinct keyOf ws → Distinct keyOf (set ws i w)
   unfolding Distinct
-  distinct-set ws k i w e only d a b l h = ⊎-elim first-is-new (λ n. ⊎-elim (second-is-new n) (neither n) (equal b i)) (equal a i)
+  distinct-store ws i w only d a b l h = ⊎-elim first-is-new (λ n. ⊎-elim (second-is-new n) (neither n) (equal b i)) (equal a i)
     where
       goal : Type 0
       goal = keyOf (getD (set ws i w) a 0) ≡ keyOf (getD (set ws i w) b 0) → keyOf (getD (set ws i w) b 0) ≡ 0
@@ -176,14 +189,17 @@ module _ (keyOf : ℕ → ℕ) where
       first-is-new : a ≡ i → goal
       first-is-new q =
           let n : b ≡ i → ⊥ = λ s. omega (arith, h′) in
-          rw (q, getD-set-same ws i w 0 (omega (arith, h′)), getD-set-other ws i b w 0 n) (λ s. absurd (only b h′ n (sym s ∙ e)))
+          rw (q, getD-set-same ws i w 0 (omega (arith, h′)), getD-set-other ws i b w 0 n) (λ s. sym s ∙ only b h′ n (sym s))
 
       second-is-new : (a ≡ i → ⊥) → b ≡ i → goal
       second-is-new n q =
-          rw (q, getD-set-same ws i w 0 (omega (arith, h′)), getD-set-other ws i a w 0 n) (λ s. absurd (only a (omega (arith, h′)) n (s ∙ e)))
+          rw (q, getD-set-same ws i w 0 (omega (arith, h′)), getD-set-other ws i a w 0 n) (λ s. only a (omega (arith, h′)) n s)
 
       neither : (a ≡ i → ⊥) → (b ≡ i → ⊥) → goal
       neither n m = rw (getD-set-other ws i a w 0 n, getD-set-other ws i b w 0 m) (d a b l h′)
+
+  pub distinct-set : (ws : List ℕ) (k i w : ℕ) → keyOf w ≡ k → Alone ws k i → Distinct keyOf ws → Distinct keyOf (set ws i w)
+  distinct-set ws k i w e only = distinct-store ws i w (λ j h n q. absurd (only j h n (q ∙ e)))
 
   -- ---- put
   -- what holds of a store at the place, and of a table that stays as it is, holds of put
@@ -313,6 +329,10 @@ module _ (keyOf : ℕ → ℕ) where
     pub lookup-erase-other : (ws : List ℕ) (k other : ℕ) → 0 < other → (k ≡ other → ⊥) → lookup keyOf (erase keyOf ws k) other ≡ lookup keyOf ws other
     unfolding erase
     lookup-erase-other ws k other o n = lookup-wipe-other (hasKey keyOf k) ws other o (λ w q. ne-eqb (keyOf w) k (λ s. n (sym s ∙ q)))
+
+    -- a place that is emptied, however it was chosen
+    pub distinct-empty : (ws : List ℕ) (i : ℕ) → Distinct keyOf ws → Distinct keyOf (set ws i 0)
+    distinct-empty ws i = distinct-store ws i 0 (λ j h n q. empty)
 
     pub distinct-wipe : (p : ℕ → Bool) (ws : List ℕ) → Distinct keyOf ws → Distinct keyOf (wipe p ws)
     unfolding Distinct
