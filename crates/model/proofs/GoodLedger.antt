@@ -22,9 +22,9 @@ use Rattle.table.specs.ScanLaws.{cases, equal, length-wipe, has-wipe-inv, has-w
 use Rattle.table.specs.Table.{Has, hasKey, put, erase, roomFor}
 use Rattle.table.specs.TableLaws.{length-put, has-put-inv, has-put-keep, distinct-put, distinct-wipe}
 use Rattle.pages.specs.BitLaws.{hasBit-with-same, hasBit-with-other, hasBit-without-other, withBit-fits, withoutBit-fits}
-use Rattle.pages.specs.Rows.{holds, poolRow, cpuRow, dmaRow}
+use Rattle.pages.specs.Rows.{holds, poolRow, sharedRow, cpuRow, dmaRow}
 use Rattle.model.specs.State.{Tables, route, withKnown, withSets, withPairs}
-use Rattle.model.specs.Views.{isVm, knows, inPool, owns, holdsDma, claimedElsewhere, targeted, whichever, ofVm, edgeOn, hasPages, hasMappings, edgeOf, onPort, shares, paired, mayMap}
+use Rattle.model.specs.Views.{isVm, knows, inPool, owns, holdsDma, claims, claimedElsewhere, targeted, whichever, ofVm, edgeOn, hasPages, hasMappings, edgeOf, onPort, shares, paired, mayMap}
 use Rattle.model.specs.Effect.{quiet, clears, accepted}
 use Rattle.model.specs.Sequence.{vmId, physPage}
 use Rattle.model.specs.EarlyLaws.{past, then-passed, PagePassed, page-passed, PairPassed, pair-passed}
@@ -49,11 +49,11 @@ use Rattle.model.specs.Ledger.{
 }
 use Rattle.model.specs.ShapeLaws.{length-assign, length-reclaim}
 use Rattle.model.specs.Step.{addVmControl, removeVmControl, assignControl, reclaimControl, shareControl, unshareControl}
-use Rattle.model.specs.Valid.{pool, cpu, PairGood, PairsGood, ValidTables}
+use Rattle.model.specs.Valid.{PairGood, PairsGood, EntryGood, ValidTables}
 use Rattle.model.specs.Good.{Good, Made, holdsPage, Cleared}
 use Rattle.model.proofs.ViewLaws.{either, neither, of-vm, Lends, lends-shares, shares-lends, no-edge-on, no-edge-of, not-paired, not-targeted, no-mappings, on-no-port, no-pages, may-own, may-lent}
 use Rattle.model.proofs.PagesKept.{Moved, assign-moved, reclaim-moved, moved-keeps, moved-back, pages-assigned, pages-reclaimed, page-held, one-holder}
-use Rattle.model.proofs.LedgerKept.{each-side, Named, by-claim, by-entry, by-pair, by-port, known-valid, Used, by-map, by-edge, moved-valid, pairs-valid}
+use Rattle.model.proofs.LedgerKept.{each-side, Named, by-claim, by-entry, by-pair, by-port, known-valid, sets-valid, pairs-valid}
 use Rattle.model.proofs.Refused.{quiet-good, decided-good}
 
 -- ---- 1: add VM, after which the others are known as before
@@ -75,15 +75,15 @@ known-removed : (known vm other : ℕ) → (other ≡ vm → ⊥) → knows know
 unfolding knows
 known-removed known vm other d k = hasBit-without-other known vm other d ∙ k
 
-record RemovePassed (t : Tables) (vm : ℕ) : Type 0 where
+record RemoveVmPassed (t : Tables) (vm : ℕ) : Type 0 where
   no-claim : (side : Side) → hasPages side (t .sets) vm ≡ false
   no-entry : (side : Side) → hasMappings (route side t .map) vm ≡ false
   no-pair : edgeOf (t .pairs) vm ≡ false
   no-port : (side : Side) → onPort (route side t .ports) vm ≡ false
 
-remove-passed : (t : Tables) (vm : ℕ) {dropped word : ℕ} → removeVmAnswer (t .known) (t .sets) (t .pairs) (t .cpu .map) (t .dma .map) (t .cpu .ports) (t .dma .ports) vm ≡ Accepted dropped word → RemovePassed t vm
+remove-vm-passed : (t : Tables) (vm : ℕ) {dropped word : ℕ} → removeVmAnswer (t .known) (t .sets) (t .pairs) (t .cpu .map) (t .dma .map) (t .cpu .ports) (t .dma .ports) vm ≡ Accepted dropped word → RemoveVmPassed t vm
 unfolding removeVmAnswer
-remove-passed t vm e =
+remove-vm-passed t vm e =
     let (d, w, early, rest) = then-passed (vmEarly (t .known) vm) _ e in
     let g = neither _ (onPort (t .dma .ports) vm) (past _ _ _ _ rest .0) in
     let f = neither _ (onPort (t .cpu .ports) vm) (g .0) in
@@ -98,7 +98,7 @@ remove-passed t vm e =
       no-port = each-side (λ side. onPort (route side t .ports) vm ≡ false) (f .1) (g .1);
     }
 
-named-nowhere : (t : Tables) (vm : ℕ) → ValidTables t → RemovePassed t vm → Named t vm → ⊥
+named-nowhere : (t : Tables) (vm : ℕ) → ValidTables t → RemoveVmPassed t vm → Named t vm → ⊥
 named-nowhere t vm v u (by-claim side page l e) = true≢false (sym e ∙ no-pages side (t .sets) vm page (u .no-claim side) (omega (arith, v .setup .most-pages)))
 named-nowhere t vm v u (by-entry side w h f e) = no-mappings (route side t .map) vm w (u .no-entry side) h f e
 named-nowhere t vm v u (by-pair w h f e) = no-edge-of (t .pairs) vm w (u .no-pair) h f e
@@ -112,7 +112,7 @@ unfolding removeVmControl
 remove-vm-good t v vm =
     decided-good t v (RemoveVm vm) _ (withKnown t (removeVmKnown (t .known) (vm .0))) quiet
     (λ dropped word e.
-    let u = remove-passed t (vm .0) e in
+    let u = remove-vm-passed t (vm .0) e in
     quiet-good t (RemoveVm vm) _ _
     (known-valid t v (removeVmKnown (t .known) (vm .0)) (withoutBit-fits (t .known) (vm .0) VMS (v .known))
     (λ other n. known-removed (t .known) (vm .0) other (λ q. named-nowhere t (vm .0) v u (rw q at n))))
@@ -133,17 +133,23 @@ assign-passed t vm page e =
     record { early = page-passed (t .known) (t .setup .pages) vm page early; free = not-false _ (a .0); alone = b .0 }
 
 module _ (t : Tables) (v : ValidTables t) (vm page : ℕ) (p : AssignPassed t vm page) (m : Moved (t .sets) (assignSets (t .sets) vm page) poolRow (cpuRow vm) page) where
+  assign-row : (row page′ : ℕ) → page′ < t .setup .pages → (row ≡ poolRow → ⊥) → holds (t .sets) row page′ ≡ true → holds (assignSets (t .sets) vm page) row page′ ≡ true
+  assign-row row page′ l n = moved-keeps (t .sets) (assignSets (t .sets) vm page) poolRow (cpuRow vm) page m row page′ (omega (arith, v .setup .most-pages)) (λ r q. n r)
+
+  assign-claims : (side : Side) (other page′ : ℕ) → page′ < t .setup .pages → claims side (t .sets) other page′ ≡ true → claims side (assignSets (t .sets) vm page) other page′ ≡ true
+  assign-claims Cpu other page′ l = assign-row (cpuRow other) page′ l (λ r. omega arith)
+  assign-claims Dma other page′ l = assign-row (dmaRow other) page′ l (λ r. omega arith)
+
   assign-valid : ValidTables (withSets t (assignSets (t .sets) vm page))
   assign-valid =
-      moved-valid t v (assignSets (t .sets) vm page) poolRow (cpuRow vm) page m pool (λ e. omega arith) (λ other r u. omega arith)
-      (length-assign (t .sets) vm page ∙ v .lengths .sets)
-      (pages-assigned _ _ _ _ (t .sets) vm page (v .lengths .sets) (v .setup .most-pages) (p .early .vm-ok) (p .early .page-ok) (p .early .knows-vm) (p .free) (p .alone) (v .pages))
-
-  assign-holds : (other page′ : ℕ) → page′ < t .setup .pages → holdsPage (t .sets) other page′ ≡ true → holdsPage (assignSets (t .sets) vm page) other page′ ≡ true
-  assign-holds other page′ l = page-held (t .sets) _ other page′ (keeps (cpuRow other) (λ r. omega arith)) (keeps (dmaRow other) (λ r. omega arith))
-    where
-      keeps : (row : ℕ) → (row ≡ poolRow → ⊥) → holds (t .sets) row page′ ≡ true → holds (assignSets (t .sets) vm page) row page′ ≡ true
-      keeps row n = moved-keeps (t .sets) _ poolRow (cpuRow vm) page m row page′ (omega (arith, v .setup .most-pages)) (λ r q. n r)
+      sets-valid t v (assignSets (t .sets) vm page)
+      (record {
+        long = length-assign (t .sets) vm page ∙ v .lengths .sets;
+        good = pages-assigned _ _ _ _ (t .sets) vm page (v .lengths .sets) (v .setup .most-pages) (p .early .vm-ok) (p .early .page-ok) (p .early .knows-vm) (p .free) (p .alone) (v .pages);
+        shared = λ page′ h. m .other-rows sharedRow page′ h (λ r. omega arith) (λ r. omega arith);
+        entry = λ side w h g. assign-claims side (vmOf w) (pageOf w) (g .page);
+        pair = λ w other h g. assign-claims Cpu other (pageOf w) (g .page);
+      })
 
 pub assign-good : (t : Tables) → ValidTables t → (vm : VmId) (page : PhysPage) → Good t (AssignPage vm page) (assignControl t (vm .0) (page .0))
 unfolding assignControl
@@ -152,7 +158,8 @@ assign-good t v vm page =
     (λ dropped word e.
     let p = assign-passed t (vm .0) (page .0) e in
     let m = assign-moved (t .sets) (vm .0) (page .0) (v .lengths .sets) (p .early .vm-ok) (omega (arith, v .setup .most-pages, p .early .page-ok)) in
-    quiet-good t (AssignPage vm page) _ _ (assign-valid t v (vm .0) (page .0) p m) (λ other page′ o. assign-holds t v (vm .0) (page .0) p m other page′) (λ w h. inl h))
+    quiet-good t (AssignPage vm page) _ _ (assign-valid t v (vm .0) (page .0) p m) (λ other page′ o l. page-held (t .sets) _ other page′ (assign-claims t v (vm .0) (page .0) p m Cpu other page′ l) (assign-claims t v (vm .0) (page .0) p m Dma other page′ l))
+    (λ w h. inl h))
 
 -- ---- 4: reclaim page, of one that neither the CPU map nor a pair uses
 record ReclaimPassed (t : Tables) (vm page : ℕ) : Type 0 where
@@ -170,33 +177,40 @@ reclaim-passed t vm page e =
     let c = neither (targeted whichever (t .cpu .map) page) (edgeOn (t .pairs) page) (b .0) in
     record { early = page-passed (t .known) (t .setup .pages) vm page early; owned = not-false _ (a .0); no-entry = c .0; no-pair = c .1 }
 
-used-nowhere : (t : Tables) (vm page : ℕ) → ReclaimPassed t vm page → Used t page → ⊥
-used-nowhere t vm page p (by-map w h f q) = not-targeted whichever (t .cpu .map) page w (p .no-entry) h refl f q
-used-nowhere t vm page p (by-edge w h f q) = no-edge-on (t .pairs) page w (p .no-pair) h f q
-
-reclaim-valid : (t : Tables) → ValidTables t → (vm page : ℕ) → ReclaimPassed t vm page → Moved (t .sets) (reclaimSets (t .sets) vm page) (cpuRow vm) poolRow page → ValidTables (withSets t (reclaimSets (t .sets) vm page))
-reclaim-valid t v vm page p m =
-    moved-valid t v (reclaimSets (t .sets) vm page) (cpuRow vm) poolRow page m (cpu vm (p .early .vm-ok)) (λ e. omega arith) (λ other r. used-nowhere t vm page p)
-    (length-reclaim (t .sets) vm page ∙ v .lengths .sets)
-    (pages-reclaimed _ _ _ _ (t .sets) vm page (v .lengths .sets) (v .setup .most-pages) (p .early .vm-ok) (p .early .page-ok) (p .owned) (v .pages))
-
--- who holds what before and after
-module _ (t : Tables) (v : ValidTables t) (vm page : ℕ) (p : ReclaimPassed t vm page) (sets : List ℕ) (m : Moved (t .sets) sets (cpuRow vm) poolRow page) where
-  same-dma : (other page′ : ℕ) → page′ < t .setup .pages → holdsDma sets other page′ ≡ holdsDma (t .sets) other page′
+module _ (t : Tables) (v : ValidTables t) (vm page : ℕ) (p : ReclaimPassed t vm page) (m : Moved (t .sets) (reclaimSets (t .sets) vm page) (cpuRow vm) poolRow page) where
+  -- who holds what before and after
+  same-dma : (other page′ : ℕ) → page′ < t .setup .pages → holdsDma (reclaimSets (t .sets) vm page) other page′ ≡ holdsDma (t .sets) other page′
   same-dma other page′ l = m .other-rows (dmaRow other) page′ (omega (arith, v .setup .most-pages)) (λ r. omega arith) (λ r. omega arith)
 
-  -- an owner that is none any longer is the VM, of the page
-  disowned : (other page′ : ℕ) → page′ < t .setup .pages → owns (t .sets) other page′ ≡ true → owns sets other page′ ≡ false → (other ≡ vm) × (page′ ≡ page)
-  disowned other page′ l e n =
-      ⊎-elim (λ q. ⊎-elim (λ r. (r, q)) (λ d. absurd (kept (λ r s. d (omega arith)))) (equal other vm)) (λ d. absurd (kept (λ r s. d s))) (equal page′ page)
-    where
-      kept : (cpuRow other ≡ cpuRow vm → page′ ≡ page → ⊥) → ⊥
-      kept d = true≢false (sym (moved-keeps (t .sets) sets (cpuRow vm) poolRow page m (cpuRow other) page′ (omega (arith, v .setup .most-pages)) d e) ∙ n)
+  owner-stays : (other page′ : ℕ) → page′ < t .setup .pages → (other ≡ vm → page′ ≡ page → ⊥) → owns (t .sets) other page′ ≡ true → owns (reclaimSets (t .sets) vm page) other page′ ≡ true
+  owner-stays other page′ l n = moved-keeps (t .sets) (reclaimSets (t .sets) vm page) (cpuRow vm) poolRow page m (cpuRow other) page′ (omega (arith, v .setup .most-pages)) (λ r q. n (omega arith) q)
 
-  reclaim-wiped : (other page′ : ℕ) → page′ < t .setup .pages → holdsPage (t .sets) other page′ ≡ true → holdsPage sets other page′ ≡ false → Cleared (clears (reclaimClears (t .sets) vm page)) page′
+  reclaim-valid : ValidTables (withSets t (reclaimSets (t .sets) vm page))
+  reclaim-valid =
+      sets-valid t v (reclaimSets (t .sets) vm page)
+      (record {
+        long = length-reclaim (t .sets) vm page ∙ v .lengths .sets;
+        good = pages-reclaimed _ _ _ _ (t .sets) vm page (v .lengths .sets) (v .setup .most-pages) (p .early .vm-ok) (p .early .page-ok) (p .owned) (v .pages);
+        shared = λ page′ h. m .other-rows sharedRow page′ h (λ r. omega arith) (λ r. omega arith);
+        entry = entry;
+        pair = λ w other h g. owner-stays other (pageOf w) (g .page) (λ r q. no-edge-on (t .pairs) page w (p .no-pair) h (g .filled) q);
+      })
+    where
+      entry : (side : Side) (w : ℕ) → Has (route side t .map) w → EntryGood side (t .setup .pages) (t .known) (t .sets) (t .pairs) w → claims side (t .sets) (vmOf w) (pageOf w) ≡ true → claims side (reclaimSets (t .sets) vm page) (vmOf w) (pageOf w) ≡ true
+      entry Cpu w h g c = owner-stays (vmOf w) (pageOf w) (g .page) (λ r q. not-targeted whichever (t .cpu .map) page w (p .no-entry) h refl (g .filled) q) c
+      entry Dma w h g c = same-dma (vmOf w) (pageOf w) (g .page) ∙ c
+
+  -- an owner that is none any longer is the VM, of the page
+  disowned : (other page′ : ℕ) → page′ < t .setup .pages → owns (t .sets) other page′ ≡ true → owns (reclaimSets (t .sets) vm page) other page′ ≡ false → (other ≡ vm) × (page′ ≡ page)
+  disowned other page′ l e n = ⊎-elim (λ q. ⊎-elim (λ r. (r, q)) (λ d. absurd (kept (λ r s. d r))) (equal other vm)) (λ d. absurd (kept (λ r s. d s))) (equal page′ page)
+    where
+      kept : (other ≡ vm → page′ ≡ page → ⊥) → ⊥
+      kept d = true≢false (sym (owner-stays other page′ l d e) ∙ n)
+
+  reclaim-wiped : (other page′ : ℕ) → page′ < t .setup .pages → holdsPage (t .sets) other page′ ≡ true → holdsPage (reclaimSets (t .sets) vm page) other page′ ≡ false → Cleared (clears (reclaimClears (t .sets) vm page)) page′
   unfolding reclaimClears
   reclaim-wiped other page′ l e n =
-      let none = neither (owns sets other page′) (holdsDma sets other page′) n in
+      let none = neither (owns (reclaimSets (t .sets) vm page) other page′) (holdsDma (reclaimSets (t .sets) vm page) other page′) n in
       let no-dma : holdsDma (t .sets) other page′ ≡ false = sym (same-dma other page′ l) ∙ none .1 in
       let owned = ⊎-elim (λ a. a) (λ d. absurd (true≢false (sym d ∙ no-dma))) (either (owns (t .sets) other page′) (holdsDma (t .sets) other page′) e) in
       let (q, r) = disowned other page′ l owned (none .0) in
@@ -204,23 +218,23 @@ module _ (t : Tables) (v : ValidTables t) (vm page : ℕ) (p : ReclaimPassed t v
       rw f (inl (sym r))
 
   -- nobody holds the page who did not before, and then only the VM did
-  only-holder : (other : ℕ) → other < VMS → holdsPage sets other page ≡ true → other ≡ vm
+  only-holder : (other : ℕ) → other < VMS → holdsPage (reclaimSets (t .sets) vm page) other page ≡ true → other ≡ vm
   only-holder other o e =
       one-holder _ _ _ _ (t .sets) (v .pages) other vm page o (p .early .vm-ok) (p .early .page-ok)
-      (page-held sets (t .sets) other page owned (λ d. sym (same-dma other page (p .early .page-ok)) ∙ d) e) (rw (p .owned))
+      (page-held _ (t .sets) other page owned (λ d. sym (same-dma other page (p .early .page-ok)) ∙ d) e) (rw (p .owned))
     where
-      owned : owns sets other page ≡ true → owns (t .sets) other page ≡ true
+      owned : owns (reclaimSets (t .sets) vm page) other page ≡ true → owns (t .sets) other page ≡ true
       owned a =
           ⊎-elim (λ b. b) (λ r. absurd (omega (arith, r .0)))
-          (moved-back (t .sets) sets (cpuRow vm) poolRow page m (cpuRow other) page (omega (arith, v .setup .most-pages, p .early .page-ok)) a)
+          (moved-back (t .sets) (reclaimSets (t .sets) vm page) (cpuRow vm) poolRow page m (cpuRow other) page (omega (arith, v .setup .most-pages, p .early .page-ok)) a)
 
-  reclaim-free : (other page′ : ℕ) → other < VMS → Cleared (clears (reclaimClears (t .sets) vm page)) page′ → holdsPage sets other page′ ≡ true → ⊥
+  reclaim-free : (other page′ : ℕ) → other < VMS → Cleared (clears (reclaimClears (t .sets) vm page)) page′ → holdsPage (reclaimSets (t .sets) vm page) other page′ ≡ true → ⊥
   unfolding reclaimClears
   reclaim-free other page′ o c e = ⊎-elim (λ y. absurd (rw y at c)) (λ f. ⊎-elim (λ q. ended f (rw (← q) at e)) (λ z. z) (rw f at c)) (cases (holdsDma (t .sets) vm page))
     where
-      ended : holdsDma (t .sets) vm page ≡ false → holdsPage sets other page ≡ true → ⊥
+      ended : holdsDma (t .sets) vm page ≡ false → holdsPage (reclaimSets (t .sets) vm page) other page ≡ true → ⊥
       ended f h =
-          let none : holdsPage sets vm page ≡ false = rw (m .left, same-dma vm page (p .early .page-ok), f) in
+          let none : holdsPage (reclaimSets (t .sets) vm page) vm page ≡ false = rw (m .left, same-dma vm page (p .early .page-ok), f) in
           true≢false (sym (rw (only-holder other o h) at h) ∙ none)
 
 pub reclaim-good : (t : Tables) → ValidTables t → (vm : VmId) (page : PhysPage) → Good t (ReclaimPage vm page) (reclaimControl t (vm .0) (page .0))
@@ -234,8 +248,8 @@ reclaim-good t v vm page =
       valid = reclaim-valid t v (vm .0) (page .0) p m;
       reach = λ other page′ h. absurd h;
       still = λ h. absurd h;
-      wiped = λ other page′ o. reclaim-wiped t v (vm .0) (page .0) p _ m other page′;
-      free = λ other page′ o l. reclaim-free t v (vm .0) (page .0) p _ m other page′ o;
+      wiped = λ other page′ o. reclaim-wiped t v (vm .0) (page .0) p m other page′;
+      free = λ other page′ o l. reclaim-free t v (vm .0) (page .0) p m other page′ o;
       edges = λ w h. inl h;
     })
 

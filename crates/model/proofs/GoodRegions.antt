@@ -24,10 +24,10 @@ use Rattle.model.specs.Good.{Good, holdsPage, PageIn}
 use Rattle.model.proofs.ViewLaws.{either, neither, no-edge-on}
 use Rattle.model.proofs.Refused.{quiet-good, decided-good}
 use Rattle.model.proofs.PagesKept.{page-held, one-holder}
+use Rattle.model.proofs.LedgerKept.{sets-valid, both-valid}
 use Rattle.model.proofs.RegionLaws.{InsertPassed, insert-passed, RemovePassed, remove-passed}
 use Rattle.model.proofs.RegionSets.{Changed, Turned, changed-or, other-differs, this-or-other, insert-sets, remove-sets}
 use Rattle.model.proofs.RegionTables.{insert-route, none-stays, remove-route}
-use Rattle.model.proofs.RegionKept.{sets-valid, both-valid}
 
 -- ---- a route and the sets, replaced in either order
 route-sets : (side : Side) (t : Tables) (sets : List ℕ) → route side (withSets t sets) ≡ route side t

@@ -14,7 +14,6 @@ pub mod OneRoute
 pub mod RegionLaws
 pub mod RegionSets
 pub mod RegionTables
-pub mod RegionKept
 pub mod GoodLedger
 pub mod GoodMaps
 pub mod GoodRegions
