@@ -7,6 +7,7 @@ pub mod ViewLaws
 pub mod Refused
 pub mod Carried
 pub mod PagesKept
+pub mod LedgerKept
 pub mod StartKept
 pub mod RoutesKept
 pub mod OneRoute

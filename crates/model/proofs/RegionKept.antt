@@ -16,7 +16,7 @@ use Rattle.model.specs.Views.{inShared, owns, claims, lentTo}
 use Rattle.model.specs.Valid.{PagesGood, EntryGood, PairGood, PortsGood, ValidTables}
 use Rattle.model.proofs.ViewLaws.{may-own, may-lent, may-either}
 use Rattle.model.proofs.Carried.{Ground, pairs-carried}
-use Rattle.model.proofs.GoodLedger.{each-side, ledger-valid}
+use Rattle.model.proofs.LedgerKept.{each-side, ledger-valid}
 
 -- what is lent stays lent where the shared span stays
 lent-same : (side : Side) (sets sets′ pairs : List ℕ) (vm page : ℕ) → inShared sets′ page ≡ inShared sets page → lentTo side sets′ pairs vm page ≡ lentTo side sets pairs vm page
