@@ -12,6 +12,7 @@ pub mod StartKept
 pub mod RoutesKept
 pub mod OneRoute
 pub mod RegionLaws
+pub mod EditedSets
 pub mod RegionSets
 pub mod RegionTables
 pub mod GoodLedger
