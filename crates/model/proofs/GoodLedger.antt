@@ -22,7 +22,6 @@ use Rattle.table.specs.ScanLaws.{cases, equal, length-wipe, has-wipe-inv, has-w
 use Rattle.table.specs.Table.{Has, hasKey, put, erase, roomFor}
 use Rattle.table.specs.TableLaws.{length-put, has-put-inv, has-put-keep, distinct-put, distinct-wipe}
 use Rattle.pages.specs.BitLaws.{hasBit-with-same, hasBit-with-other, hasBit-without-other, withBit-fits, withoutBit-fits}
-use Rattle.pages.specs.Rows.{holds, poolRow, sharedRow, cpuRow, dmaRow}
 use Rattle.model.specs.State.{Tables, route, withKnown, withSets, withPairs}
 use Rattle.model.specs.Views.{isVm, knows, inPool, owns, holdsDma, claims, claimedElsewhere, targeted, whichever, ofVm, edgeOn, hasPages, hasMappings, edgeOf, onPort, shares, paired, mayMap}
 use Rattle.model.specs.Effect.{quiet, clears, accepted}
@@ -47,12 +46,12 @@ use Rattle.model.specs.Ledger.{
   unshareAnswer,
   unsharePairs,
 }
-use Rattle.model.specs.ShapeLaws.{length-assign, length-reclaim}
 use Rattle.model.specs.Step.{addVmControl, removeVmControl, assignControl, reclaimControl, shareControl, unshareControl}
-use Rattle.model.specs.Valid.{PairGood, PairsGood, EntryGood, ValidTables}
+use Rattle.model.specs.Valid.{PairGood, PairsGood, ValidTables}
 use Rattle.model.specs.Good.{Good, Made, holdsPage, Cleared}
-use Rattle.model.proofs.ViewLaws.{either, neither, of-vm, Lends, lends-shares, shares-lends, no-edge-on, no-edge-of, not-paired, not-targeted, no-mappings, on-no-port, no-pages, may-own, may-lent}
-use Rattle.model.proofs.PagesKept.{Moved, assign-moved, reclaim-moved, moved-keeps, moved-back, pages-assigned, pages-reclaimed, page-held, one-holder}
+use Rattle.model.proofs.ViewLaws.{neither, of-vm, Lends, lends-shares, shares-lends, no-edge-on, no-edge-of, not-paired, not-targeted, no-mappings, on-no-port, no-pages, may-own, may-lent}
+use Rattle.model.proofs.PagesKept.{pages-assigned, pages-reclaimed}
+use Rattle.model.proofs.EditedSets.{Edited, insert-edited, remove-edited, given-stays, given-holds, taken-ended, ended-free}
 use Rattle.model.proofs.LedgerKept.{each-side, Named, by-claim, by-entry, by-pair, by-port, known-valid, sets-valid, pairs-valid}
 use Rattle.model.proofs.Refused.{quiet-good, decided-good}
 
@@ -132,23 +131,22 @@ assign-passed t vm page e =
     let b = past (claimedElsewhere Dma (t .sets) vm page) _ _ _ (a .1) in
     record { early = page-passed (t .known) (t .setup .pages) vm page early; free = not-false _ (a .0); alone = b .0 }
 
-module _ (t : Tables) (v : ValidTables t) (vm page : ℕ) (p : AssignPassed t vm page) (m : Moved (t .sets) (assignSets (t .sets) vm page) poolRow (cpuRow vm) page) where
-  assign-row : (row page′ : ℕ) → page′ < t .setup .pages → (row ≡ poolRow → ⊥) → holds (t .sets) row page′ ≡ true → holds (assignSets (t .sets) vm page) row page′ ≡ true
-  assign-row row page′ l n = moved-keeps (t .sets) (assignSets (t .sets) vm page) poolRow (cpuRow vm) page m row page′ (omega (arith, v .setup .most-pages)) (λ r q. n r)
+module _ (t : Tables) (v : ValidTables t) (vm page : ℕ) (p : AssignPassed t vm page) where
+  given : Edited Cpu vm true page 1 (t .sets) (assignSets (t .sets) vm page)
+  given = insert-edited vm page (t .sets) (p .early .vm-ok) (omega (arith, v .setup .most-pages, p .early .page-ok)) (v .lengths .sets) Cpu
 
-  assign-claims : (side : Side) (other page′ : ℕ) → page′ < t .setup .pages → claims side (t .sets) other page′ ≡ true → claims side (assignSets (t .sets) vm page) other page′ ≡ true
-  assign-claims Cpu other page′ l = assign-row (cpuRow other) page′ l (λ r. omega arith)
-  assign-claims Dma other page′ l = assign-row (dmaRow other) page′ l (λ r. omega arith)
+  assign-stays : (side : Side) (other page′ : ℕ) → page′ < t .setup .pages → claims side (t .sets) other page′ ≡ true → claims side (assignSets (t .sets) vm page) other page′ ≡ true
+  assign-stays side other page′ l = given-stays Cpu vm page 1 (t .sets) (assignSets (t .sets) vm page) given page′ (omega (arith, v .setup .most-pages)) side other
 
   assign-valid : ValidTables (withSets t (assignSets (t .sets) vm page))
   assign-valid =
       sets-valid t v (assignSets (t .sets) vm page)
       (record {
-        long = length-assign (t .sets) vm page ∙ v .lengths .sets;
+        long = given .lengths ∙ v .lengths .sets;
         good = pages-assigned _ _ _ _ (t .sets) vm page (v .lengths .sets) (v .setup .most-pages) (p .early .vm-ok) (p .early .page-ok) (p .early .knows-vm) (p .free) (p .alone) (v .pages);
-        shared = λ page′ h. m .other-rows sharedRow page′ h (λ r. omega arith) (λ r. omega arith);
-        entry = λ side w h g. assign-claims side (vmOf w) (pageOf w) (g .page);
-        pair = λ w other h g. assign-claims Cpu other (pageOf w) (g .page);
+        shared = given .shared;
+        entry = λ side w h g. assign-stays side (vmOf w) (pageOf w) (g .page);
+        pair = λ w other h g. assign-stays Cpu other (pageOf w) (g .page);
       })
 
 pub assign-good : (t : Tables) → ValidTables t → (vm : VmId) (page : PhysPage) → Good t (AssignPage vm page) (assignControl t (vm .0) (page .0))
@@ -157,8 +155,8 @@ assign-good t v vm page =
     decided-good t v (AssignPage vm page) _ (withSets t (assignSets (t .sets) (vm .0) (page .0))) quiet
     (λ dropped word e.
     let p = assign-passed t (vm .0) (page .0) e in
-    let m = assign-moved (t .sets) (vm .0) (page .0) (v .lengths .sets) (p .early .vm-ok) (omega (arith, v .setup .most-pages, p .early .page-ok)) in
-    quiet-good t (AssignPage vm page) _ _ (assign-valid t v (vm .0) (page .0) p m) (λ other page′ o l. page-held (t .sets) _ other page′ (assign-claims t v (vm .0) (page .0) p m Cpu other page′ l) (assign-claims t v (vm .0) (page .0) p m Dma other page′ l))
+    quiet-good t (AssignPage vm page) _ _ (assign-valid t v (vm .0) (page .0) p)
+    (λ other page′ o l. given-holds Cpu (vm .0) (page .0) 1 (t .sets) _ (given t v (vm .0) (page .0) p) page′ (omega (arith, v .setup .most-pages)) other)
     (λ w h. inl h))
 
 -- ---- 4: reclaim page, of one that neither the CPU map nor a pair uses
@@ -177,65 +175,40 @@ reclaim-passed t vm page e =
     let c = neither (targeted whichever (t .cpu .map) page) (edgeOn (t .pairs) page) (b .0) in
     record { early = page-passed (t .known) (t .setup .pages) vm page early; owned = not-false _ (a .0); no-entry = c .0; no-pair = c .1 }
 
-module _ (t : Tables) (v : ValidTables t) (vm page : ℕ) (p : ReclaimPassed t vm page) (m : Moved (t .sets) (reclaimSets (t .sets) vm page) (cpuRow vm) poolRow page) where
-  -- who holds what before and after
-  same-dma : (other page′ : ℕ) → page′ < t .setup .pages → holdsDma (reclaimSets (t .sets) vm page) other page′ ≡ holdsDma (t .sets) other page′
-  same-dma other page′ l = m .other-rows (dmaRow other) page′ (omega (arith, v .setup .most-pages)) (λ r. omega arith) (λ r. omega arith)
+module _ (t : Tables) (v : ValidTables t) (vm page : ℕ) (p : ReclaimPassed t vm page) where
+  taken : Edited Cpu vm false page 1 (t .sets) (reclaimSets (t .sets) vm page)
+  taken = remove-edited vm page (t .sets) (p .early .vm-ok) (omega (arith, v .setup .most-pages, p .early .page-ok)) (v .lengths .sets) Cpu
 
-  owner-stays : (other page′ : ℕ) → page′ < t .setup .pages → (other ≡ vm → page′ ≡ page → ⊥) → owns (t .sets) other page′ ≡ true → owns (reclaimSets (t .sets) vm page) other page′ ≡ true
-  owner-stays other page′ l n = moved-keeps (t .sets) (reclaimSets (t .sets) vm page) (cpuRow vm) poolRow page m (cpuRow other) page′ (omega (arith, v .setup .most-pages)) (λ r q. n (omega arith) q)
+  reclaim-stays : (side : Side) (other page′ : ℕ) → page′ < t .setup .pages → (Cpu ≡ side → page′ ≡ page → ⊥) → claims side (t .sets) other page′ ≡ true → claims side (reclaimSets (t .sets) vm page) other page′ ≡ true
+  reclaim-stays side other page′ l n e = taken .outside side other page′ (omega (arith, v .setup .most-pages)) (λ s o low. let d = n (sym s) in omega arith) ∙ e
 
   reclaim-valid : ValidTables (withSets t (reclaimSets (t .sets) vm page))
   reclaim-valid =
       sets-valid t v (reclaimSets (t .sets) vm page)
       (record {
-        long = length-reclaim (t .sets) vm page ∙ v .lengths .sets;
+        long = taken .lengths ∙ v .lengths .sets;
         good = pages-reclaimed _ _ _ _ (t .sets) vm page (v .lengths .sets) (v .setup .most-pages) (p .early .vm-ok) (p .early .page-ok) (p .owned) (v .pages);
-        shared = λ page′ h. m .other-rows sharedRow page′ h (λ r. omega arith) (λ r. omega arith);
-        entry = entry;
-        pair = λ w other h g. owner-stays other (pageOf w) (g .page) (λ r q. no-edge-on (t .pairs) page w (p .no-pair) h (g .filled) q);
+        shared = taken .shared;
+        entry = λ side w h g. reclaim-stays side (vmOf w) (pageOf w) (g .page) (λ s q. not-targeted whichever (t .cpu .map) page w (p .no-entry) (rw (← s) at h) refl (g .filled) q);
+        pair = λ w other h g. reclaim-stays Cpu other (pageOf w) (g .page) (λ s q. no-edge-on (t .pairs) page w (p .no-pair) h (g .filled) q);
       })
-    where
-      entry : (side : Side) (w : ℕ) → Has (route side t .map) w → EntryGood side (t .setup .pages) (t .known) (t .sets) (t .pairs) w → claims side (t .sets) (vmOf w) (pageOf w) ≡ true → claims side (reclaimSets (t .sets) vm page) (vmOf w) (pageOf w) ≡ true
-      entry Cpu w h g c = owner-stays (vmOf w) (pageOf w) (g .page) (λ r q. not-targeted whichever (t .cpu .map) page w (p .no-entry) h refl (g .filled) q) c
-      entry Dma w h g c = same-dma (vmOf w) (pageOf w) (g .page) ∙ c
-
-  -- an owner that is none any longer is the VM, of the page
-  disowned : (other page′ : ℕ) → page′ < t .setup .pages → owns (t .sets) other page′ ≡ true → owns (reclaimSets (t .sets) vm page) other page′ ≡ false → (other ≡ vm) × (page′ ≡ page)
-  disowned other page′ l e n = ⊎-elim (λ q. ⊎-elim (λ r. (r, q)) (λ d. absurd (kept (λ r s. d r))) (equal other vm)) (λ d. absurd (kept (λ r s. d s))) (equal page′ page)
-    where
-      kept : (other ≡ vm → page′ ≡ page → ⊥) → ⊥
-      kept d = true≢false (sym (owner-stays other page′ l d e) ∙ n)
 
   reclaim-wiped : (other page′ : ℕ) → page′ < t .setup .pages → holdsPage (t .sets) other page′ ≡ true → holdsPage (reclaimSets (t .sets) vm page) other page′ ≡ false → Cleared (clears (reclaimClears (t .sets) vm page)) page′
   unfolding reclaimClears
   reclaim-wiped other page′ l e n =
-      let none = neither (owns (reclaimSets (t .sets) vm page) other page′) (holdsDma (reclaimSets (t .sets) vm page) other page′) n in
-      let no-dma : holdsDma (t .sets) other page′ ≡ false = sym (same-dma other page′ l) ∙ none .1 in
-      let owned = ⊎-elim (λ a. a) (λ d. absurd (true≢false (sym d ∙ no-dma))) (either (owns (t .sets) other page′) (holdsDma (t .sets) other page′) e) in
-      let (q, r) = disowned other page′ l owned (none .0) in
-      let f : holdsDma (t .sets) vm page ≡ false = rw (q, r) at no-dma in
-      rw f (inl (sym r))
+      let d = taken-ended Cpu vm page 1 (t .sets) (reclaimSets (t .sets) vm page) taken page′ (omega (arith, v .setup .most-pages)) other e n in
+      let q : page ≡ page′ = omega (arith, d .low, d .high) in
+      let f : holdsDma (t .sets) vm page ≡ false = rw q (d .unclaimed) in
+      rw f (inl q)
 
-  -- nobody holds the page who did not before, and then only the VM did
-  only-holder : (other : ℕ) → other < VMS → holdsPage (reclaimSets (t .sets) vm page) other page ≡ true → other ≡ vm
-  only-holder other o e =
-      one-holder _ _ _ _ (t .sets) (v .pages) other vm page o (p .early .vm-ok) (p .early .page-ok)
-      (page-held _ (t .sets) other page owned (λ d. sym (same-dma other page (p .early .page-ok)) ∙ d) e) (rw (p .owned))
-    where
-      owned : owns (reclaimSets (t .sets) vm page) other page ≡ true → owns (t .sets) other page ≡ true
-      owned a =
-          ⊎-elim (λ b. b) (λ r. absurd (omega (arith, r .0)))
-          (moved-back (t .sets) (reclaimSets (t .sets) vm page) (cpuRow vm) poolRow page m (cpuRow other) page (omega (arith, v .setup .most-pages, p .early .page-ok)) a)
-
-  reclaim-free : (other page′ : ℕ) → other < VMS → Cleared (clears (reclaimClears (t .sets) vm page)) page′ → holdsPage (reclaimSets (t .sets) vm page) other page′ ≡ true → ⊥
+  reclaim-free : (other page′ : ℕ) → other < VMS → page′ < t .setup .pages → Cleared (clears (reclaimClears (t .sets) vm page)) page′ → holdsPage (reclaimSets (t .sets) vm page) other page′ ≡ true → ⊥
   unfolding reclaimClears
-  reclaim-free other page′ o c e = ⊎-elim (λ y. absurd (rw y at c)) (λ f. ⊎-elim (λ q. ended f (rw (← q) at e)) (λ z. z) (rw f at c)) (cases (holdsDma (t .sets) vm page))
+  reclaim-free other page′ o l c e = ⊎-elim (λ y. absurd (rw y at c)) (λ f. ⊎-elim (ended f) (λ z. z) (rw f at c)) (cases (holdsDma (t .sets) vm page))
     where
-      ended : holdsDma (t .sets) vm page ≡ false → holdsPage (reclaimSets (t .sets) vm page) other page ≡ true → ⊥
-      ended f h =
-          let none : holdsPage (reclaimSets (t .sets) vm page) vm page ≡ false = rw (m .left, same-dma vm page (p .early .page-ok), f) in
-          true≢false (sym (rw (only-holder other o h) at h) ∙ none)
+      ended : holdsDma (t .sets) vm page ≡ false → page ≡ page′ → ⊥
+      ended f q =
+          ended-free Cpu vm page 1 (t .sets) (reclaimSets (t .sets) vm page) taken page′ (omega (arith, v .setup .most-pages)) _ _ _ _ (v .pages) l (p .early .vm-ok) (rw q at (p .owned))
+          (record { low = omega arith; high = omega arith; unclaimed = rw q at f }) other o e
 
 pub reclaim-good : (t : Tables) → ValidTables t → (vm : VmId) (page : PhysPage) → Good t (ReclaimPage vm page) (reclaimControl t (vm .0) (page .0))
 unfolding reclaimControl
@@ -243,13 +216,12 @@ reclaim-good t v vm page =
     decided-good t v (ReclaimPage vm page) _ (withSets t (reclaimSets (t .sets) (vm .0) (page .0))) (clears (reclaimClears (t .sets) (vm .0) (page .0)))
     (λ dropped word e.
     let p = reclaim-passed t (vm .0) (page .0) e in
-    let m = reclaim-moved (t .sets) (vm .0) (page .0) (v .lengths .sets) (omega (arith, v .setup .most-pages, p .early .page-ok)) in
     record {
-      valid = reclaim-valid t v (vm .0) (page .0) p m;
+      valid = reclaim-valid t v (vm .0) (page .0) p;
       reach = λ other page′ h. absurd h;
       still = λ h. absurd h;
-      wiped = λ other page′ o. reclaim-wiped t v (vm .0) (page .0) p m other page′;
-      free = λ other page′ o l. reclaim-free t v (vm .0) (page .0) p m other page′ o;
+      wiped = λ other page′ o. reclaim-wiped t v (vm .0) (page .0) p other page′;
+      free = reclaim-free t v (vm .0) (page .0) p;
       edges = λ w h. inl h;
     })
 
