@@ -5,7 +5,6 @@ use mathlib.Core.List.{List}
 use mathlib.Core.Logic.{_⊎_, inl, inr, ⊎-elim}
 use mathlib.Core.Path.{_≡_, refl, sym, _∙_}
 use native.Mathlib.Omega.{arith}
-use lib.ListN.{length-set}
 use borrow.Author.Tests.{ltb-true, not-false}
 use Rattle.numbers.specs.Limits.{VMS, GUEST-PAGES, PORTS, SLOTS, IDLE}
 use Rattle.numbers.specs.Meaning.{targetNumber}
@@ -19,12 +18,12 @@ use Rattle.numbers.specs.declared.Target.the-variants.{Idle, Vm}
 use Rattle.table.specs.ScanLaws.{cases, found-never}
 use Rattle.table.specs.Table.{find, lookup, place, isFound}
 use Rattle.table.specs.TableLaws.{found-at, lookup-nothing}
-use Rattle.model.specs.State.{Tables, Route, route, withPorts}
+use Rattle.model.specs.State.{Tables, route, withPorts}
 use Rattle.model.specs.Views.{isPort, isGuest, isIdle, knows}
-use Rattle.model.specs.Ports.{isTarget, knowsTarget, portAnswer, portPorts, vmOn, fillAnswer, fillPlace, fillCache, fillHand}
+use Rattle.model.specs.Ports.{isTarget, knowsTarget, portAnswer, portPorts, vmOn, fillAnswer, fillCache, fillHand}
 use Rattle.model.specs.Step.{portControl, fillRoute, fillControl, emptyControl}
 use Rattle.model.specs.EarlyLaws.{past, hold}
-use Rattle.model.specs.ShapeLaws.{SameRoute, length-setAt}
+use Rattle.model.specs.ShapeLaws.{same-switched, same-filled, same-emptied}
 use Rattle.model.specs.Valid.{CacheGood, ValidTables}
 use Rattle.model.specs.Good.{Good}
 use Rattle.model.proofs.Refused.{decided-good}
@@ -59,7 +58,7 @@ port-good side t v operation port target =
     decided-good t v operation _ _ _
     (λ dropped word e.
     route-good side t v operation _ _
-    (record { map = refl; walker = refl; cache = refl; ports = length-set (route side t .ports) port _ })
+    (same-switched (route side t) port target)
     (port-kept side t v port target (port-passed (t .known) port target e)))
 
 -- ---- a slot filled
@@ -98,10 +97,6 @@ fill-hand : (cache : List ℕ) (hand : ℕ) (ports : List ℕ) (port guest : ℕ
 unfolding fillHand
 fill-hand cache hand ports port guest h = ⊎-elim (λ t. rw t h) (λ f. rw f (next-hand hand)) (cases (isFound (place keyOf cache (slotKey port (vmOn ports port) guest))))
 
-fill-same : (r : Route) (port guest : ℕ) → SameRoute r (fillRoute r port guest)
-unfolding fillCache
-fill-same r port guest = record { map = refl; walker = refl; cache = length-setAt (r .cache) (fillPlace (r .cache) (r .hand) (slotKey port (vmOn (r .ports) port) guest)) _; ports = refl }
-
 fill-kept : (side : Side) (t : Tables) → ValidTables t → (port guest : ℕ) → FillPassed (route side t .ports) (route side t .walker) port guest → GoodRoute side t (fillRoute (route side t) port guest)
 fill-kept side t v port guest a =
     let g = route-of side t v in
@@ -113,7 +108,7 @@ unfolding fillControl
 fill-good side t v operation port guest =
     decided-good t v operation _ _ _
     (λ dropped word e.
-    route-good side t v operation _ _ (fill-same (route side t) port guest)
+    route-good side t v operation _ _ (same-filled (route side t) port guest)
     (fill-kept side t v port guest (fill-passed (route side t .ports) (route side t .walker) port guest e)))
 
 -- ---- a slot emptied, whichever it is
@@ -124,5 +119,5 @@ empty-good side t v operation slot =
     decided-good t v operation _ _ _
     (λ dropped word e.
     route-good side t v operation _ _
-    (record { map = refl; walker = refl; cache = length-set (route side t .cache) slot 0; ports = refl })
+    (same-emptied (route side t) slot)
     (cache-route side t (route side t) _ _ g (cache-empty (route side t .walker) (route side t .cache) (g .cache) slot) (g .hand)))

@@ -7,13 +7,14 @@ pub mod ViewLaws
 pub mod Refused
 pub mod Carried
 pub mod PagesKept
+pub mod LedgerKept
 pub mod StartKept
 pub mod RoutesKept
 pub mod OneRoute
 pub mod RegionLaws
+pub mod EditedSets
 pub mod RegionSets
 pub mod RegionTables
-pub mod RegionKept
 pub mod GoodLedger
 pub mod GoodMaps
 pub mod GoodRegions
