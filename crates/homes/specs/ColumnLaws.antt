@@ -1,9 +1,9 @@
 -- Laws of the words of a column, and what holds at the head of the loop over its VMs.
-use Prim.Native.Nat.{ℕ, zero, suc, _+_, _^_, _≤_, _<_}
+use Prim.Native.Nat.{ℕ, suc, _+_, _^_, _≤_, _<_}
 use mathlib.Core.Bool.{Bool, true, false, true≢false, _&&_}
 use mathlib.Core.List.{List}
 use mathlib.Core.Logic.{_⊎_, inl, inr, ⊎-elim}
-use mathlib.Core.Path.{_≡_, refl, sym, _∙_}
+use mathlib.Core.Path.{_≡_, sym, _∙_}
 use native.Mathlib.Numerals.{add-one}
 use native.Mathlib.Omega.{arith}
 use borrow.Author.Tests.{eq-eqb, eqb-true}
@@ -17,7 +17,7 @@ use Rattle.pages.specs.Bits.{hasBit}
 use Rattle.pages.specs.BitLaws.{decide, equal-or}
 use Rattle.model.specs.EarlyLaws.{both}
 use Rattle.model.specs.Views.{knows}
-use Rattle.homes.specs.Columns.{homeWord, dmaWord, belowWord, spanWord, Apart, Once, Union, VmGood, VmsGood, HomesGood, ColumnGood}
+use Rattle.homes.specs.Columns.{poolWord, sharedWord, cpuWord, dmaWord, homeWord, homesOf, belowWord, spanWord, Apart, Once, Union, VmGood, VmsGood, HomesGood, ColumnGood}
 use Rattle.homes.specs.WordLaws.{hasBit-zero, same-bits, or-either, either-or}
 
 -- ---- words one after another
@@ -70,19 +70,19 @@ module _ (f : ℕ → ℕ) where
   once-apart n w m u h o j l t t′ = let (i, g, x) = u .from j l t in let e = o i n j (omega arith) h l x t′ in omega arith
 
 -- ---- the first n VMs have passed
-pub record Passing (known : ℕ) (sets : List ℕ) (k n held lent : ℕ) : Type 0 where
+pub record Passing (known : ℕ) (sets : List ℕ) (k n held dmaHeld : ℕ) : Type 0 where
   pub place : n ≤ VMS
-  pub homes : Union (homeWord sets k) (suc (suc n)) held
-  pub holders : Union (dmaWord sets k) n lent
+  pub homes : Union (homeWord sets k) (homesOf n) held
+  pub holders : Union (dmaWord sets k) n dmaHeld
   pub vms : VmsGood known sets k n
 
 module _ (known : ℕ) (sets : List ℕ) (k : ℕ) where
   module _ (fit : (i : ℕ) → getD sets i 0 < 2 ^ 64) where
     -- the pool and the span
-    pub two-apart : (all : ℕ) → HomesGood known sets k all → Apart (homeWord sets k 0) (homeWord sets k 1)
-    two-apart all g = once-apart (homeWord sets k) 1 (homeWord sets k 0) (suc (suc VMS)) (union-one (homeWord sets k) (fit _)) (omega arith) (g .vms .one-home)
+    pub two-apart : (all : ℕ) → HomesGood known sets k all → Apart (poolWord sets k) (sharedWord sets k)
+    two-apart all g = once-apart (homeWord sets k) 1 (poolWord sets k) (homesOf VMS) (union-one (homeWord sets k) (fit _)) (omega arith) (g .vms .one-home)
 
-    pub pass-start : Apart (homeWord sets k 0) (homeWord sets k 1) → Passing known sets k 0 (bitOr (homeWord sets k 0) (homeWord sets k 1)) 0
+    pub pass-start : Apart (poolWord sets k) (sharedWord sets k) → Passing known sets k 0 (bitOr (poolWord sets k) (sharedWord sets k)) 0
     pass-start a =
         let f = homeWord sets k in
         let one = union-one f (fit _) in
@@ -95,58 +95,58 @@ module _ (known : ℕ) (sets : List ℕ) (k : ℕ) where
                 one-home = once-next f 1 (f 0) one a (once-one f);
                 one-dma = λ vm vm′ j h. absurd (omega arith);
                 dma-home = λ vm j h. absurd (omega arith);
-                holder = λ vm j h. absurd (omega arith);
+                holder-known = λ vm j h. absurd (omega arith);
               };
         }
 
   -- what is tested of the next VM
   abbrev pub NextGood : ℕ → ℕ → ℕ → Type 0
-  NextGood n held lent = VmGood (knows known n) (homeWord sets k 0) held lent (homeWord sets k (suc (suc n))) (dmaWord sets k n)
+  NextGood n held dmaHeld = VmGood (knows known n) (poolWord sets k) held dmaHeld (cpuWord sets k n) (dmaWord sets k n)
 
-  vms-next : (n held lent : ℕ) → Passing known sets k n held lent → NextGood n held lent → VmsGood known sets k (suc n)
-  vms-next n held lent r g =
+  vms-next : (n held dmaHeld : ℕ) → Passing known sets k n held dmaHeld → NextGood n held dmaHeld → VmsGood known sets k (suc n)
+  vms-next n held dmaHeld r g =
       record {
-        one-home = once-next (homeWord sets k) (suc (suc n)) held (r .homes) (g .one-home) (r .vms .one-home);
-        one-dma = once-next (dmaWord sets k) n lent (r .holders) (g .one-dma) (r .vms .one-dma);
+        one-home = once-next (homeWord sets k) (homesOf n) held (r .homes) (g .one-home) (r .vms .one-home);
+        one-dma = once-next (dmaWord sets k) n dmaHeld (r .holders) (g .one-dma) (r .vms .one-dma);
         dma-home = λ vm j h l t. ⊎-elim (λ e. rw e (g .dma-home j l (rw e at t))) (λ d. r .vms .dma-home vm j (omega arith) l t) (equal-or vm n);
-        holder = λ vm j h l t. ⊎-elim (λ e. rw e (g .holder j l (rw e at t))) (λ d. r .vms .holder vm j (omega arith) l t) (equal-or vm n);
+        holder-known = λ vm j h l t. ⊎-elim (λ e. rw e (g .holder-known j l (rw e at t))) (λ d. r .vms .holder-known vm j (omega arith) l t) (equal-or vm n);
       }
 
-  pub pass-next : ((i : ℕ) → getD sets i 0 < 2 ^ 64) → (n held lent : ℕ) → Passing known sets k n held lent → n < VMS → NextGood n held lent →
-      Passing known sets k (n + 1) (bitOr held (homeWord sets k (suc (suc n)))) (bitOr lent (dmaWord sets k n))
-  pass-next fit n held lent r h g =
+  pub pass-next : ((i : ℕ) → getD sets i 0 < 2 ^ 64) → (n held dmaHeld : ℕ) → Passing known sets k n held dmaHeld → n < VMS → NextGood n held dmaHeld →
+      Passing known sets k (n + 1) (bitOr held (cpuWord sets k n)) (bitOr dmaHeld (dmaWord sets k n))
+  pass-next fit n held dmaHeld r h g =
       rw (add-one n)
       (record {
         place = omega arith;
-        homes = union-next (homeWord sets k) (suc (suc n)) held (fit _) (r .homes);
-        holders = union-next (dmaWord sets k) n lent (fit _) (r .holders);
-        vms = vms-next n held lent r g;
+        homes = union-next (homeWord sets k) (homesOf n) held (fit _) (r .homes);
+        holders = union-next (dmaWord sets k) n dmaHeld (fit _) (r .holders);
+        vms = vms-next n held dmaHeld r g;
       })
 
   -- where all is good, so is the next VM
-  pub pass-good : (n held lent all : ℕ) → Passing known sets k n held lent → n < VMS → HomesGood known sets k all → NextGood n held lent
-  pass-good n held lent all r h g =
+  pub pass-good : (n held dmaHeld all : ℕ) → Passing known sets k n held dmaHeld → n < VMS → HomesGood known sets k all → NextGood n held dmaHeld
+  pass-good n held dmaHeld all r h g =
       record {
-        one-home = once-apart (homeWord sets k) (suc (suc n)) held (suc (suc VMS)) (r .homes) (omega arith) (g .vms .one-home);
-        one-dma = once-apart (dmaWord sets k) n lent VMS (r .holders) h (g .vms .one-dma);
+        one-home = once-apart (homeWord sets k) (homesOf n) held (homesOf VMS) (r .homes) (omega arith) (g .vms .one-home);
+        one-dma = once-apart (dmaWord sets k) n dmaHeld VMS (r .holders) h (g .vms .one-dma);
         dma-home = λ j l t. g .vms .dma-home n j h l t;
-        holder = λ j l t. g .vms .holder n j h l t;
+        holder-known = λ j l t. g .vms .holder-known n j h l t;
       }
 
-  pub pass-end : (n held lent all : ℕ) → Passing known sets k n held lent → VMS ≤ n → Decides (eqb held all) (HomesGood known sets k all)
-  pass-end n held lent all r h =
+  pub pass-end : (n held dmaHeld all : ℕ) → Passing known sets k n held dmaHeld → VMS ≤ n → Decides (eqb held all) (HomesGood known sets k all)
+  pass-end n held dmaHeld all r h =
       let e : n ≡ VMS = omega arith in
-      let r′ : Passing known sets k VMS held lent = rw (← e) r in
+      let r′ : Passing known sets k VMS held dmaHeld = rw (← e) r in
       record {
         sound = λ t. record { vms = r′ .vms; whole = rw (← eqb-true held all t) (r′ .homes) };
-        complete = λ g. eq-eqb held all (union-same (homeWord sets k) (suc (suc VMS)) held all (r′ .homes) (g .whole));
+        complete = λ g. eq-eqb held all (union-same (homeWord sets k) (homesOf VMS) held all (r′ .homes) (g .whole));
       }
 
 -- ---- the two tests of a column
 pub column-decides : (pages base count known : ℕ) (sets : List ℕ) (k : ℕ) {t : Bool} → Decides t (HomesGood known sets k (belowWord pages k)) →
-    Decides (eqb (homeWord sets k 1) (spanWord base count k) && t) (ColumnGood pages base count known sets k)
+    Decides (eqb (sharedWord sets k) (spanWord base count k) && t) (ColumnGood pages base count known sets k)
 column-decides pages base count known sets k {t} d =
-    let shared = homeWord sets k 1 in
+    let shared = sharedWord sets k in
     let span = spanWord base count k in
     record {
       sound = λ e. let (x, y) = both (eqb shared span) t e in record { span = eqb-true shared span x; homes = d .sound y };

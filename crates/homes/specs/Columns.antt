@@ -12,8 +12,20 @@ use Rattle.pages.specs.Rows.{poolRow, sharedRow, cpuRow, dmaRow}
 use Rattle.model.specs.Views.{knows}
 
 -- ---- the words of a column
-abbrev pub wordOf : List ℕ → ℕ → ℕ → ℕ
-wordOf sets row k = getD sets (row * SET-WORDS + k) 0
+abbrev pub columnWord : List ℕ → ℕ → ℕ → ℕ
+columnWord sets row k = getD sets (row * SET-WORDS + k) 0
+
+abbrev pub poolWord : List ℕ → ℕ → ℕ
+poolWord sets k = columnWord sets poolRow k
+
+abbrev pub sharedWord : List ℕ → ℕ → ℕ
+sharedWord sets k = columnWord sets sharedRow k
+
+abbrev pub cpuWord : List ℕ → ℕ → ℕ → ℕ
+cpuWord sets k vm = columnWord sets (cpuRow vm) k
+
+abbrev pub dmaWord : List ℕ → ℕ → ℕ → ℕ
+dmaWord sets k vm = columnWord sets (dmaRow vm) k
 
 -- the homes in order: the pool, the shared span, then the CPU pages of each VM
 abbrev pub homeRow : ℕ → ℕ
@@ -22,10 +34,11 @@ homeRow (suc zero) = sharedRow
 homeRow (suc (suc vm)) = cpuRow vm
 
 abbrev pub homeWord : List ℕ → ℕ → ℕ → ℕ
-homeWord sets k i = wordOf sets (homeRow i) k
+homeWord sets k i = columnWord sets (homeRow i) k
 
-abbrev pub dmaWord : List ℕ → ℕ → ℕ → ℕ
-dmaWord sets k vm = wordOf sets (dmaRow vm) k
+-- how many they are with n VMs
+abbrev pub homesOf : ℕ → ℕ
+homesOf n = suc (suc n)
 
 -- a bit for each page below n; a bit for each page of a span
 unfoldable pub belowWord : ℕ → ℕ → ℕ
@@ -50,27 +63,27 @@ pub record Union (f : ℕ → ℕ) (n w : ℕ) : Type 0 where
   pub from : (j : ℕ) → j < 64 → hasBit w j ≡ true → (i : ℕ) × (i < n) × (hasBit (f i) j ≡ true)
 
 -- ---- what is tested
--- the pages of a VM for CPU and for DMA, where the VMs before it hold `held` with the pool and the span, and `lent` for DMA
-pub record VmGood (known : Bool) (pool held lent cpu dma : ℕ) : Type 0 where
+-- one VM's words, where `held` has the pages of the homes before it and `dmaHeld` those that a VM before it holds for DMA
+pub record VmGood (known : Bool) (pool held dmaHeld cpu dma : ℕ) : Type 0 where
   pub one-home : Apart held cpu
-  pub one-dma : Apart lent dma
+  pub one-dma : Apart dmaHeld dma
   pub dma-home : (j : ℕ) → j < 64 → hasBit dma j ≡ true → (hasBit cpu j ≡ true) ⊎ (hasBit pool j ≡ true)
-  pub holder : (j : ℕ) → j < 64 → (hasBit cpu j ≡ true) ⊎ (hasBit dma j ≡ true) → known ≡ true
+  pub holder-known : (j : ℕ) → j < 64 → (hasBit cpu j ≡ true) ⊎ (hasBit dma j ≡ true) → known ≡ true
 
 -- the first n VMs
 pub record VmsGood (known : ℕ) (sets : List ℕ) (k n : ℕ) : Type 0 where
-  pub one-home : Once (homeWord sets k) (suc (suc n))
+  pub one-home : Once (homeWord sets k) (homesOf n)
   pub one-dma : Once (dmaWord sets k) n
   pub dma-home : (vm j : ℕ) → vm < n → j < 64 → hasBit (dmaWord sets k vm) j ≡ true →
-      (hasBit (homeWord sets k (suc (suc vm))) j ≡ true) ⊎ (hasBit (homeWord sets k 0) j ≡ true)
-  pub holder : (vm j : ℕ) → vm < n → j < 64 → (hasBit (homeWord sets k (suc (suc vm))) j ≡ true) ⊎ (hasBit (dmaWord sets k vm) j ≡ true) →
+      (hasBit (cpuWord sets k vm) j ≡ true) ⊎ (hasBit (poolWord sets k) j ≡ true)
+  pub holder-known : (vm j : ℕ) → vm < n → j < 64 → (hasBit (cpuWord sets k vm) j ≡ true) ⊎ (hasBit (dmaWord sets k vm) j ≡ true) →
       knows known vm ≡ true
 
--- all VMs, where the homes together hold the pages of `all`
+-- all VMs, where the homes together have the pages of `all`
 pub record HomesGood (known : ℕ) (sets : List ℕ) (k all : ℕ) : Type 0 where
   pub vms : VmsGood known sets k VMS
-  pub whole : Union (homeWord sets k) (suc (suc VMS)) all
+  pub whole : Union (homeWord sets k) (homesOf VMS) all
 
 pub record ColumnGood (pages base count known : ℕ) (sets : List ℕ) (k : ℕ) : Type 0 where
-  pub span : homeWord sets k 1 ≡ spanWord base count k
+  pub span : sharedWord sets k ≡ spanWord base count k
   pub homes : HomesGood known sets k (belowWord pages k)

@@ -1,12 +1,12 @@
 -- The page sets are good exactly where each column is.
 use Prim.Native.Nat.{ℕ, zero, suc, _+_, _-_, _*_, _/_, _%_, _^_, _≤_, _<_}
-use mathlib.Core.Bool.{Bool, true, false, true≢false, and-false}
+use mathlib.Core.Bool.{true, false, true≢false, and-false}
 use mathlib.Core.List.{List}
 use mathlib.Core.Logic.{_⊎_, inl, inr, ⊎-elim}
 use mathlib.Core.Path.{_≡_, refl, sym, ap, _∙_}
 use native.Mathlib.Omega.{arith}
-use borrow.Author.Tests.{lt-ltb, ltb-true, lt-leb, le-ltb}
-use lib.Dec.{ltb, leb}
+use borrow.Author.Tests.{lt-ltb, ltb-true, le-ltb}
+use lib.Dec.{leb}
 use lib.ListN.{getD}
 use Rattle.numbers.specs.Limits.{PAGES, VMS, SETS, SET-WORDS}
 use Rattle.pages.specs.Bits.{hasBit, contains}
@@ -15,19 +15,19 @@ use Rattle.pages.specs.Rows.{poolRow, sharedRow, cpuRow, dmaRow, holds}
 use Rattle.model.specs.Start.{inSpan}
 use Rattle.model.specs.Valid.{Home, pool, shared, cpu, PagesGood}
 use Rattle.model.specs.Views.{knows, owns, holdsDma, inPool, inShared}
-use Rattle.homes.specs.Columns.{wordOf, homeRow, homeWord, dmaWord, belowWord, spanWord, Union, VmsGood, HomesGood, ColumnGood}
+use Rattle.homes.specs.Columns.{columnWord, sharedWord, homeRow, homeWord, homesOf, belowWord, spanWord, VmsGood, ColumnGood}
 use Rattle.homes.specs.WordLaws.{same-bits, below-bit, below-fits, span-bit, span-fits}
 
 -- ---- homes by their order
-pub home-at : (i : ℕ) → i < suc (suc VMS) → Home (homeRow i)
+pub home-at : (i : ℕ) → i < homesOf VMS → Home (homeRow i)
 home-at zero h = pool
 home-at (suc zero) h = shared
 home-at (suc (suc vm)) h = cpu vm (omega arith)
 
-pub home-of : (row : ℕ) → Home row → (i : ℕ) × (i < suc (suc VMS)) × (row ≡ homeRow i)
+pub home-of : (row : ℕ) → Home row → (i : ℕ) × (i < homesOf VMS) × (row ≡ homeRow i)
 home-of row pool = (0, omega arith, refl)
 home-of row shared = (1, omega arith, refl)
-home-of row (cpu vm l) = (suc (suc vm), omega arith, refl)
+home-of row (cpu vm l) = (homesOf vm, omega arith, refl)
 
 place : (i : ℕ) → homeRow i ≡ i + (i - 2)
 place zero = refl
@@ -38,26 +38,26 @@ home-one : (i i′ : ℕ) → homeRow i ≡ homeRow i′ → i ≡ i′
 home-one i i′ e = omega (arith, place i, place i′)
 
 -- every row is a home or has a VM's DMA pages
-kinds : (row : ℕ) → row < SETS → ((i : ℕ) × (i < suc (suc VMS)) × (row ≡ homeRow i)) ⊎ ((vm : ℕ) × (vm < VMS) × (row ≡ dmaRow vm))
+kinds : (row : ℕ) → row < SETS → ((i : ℕ) × (i < homesOf VMS) × (row ≡ homeRow i)) ⊎ ((vm : ℕ) × (vm < VMS) × (row ≡ dmaRow vm))
 kinds zero h = inl (0, omega arith, refl)
 kinds (suc zero) h = inl (1, omega arith, refl)
 kinds (suc (suc r)) h = ⊎-elim
-    (λ (e : r % 2 ≡ 0). inl (suc (suc (r / 2)), omega arith, omega arith))
+    (λ (e : r % 2 ≡ 0). inl (homesOf (r / 2), omega arith, omega arith))
     (λ d. inr (r / 2, omega arith, omega arith)) (equal-or (r % 2) 0)
 
 -- ---- bit j of column k is page k * 64 + j
 module _ (sets : List ℕ) (k j : ℕ) (l : j < 64) (row : ℕ) where
-  holds-is : holds sets row (k * 64 + j) ≡ hasBit (wordOf sets row k) j
+  holds-is : holds sets row (k * 64 + j) ≡ hasBit (columnWord sets row k) j
   unfolding contains
   holds-is =
       let d : (row * PAGES + (k * 64 + j)) / 64 ≡ row * SET-WORDS + k = omega arith in
       let m : (row * PAGES + (k * 64 + j)) % 64 ≡ j = omega arith in
       rw (d, m)
 
-  bit-holds : hasBit (wordOf sets row k) j ≡ true → holds sets row (k * 64 + j) ≡ true
+  bit-holds : hasBit (columnWord sets row k) j ≡ true → holds sets row (k * 64 + j) ≡ true
   bit-holds t = holds-is ∙ t
 
-  holds-bit : holds sets row (k * 64 + j) ≡ true → hasBit (wordOf sets row k) j ≡ true
+  holds-bit : holds sets row (k * 64 + j) ≡ true → hasBit (columnWord sets row k) j ≡ true
   holds-bit t = sym holds-is ∙ t
 
 -- ---- from the columns to the pages
@@ -79,13 +79,13 @@ module _ (pages base count known : ℕ) (sets : List ℕ) (all : (k : ℕ) → k
     whole : k * 64 + j ≡ page
     whole = omega arith
 
-    up : (row : ℕ) → hasBit (wordOf sets row k) j ≡ true → holds sets row page ≡ true
+    up : (row : ℕ) → hasBit (columnWord sets row k) j ≡ true → holds sets row page ≡ true
     up row t = rw whole at (bit-holds sets k j l row t)
 
-    down : (row : ℕ) → holds sets row page ≡ true → hasBit (wordOf sets row k) j ≡ true
+    down : (row : ℕ) → holds sets row page ≡ true → hasBit (columnWord sets row k) j ≡ true
     down row t = holds-bit sets k j l row (rw whole t)
 
-    home-inside : (i : ℕ) → i < suc (suc VMS) → hasBit (homeWord sets k i) j ≡ true → page < pages
+    home-inside : (i : ℕ) → i < homesOf VMS → hasBit (homeWord sets k i) j ≡ true → page < pages
     home-inside i h t =
         let below = sym (below-bit pages k j l) ∙ c .homes .whole .has i j h l t in
         omega (arith, ltb-true (k * 64 + j) pages below)
@@ -93,12 +93,12 @@ module _ (pages base count known : ℕ) (sets : List ℕ) (all : (k : ℕ) → k
     row-inside : (row : ℕ) → row < SETS → holds sets row page ≡ true → page < pages
     row-inside row h t = ⊎-elim home dma (kinds row h)
       where
-        home : (i : ℕ) × (i < suc (suc VMS)) × (row ≡ homeRow i) → page < pages
+        home : (i : ℕ) × (i < homesOf VMS) × (row ≡ homeRow i) → page < pages
         home (i, g, q) = home-inside i g (rw q at (down row t))
 
         dma : (vm : ℕ) × (vm < VMS) × (row ≡ dmaRow vm) → page < pages
         dma (vm, g, q) =
-            ⊎-elim (home-inside (suc (suc vm)) (omega arith)) (home-inside 0 (omega arith)) (c .homes .vms .dma-home vm j g l (rw q at (down row t)))
+            ⊎-elim (home-inside (homesOf vm) (omega arith)) (home-inside 0 (omega arith)) (c .homes .vms .dma-home vm j g l (rw q at (down row t)))
 
     page-outside : pages ≤ page → (row : ℕ) → row < SETS → holds sets row page ≡ false
     page-outside o row h = ⊎-elim (λ t. absurd (let z = row-inside row h t in omega arith)) (λ f. f) (decide (holds sets row page))
@@ -126,7 +126,7 @@ module _ (pages base count known : ℕ) (sets : List ℕ) (all : (k : ℕ) → k
       page-dma-home t = ⊎-elim (λ x. inl (up (cpuRow vm) x)) (λ x. inr (up poolRow x)) (c .homes .vms .dma-home vm j h l (down (dmaRow vm) t))
 
       page-known : (owns sets vm page ≡ true) ⊎ (holdsDma sets vm page ≡ true) → knows known vm ≡ true
-      page-known s = c .homes .vms .holder vm j h l (⊎-elim (λ t. inl (down (cpuRow vm) t)) (λ t. inr (down (dmaRow vm) t)) s)
+      page-known s = c .homes .vms .holder-known vm j h l (⊎-elim (λ t. inl (down (cpuRow vm) t)) (λ t. inr (down (dmaRow vm) t)) s)
 
   pub pages-good : pages ≤ PAGES → PagesGood pages base count known sets
   pages-good most =
@@ -147,32 +147,32 @@ module _ (pages base count known : ℕ) (sets : List ℕ) (most : base + count �
     abbrev page : ℕ
     page = k * 64 + j
 
-    bit-inside : (row : ℕ) → row < SETS → hasBit (wordOf sets row k) j ≡ true → page < pages
+    bit-inside : (row : ℕ) → row < SETS → hasBit (columnWord sets row k) j ≡ true → page < pages
     bit-inside row h t =
         ⊎-elim (λ g. g) (λ o. absurd (true≢false (sym (bit-holds sets k j l row t) ∙ good .inside row page h (omega arith) o))) (below-or page pages)
 
-    row-lt : (i : ℕ) → i < suc (suc VMS) → homeRow i < SETS
+    row-lt : (i : ℕ) → i < homesOf VMS → homeRow i < SETS
     row-lt i h = omega (arith, place i)
 
     -- the shared row's bit, below N and above
-    span-same : hasBit (homeWord sets k 1) j ≡ hasBit (spanWord base count k) j
+    span-same : hasBit (sharedWord sets k) j ≡ hasBit (spanWord base count k) j
     span-same = ⊎-elim within outside (below-or page pages)
       where
-        within : page < pages → hasBit (homeWord sets k 1) j ≡ hasBit (spanWord base count k) j
+        within : page < pages → hasBit (sharedWord sets k) j ≡ hasBit (spanWord base count k) j
         within h = sym (holds-is sets k j l sharedRow) ∙ good .span page h ∙ sym (span-bit base count k j l)
 
-        outside : pages ≤ page → hasBit (homeWord sets k 1) j ≡ hasBit (spanWord base count k) j
+        outside : pages ≤ page → hasBit (sharedWord sets k) j ≡ hasBit (spanWord base count k) j
         outside h =
             sym (holds-is sets k j l sharedRow) ∙ good .inside sharedRow page (omega arith) (omega arith) h
             ∙ sym (span-bit base count k j l ∙ rw (le-ltb page (base + count) (omega arith)) (and-false (leb base page)))
 
-    some-home : hasBit (belowWord pages k) j ≡ true → (i : ℕ) × (i < suc (suc VMS)) × (hasBit (homeWord sets k i) j ≡ true)
+    some-home : hasBit (belowWord pages k) j ≡ true → (i : ℕ) × (i < homesOf VMS) × (hasBit (homeWord sets k i) j ≡ true)
     some-home t =
         let (row, (h, x)) = good .some-home page (ltb-true page pages (sym (below-bit pages k j l) ∙ t)) in
         let (i, g, q) = home-of row h in
         (i, g, rw q at (holds-bit sets k j l row x))
 
-    home-below : (i : ℕ) → i < suc (suc VMS) → hasBit (homeWord sets k i) j ≡ true → hasBit (belowWord pages k) j ≡ true
+    home-below : (i : ℕ) → i < homesOf VMS → hasBit (homeWord sets k i) j ≡ true → hasBit (belowWord pages k) j ≡ true
     home-below i h t = below-bit pages k j l ∙ lt-ltb page pages (bit-inside (homeRow i) (row-lt i h) t)
 
   vms-good : VmsGood known sets k VMS
@@ -186,7 +186,7 @@ module _ (pages base count known : ℕ) (sets : List ℕ) (most : base + count �
         dma-home = λ vm j h l t.
             ⊎-elim (λ x. inl (holds-bit sets k j l (cpuRow vm) x)) (λ x. inr (holds-bit sets k j l poolRow x))
             (good .dma-home vm (k * 64 + j) h (bit-inside j l (dmaRow vm) (omega arith) t) (bit-holds sets k j l (dmaRow vm) t));
-        holder = λ vm j h l s.
+        holder-known = λ vm j h l s.
             ⊎-elim
             (λ t. good .cpu-known vm (k * 64 + j) h (bit-inside j l (cpuRow vm) (omega arith) t) (bit-holds sets k j l (cpuRow vm) t))
             (λ t. good .dma-known vm (k * 64 + j) h (bit-inside j l (dmaRow vm) (omega arith) t) (bit-holds sets k j l (dmaRow vm) t)) s;
@@ -195,7 +195,7 @@ module _ (pages base count known : ℕ) (sets : List ℕ) (most : base + count �
   pub column-good : ((i : ℕ) → getD sets i 0 < 2 ^ 64) → ColumnGood pages base count known sets k
   column-good fit =
       record {
-        span = same-bits (homeWord sets k 1) (spanWord base count k) (fit _) (span-fits base count k) span-same;
+        span = same-bits (sharedWord sets k) (spanWord base count k) (fit _) (span-fits base count k) span-same;
         homes =
             record {
               vms = vms-good;

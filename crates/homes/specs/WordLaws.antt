@@ -2,12 +2,12 @@
 use Prim.Native.Nat.{ℕ, zero, suc, _+_, _-_, _*_, _/_, _%_, _^_, _≤_, _<_, min, max}
 use mathlib.Core.Bool.{Bool, true, false, true≢false, _&&_, _||_, xor, or-true}
 use mathlib.Core.Logic.{_⊎_, inl, inr, ⊎-elim}
-use mathlib.Core.Path.{_≡_, refl, sym, ap, _∙_}
+use mathlib.Core.Path.{_≡_, refl, sym, _∙_}
 use native.Mathlib.Nat.{div-eq-of-lt, pow-suc, lt-of-lt-of-le}
 use native.Mathlib.Omega.{arith}
 use borrow.Author.Tests.{eq-eqb, eqb-true, lt-ltb, le-ltb, le-leb, lt-leb}
 use lib.Bits.{bitAnd, bitOr, bitXor, differ, and-step, or-step, xor-step, and-shr, or-shr, xor-shr, and-lt, or-lt, xor-lt}
-use lib.Dec.{eqb, ltb, leb}
+use lib.Dec.{eqb, ltb}
 use lib.Pow.{pow-add, pow-pos, pow-mono, ones-lt, ones-split, high, shr-shr}
 use Rattle.numbers.specs.Decides.{Decides}
 use Rattle.pages.specs.Bits.{bit, hasBit}
@@ -169,27 +169,27 @@ unless-decides t w a =
       complete = λ h. ⊎-elim (λ y. rw y) (λ (f : t ≡ false). rw (none-zero w a (λ j l x. true≢false (sym (h j l x) ∙ f)), f)) (decide t);
     }
 
-module _ (known : Bool) (pool held lent cpu dma : ℕ) (a : pool < 2 ^ 64) (b : held < 2 ^ 64) (c : lent < 2 ^ 64) (d : cpu < 2 ^ 64) (e : dma < 2 ^ 64) where
+module _ (known : Bool) (pool held dmaHeld cpu dma : ℕ) (a : pool < 2 ^ 64) (b : held < 2 ^ 64) (c : dmaHeld < 2 ^ 64) (d : cpu < 2 ^ 64) (e : dma < 2 ^ 64) where
   abbrev vmTest : Bool
-  vmTest = eqb (bitAnd held cpu) 0 && (eqb (bitAnd lent dma) 0 && (eqb (bitAnd dma (bitOr cpu pool)) dma && (known || eqb (bitOr cpu dma) 0)))
+  vmTest = eqb (bitAnd held cpu) 0 && eqb (bitAnd dmaHeld dma) 0 && eqb (bitAnd dma (bitOr cpu pool)) dma && (known || eqb (bitOr cpu dma) 0)
 
-  vm-sound : vmTest ≡ true → VmGood known pool held lent cpu dma
+  vm-sound : vmTest ≡ true → VmGood known pool held dmaHeld cpu dma
   vm-sound t =
-      let (x, r) = both (eqb (bitAnd held cpu) 0) _ t in
-      let (y, s) = both (eqb (bitAnd lent dma) 0) _ r in
-      let (z, u) = both (eqb (bitAnd dma (bitOr cpu pool)) dma) _ s in
+      let (r, u) = both _ (known || eqb (bitOr cpu dma) 0) t in
+      let (s, z) = both _ (eqb (bitAnd dma (bitOr cpu pool)) dma) r in
+      let (x, y) = both (eqb (bitAnd held cpu) 0) (eqb (bitAnd dmaHeld dma) 0) s in
       record {
         one-home = apart-decides held cpu b d .sound x;
-        one-dma = apart-decides lent dma c e .sound y;
+        one-dma = apart-decides dmaHeld dma c e .sound y;
         dma-home = λ j l h. or-either cpu pool j (within-decides dma (bitOr cpu pool) e (or-lt 64 cpu pool d a) .sound z j l h);
-        holder = λ j l h. unless-decides known (bitOr cpu dma) (or-lt 64 cpu dma d e) .sound u j l (either-or cpu dma j h);
+        holder-known = λ j l h. unless-decides known (bitOr cpu dma) (or-lt 64 cpu dma d e) .sound u j l (either-or cpu dma j h);
       }
 
-  vm-complete : VmGood known pool held lent cpu dma → vmTest ≡ true
+  vm-complete : VmGood known pool held dmaHeld cpu dma → vmTest ≡ true
   vm-complete g =
       let z = within-decides dma (bitOr cpu pool) e (or-lt 64 cpu pool d a) .complete (λ j l h. either-or cpu pool j (g .dma-home j l h)) in
-      let u = unless-decides known (bitOr cpu dma) (or-lt 64 cpu dma d e) .complete (λ j l h. g .holder j l (or-either cpu dma j h)) in
-      rw (apart-decides held cpu b d .complete (g .one-home), apart-decides lent dma c e .complete (g .one-dma), z, u)
+      let u = unless-decides known (bitOr cpu dma) (or-lt 64 cpu dma d e) .complete (λ j l h. g .holder-known j l (or-either cpu dma j h)) in
+      rw (apart-decides held cpu b d .complete (g .one-home), apart-decides dmaHeld dma c e .complete (g .one-dma), z, u)
 
-  pub vm-decides : Decides vmTest (VmGood known pool held lent cpu dma)
+  pub vm-decides : Decides vmTest (VmGood known pool held dmaHeld cpu dma)
   vm-decides = record { sound = vm-sound; complete = vm-complete }

@@ -5,15 +5,15 @@ ghost use lib.ListN.{length};
 ghost use Rattle.numbers.specs.Decides.{Decides};
 ghost use Rattle.numbers.specs.Limits.{PAGES, VMS, SETS, SET-WORDS};
 ghost use Rattle.model.specs.Valid.{PagesGood};
-ghost use Rattle.homes.specs.Columns.{wordOf, belowWord, VmGood, HomesGood, ColumnGood};
+ghost use Rattle.homes.specs.Columns.{columnWord, belowWord, VmGood, HomesGood, ColumnGood};
 use numbers::SET_WORDS;
 use numbers::VMS;
 use numbers::VmId;
 
 // The word of a row in column k: a bit for each of the 64 pages from k * 64 on.
-fn word_of(sets: &[u64], row: u64, k: u64) -> u64
+fn column_word(sets: &[u64], row: u64, k: u64) -> u64
     requires { ⌜ (length (now sets) ≡ SETS * SET-WORDS) × (row < SETS) × (k < SET-WORDS) ⌝ }
-    ensures { λ r. ⌜ r ≡ wordOf (now (sets .entry)) row k ⌝ }
+    ensures { λ r. ⌜ r ≡ columnWord (now (sets .entry)) row k ⌝ }
 {
     sets[row as usize * SET_WORDS + k as usize]
 }
@@ -29,18 +29,20 @@ fn below(n: u64, k: u64) -> u64
     }
     let count = n - from;
     if count >= 64 {
-        return 18446744073709551615;
+        return !0;
     }
     (1 << count) - 1
 }
 
 // A VM's pages for CPU have no other home and those for DMA no other holder, each of these is its own CPU page or in the
 // pool, and a VM that is not known has none.
-fn vm_good(known: bool, pool: u64, held: u64, lent: u64, cpu: u64, dma: u64) -> bool
-    ensures { λ r. ⌜ Decides r (VmGood known pool held lent cpu dma) ⌝ }
+fn vm_good(known: bool, pool: u64, held: u64, dma_held: u64, cpu: u64, dma: u64) -> bool
+    ensures { λ r. ⌜ Decides r (VmGood known pool held «dma_held» cpu dma) ⌝ }
 {
     (held & cpu == 0)
-        & ((lent & dma == 0) & ((dma & (cpu | pool) == dma) & (known | (cpu | dma == 0))))
+        & (dma_held & dma == 0)
+        & (dma & (cpu | pool) == dma)
+        & (known | (cpu | dma == 0))
 }
 
 // No page has two homes or two holders for DMA, and the homes together hold the pages of `all`.
@@ -48,22 +50,22 @@ fn homes_good(sets: &[u64], known: u64, k: u64, all: u64) -> bool
     requires { ⌜ (length (now sets) ≡ SETS * SET-WORDS) × (k < SET-WORDS) ⌝ }
     ensures { λ r. ⌜ Decides r (HomesGood known (now (sets .entry)) k all) ⌝ }
 {
-    let pool = word_of(sets, pages::POOL, k);
-    let shared = word_of(sets, pages::SHARED, k);
+    let pool = column_word(sets, pages::POOL, k);
+    let shared = column_word(sets, pages::SHARED, k);
     if pool & shared != 0 {
         return false;
     }
     let mut held = pool | shared;
-    let mut lent: u64 = 0;
-    let mut vm: u64 = 0;
+    let mut dma_held = 0;
+    let mut vm = 0;
     while vm < VMS {
-        let cpu = word_of(sets, pages::cpu_row(VmId(vm)), k);
-        let dma = word_of(sets, pages::dma_row(VmId(vm)), k);
-        if !vm_good(pages::has_bit(known, vm), pool, held, lent, cpu, dma) {
+        let cpu = column_word(sets, pages::cpu_row(VmId(vm)), k);
+        let dma = column_word(sets, pages::dma_row(VmId(vm)), k);
+        if !vm_good(pages::has_bit(known, vm), pool, held, dma_held, cpu, dma) {
             return false;
         }
         held = held | cpu;
-        lent = lent | dma;
+        dma_held = dma_held | dma;
         vm += 1;
     }
     held == all
@@ -82,7 +84,7 @@ fn column_good(
     ensures { λ r. ⌜ Decides r (ColumnGood pages «shared_base» «shared_count» known (now (sets .entry)) k) ⌝ }
 {
     let span = below(shared_base + shared_count, k) ^ below(shared_base, k);
-    (word_of(sets, pages::SHARED, k) == span) & homes_good(sets, known, k, below(pages, k))
+    (column_word(sets, pages::SHARED, k) == span) & homes_good(sets, known, k, below(pages, k))
 }
 
 // Rule 4 of a valid state, for a machine whose pages, shared span and known VMs are in range.

@@ -13,8 +13,8 @@ below-requires c κs = search needs
 below-requires-2 : tie.Need-below-requires-2
 below-requires-2 c κs = search needs
 
-word-of-requires : tie.Need-word-of-requires
-word-of-requires c κs = search needs
+column-word-requires : tie.Need-column-word-requires
+column-word-requires c κs = search needs
 
 below-requires-3 : tie.Need-below-requires-3
 below-requires-3 c κs = search needs
@@ -25,7 +25,7 @@ homes-good-requires c κs = search needs
 returns : tie.Need-returns
 returns c =
     let a = c .before .before .before .before .before .before .args in
-    rw (c .before .before .before .before .below .ensures, c .before .before .before .below2 .ensures, c .before .before .word-of .ensures)
+    rw (c .before .before .before .before .below .ensures, c .before .before .before .below2 .ensures, c .before .before .column-word .ensures)
     (column-decides (a .pages) (a .shared-base) (a .shared-count) (a .known) (a .sets .now) (a .k) (rw (c .before .below3 .ensures) at (c .homes-good .ensures)))
 
 pub column-good-spec : {M : Type 1} → statement M
@@ -35,7 +35,7 @@ column-good-spec =
     add-below
     below-requires
     below-requires-2
-    word-of-requires
+    column-word-requires
     below-requires-3
     homes-good-requires
     returns)

@@ -1,6 +1,5 @@
 -- `homes::homes_good` meets its contract: at the head of the loop the first VMs are good.
 use Prim.Native.Nat.{ℕ, _-_, _<_, _^_}
-use mathlib.Core.Path.{_≡_, sym, _∙_}
 use native.Mathlib.Omega.{arith}
 use borrow.Author.Needs.{needs}
 use borrow.Author.Tests.{ne-eqb, eq-eqb, not-true, not-false}
@@ -10,74 +9,72 @@ use lib.ListN.{getD}
 use Rattle.numbers.specs.Decides.{Decides}
 use Rattle.numbers.specs.Limits.{VMS}
 use Rattle.model.specs.Views.{knows}
-use Rattle.homes.specs.Columns.{homeWord, Apart}
+use Rattle.homes.specs.Columns.{poolWord, sharedWord, Apart}
 use Rattle.homes.specs.WordLaws.{refuted, apart-decides}
 use Rattle.homes.specs.ColumnLaws.{Passing, NextGood, two-apart, pass-start, pass-next, pass-good, pass-end}
 use Rattle.homes.proofs.homes_good.Statement.{statement}
 use Rattle.homes.proofs.homes_good.Tie as tie
 
 abbrev Inv-loop : tie.InvT-loop
-Inv-loop sets known k all pool shared held₀ lent₀ vm₀ held lent vm = Passing known sets k vm held lent
+Inv-loop sets known k all pool shared held₀ dma-held₀ vm₀ held dma-held vm = Passing known sets k vm held dma-held
 
 abbrev μ-loop : tie.MeasureT-loop
-μ-loop sets known k all pool shared held₀ lent₀ vm₀ held lent vm = VMS - vm
+μ-loop sets known k all pool shared held₀ dma-held₀ vm₀ held dma-held vm = VMS - vm
 
 -- the words of the sets are of 64 bits
 fit : (c : tie.After-shared-slice-known Inv-loop μ-loop) → (i : ℕ) → getD (c .before .args .sets .now) i 0 < 2 ^ 64
 fit c i = omega (arith, c .shared-slice-known .given i)
 
 -- what the test of the pool and the span decides
-two : (c : tie.After-word-of2 Inv-loop μ-loop) →
+two : (c : tie.After-column-word2 Inv-loop μ-loop) →
     let a = c .before .before .before .args in
-    Decides (eqb (bitAnd (c .before .word-of .result) (c .word-of2 .result)) 0) (Apart (homeWord (a .sets .now) (a .k) 0) (homeWord (a .sets .now) (a .k) 1))
+    Decides (eqb (bitAnd (c .before .column-word .result) (c .column-word2 .result)) 0) (Apart (poolWord (a .sets .now) (a .k)) (sharedWord (a .sets .now) (a .k)))
 two c =
-    let f = homeWord (c .before .before .before .args .sets .now) (c .before .before .before .args .k) in
-    rw (c .before .word-of .ensures, c .word-of2 .ensures) (apart-decides (f 0) (f 1) (fit (c .before .before) _) (fit (c .before .before) _))
+    let small = fit (c .before .before) in
+    rw (c .before .column-word .ensures, c .column-word2 .ensures) (apart-decides _ _ (small _) (small _))
 
 -- and the test of a VM
 next : (c : tie.After-vm-good Inv-loop μ-loop) →
     let a = c .before .before .before .before .before .before .before .before .before .before .before .before .args in
     let now = c .before .before .before .before .before .before .before .loop in
-    Decides (c .vm-good .result) (NextGood (a .known) (a .sets .now) (a .k) (now .vm) (now .held) (now .lent))
+    Decides (c .vm-good .result) (NextGood (a .known) (a .sets .now) (a .k) (now .vm) (now .held) (now .dma-held))
 unfolding knows
 next c =
     rw (
       c .before .has-bit .ensures,
-      c .before .before .before .before .before .before .before .before .before .before .word-of .ensures,
-      c .before .before .before .before .word-of3 .ensures,
+      c .before .before .before .before .before .before .before .before .before .before .column-word .ensures,
+      c .before .before .before .before .column-word3 .ensures,
       c .before .before .before .before .before .cpu-row .ensures,
-      c .before .before .word-of4 .ensures,
+      c .before .before .column-word4 .ensures,
       c .before .before .before .dma-row .ensures,
     ) at (c .vm-good .ensures)
 
-word-of-requires : tie.Need-word-of-requires Inv-loop μ-loop
-word-of-requires c κs = search needs
+column-word-requires : tie.Need-column-word-requires Inv-loop μ-loop
+column-word-requires c κs = search needs
 
-word-of-requires-2 : tie.Need-word-of-requires-2 Inv-loop μ-loop
-word-of-requires-2 c κs = search needs
+column-word-requires-2 : tie.Need-column-word-requires-2 Inv-loop μ-loop
+column-word-requires-2 c κs = search needs
 
 returns : tie.Need-returns Inv-loop μ-loop
 returns c =
-    let a = c .before .before .before .before .args in
-    refuted (two (c .before)) (ne-eqb _ 0 (c .if1 .taken)) (two-apart (a .known) (a .sets .now) (a .k) (fit (c .before .before .before)) (a .all))
+    refuted (two (c .before)) (ne-eqb _ 0 (c .if1 .taken)) (two-apart _ _ _ (fit (c .before .before .before)) _)
 
 loop-holds : tie.Need-loop-holds Inv-loop μ-loop
 loop-holds c =
-    let a = c .before .before .before .before .args in
-    rw (c .before .before .word-of .ensures, c .before .word-of2 .ensures)
-    (pass-start (a .known) (a .sets .now) (a .k) (fit (c .before .before .before)) (two (c .before) .sound (eq-eqb _ 0 (c .if1 .left))))
+    rw (c .before .before .column-word .ensures, c .before .column-word2 .ensures)
+    (pass-start _ _ _ (fit (c .before .before .before)) (two (c .before) .sound (eq-eqb _ 0 (c .if1 .left))))
 
 cpu-row-requires : tie.Need-cpu-row-requires Inv-loop μ-loop
 cpu-row-requires c κs = search needs
 
-word-of-requires-3 : tie.Need-word-of-requires-3 Inv-loop μ-loop
-word-of-requires-3 c κs = search needs
+column-word-requires-3 : tie.Need-column-word-requires-3 Inv-loop μ-loop
+column-word-requires-3 c κs = search needs
 
 dma-row-requires : tie.Need-dma-row-requires Inv-loop μ-loop
 dma-row-requires c κs = search needs
 
-word-of-requires-4 : tie.Need-word-of-requires-4 Inv-loop μ-loop
-word-of-requires-4 c κs = search needs
+column-word-requires-4 : tie.Need-column-word-requires-4 Inv-loop μ-loop
+column-word-requires-4 c κs = search needs
 
 has-bit-requires : tie.Need-has-bit-requires Inv-loop μ-loop
 has-bit-requires c κs = search needs
@@ -87,10 +84,8 @@ vm-good-requires c κs = search needs
 
 returns-2 : tie.Need-returns-2 Inv-loop μ-loop
 returns-2 c =
-    let a = c .before .before .before .before .before .before .before .before .before .before .before .before .before .args in
-    let now = c .before .before .before .before .before .before .before .before .loop in
-    refuted (next (c .before)) (not-true _ (c .if2 .taken))
-    (pass-good (a .known) (a .sets .now) (a .k) (now .vm) (now .held) (now .lent) (a .all) (now .inv) (c .before .before .before .before .before .before .before .loop-test .taken))
+    let turn = c .before .before .before .before .before .before .before in
+    refuted (next (c .before)) (not-true _ (c .if2 .taken)) (pass-good _ _ _ _ _ _ _ (turn .before .loop .inv) (turn .loop-test .taken))
 
 add-vm : tie.Need-add-vm Inv-loop μ-loop
 add-vm c = search needs
@@ -100,17 +95,18 @@ loop-less c = search needs
 
 loop-again : tie.Need-loop-again Inv-loop μ-loop
 loop-again c =
-    let a = c .before .before .before .before .before .before .before .before .before .before .before .before .before .args in
-    let now = c .before .before .before .before .before .before .before .before .loop in
-    rw (c .before .before .before .before .before .word-of3 .ensures, c .before .before .before .before .before .before .cpu-row .ensures, c .before .before .before .word-of4 .ensures, c .before .before .before .before .dma-row .ensures)
-    (pass-next (a .known) (a .sets .now) (a .k) (fit (c .before .before .before .before .before .before .before .before .before .before .before .before)) (now .vm) (now .held) (now .lent) (now .inv) (c .before .before .before .before .before .before .before .loop-test .taken)
-    (next (c .before) .sound (not-false _ (c .if2 .left))))
+    let turn = c .before .before .before .before .before .before .before in
+    let known = turn .before .before .before .before .before in
+    rw (
+      c .before .before .before .before .before .column-word3 .ensures,
+      c .before .before .before .before .before .before .cpu-row .ensures,
+      c .before .before .before .column-word4 .ensures,
+      c .before .before .before .before .dma-row .ensures,
+    )
+    (pass-next _ _ _ (fit known) _ _ _ (turn .before .loop .inv) (turn .loop-test .taken) (next (c .before) .sound (not-false _ (c .if2 .left))))
 
 returns-3 : tie.Need-returns-3 Inv-loop μ-loop
-returns-3 c =
-    let a = c .before .before .before .before .before .before .args in
-    let now = c .before .loop in
-    pass-end (a .known) (a .sets .now) (a .k) (now .vm) (now .held) (now .lent) (a .all) (now .inv) (c .loop-test .left)
+returns-3 c = pass-end _ _ _ _ _ _ _ (c .before .loop .inv) (c .loop-test .left)
 
 pub homes-good-spec : {M : Type 1} → statement M
 homes-good-spec =
@@ -118,14 +114,14 @@ homes-good-spec =
     (tie.spec
     Inv-loop
     μ-loop
-    word-of-requires
-    word-of-requires-2
+    column-word-requires
+    column-word-requires-2
     returns
     loop-holds
     cpu-row-requires
-    word-of-requires-3
+    column-word-requires-3
     dma-row-requires
-    word-of-requires-4
+    column-word-requires-4
     has-bit-requires
     vm-good-requires
     returns-2

@@ -1,11 +1,12 @@
 -- `homes::page_sets` meets its contract: the columns passed are good, and the page sets are good exactly where all are.
-use Prim.Native.Nat.{ℕ, _-_, _≤_, _<_}
-use mathlib.Core.Bool.{true, false}
-use mathlib.Core.Path.{refl, sym, _∙_}
+use Prim.Native.Nat.{ℕ, _-_, _^_, _≤_, _<_}
+use mathlib.Core.Path.{refl}
 use native.Mathlib.Omega.{arith}
 use borrow.Author.Count.{below-more}
 use borrow.Author.Needs.{needs}
 use borrow.Author.Tests.{not-true, not-false}
+use lib.ListN.{getD}
+use Rattle.numbers.specs.Decides.{Decides}
 use Rattle.numbers.specs.Limits.{SET-WORDS}
 use Rattle.homes.specs.Columns.{ColumnGood}
 use Rattle.homes.specs.WordLaws.{refuted}
@@ -20,6 +21,16 @@ Inv-loop sets pages shared-base shared-count known k₀ k =
 abbrev μ-loop : tie.MeasureT-loop
 μ-loop sets pages shared-base shared-count known k₀ k = SET-WORDS - k
 
+-- the words of the sets are of 64 bits
+fit : (c : tie.After-shared-slice-known Inv-loop μ-loop) → (i : ℕ) → getD (c .before .args .sets .now) i 0 < 2 ^ 64
+fit c i = omega (arith, c .shared-slice-known .given i)
+
+-- what the test of a column decides
+column : (c : tie.After-column-good Inv-loop μ-loop) →
+    let a = c .before .before .before .before .args in
+    Decides (c .column-good .result) (ColumnGood (a .pages) (a .shared-base) (a .shared-count) (a .known) (a .sets .now) (c .before .before .loop .k))
+column c = c .column-good .ensures
+
 loop-holds : tie.Need-loop-holds Inv-loop μ-loop
 loop-holds c = (omega arith, λ i h. absurd (omega arith))
 
@@ -28,10 +39,8 @@ column-good-requires c κs = search needs
 
 returns : tie.Need-returns Inv-loop μ-loop
 returns c =
-    let a = c .before .before .before .before .before .args in
-    let k = c .before .before .before .loop .k in
-    refuted (c .before .column-good .ensures) (not-true _ (c .if1 .taken))
-    (λ g. column-good (a .pages) (a .shared-base) (a .shared-count) (a .known) (a .sets .now) (omega arith) g k (omega arith) (λ i. omega (arith, c .before .before .before .before .shared-slice-known .given i)))
+    let known = c .before .before .before .before in
+    refuted (column (c .before)) (not-true _ (c .if1 .taken)) (λ g. column-good _ _ _ _ _ (omega arith) g _ (omega arith) (fit known))
 
 add-k : tie.Need-add-k Inv-loop μ-loop
 add-k c = search needs
@@ -42,14 +51,12 @@ loop-less c = search needs
 loop-again : tie.Need-loop-again Inv-loop μ-loop
 loop-again c =
     let now = c .before .before .before .loop in
-    (omega arith, below-more _ (now .k) (now .inv .1) (c .before .column-good .ensures .sound (not-false _ (c .if1 .left))))
+    (omega arith, below-more _ (now .k) (now .inv .1) (column (c .before) .sound (not-false _ (c .if1 .left))))
 
 returns-2 : tie.Need-returns-2 Inv-loop μ-loop
 returns-2 c =
-    let a = c .before .before .before .args in
-    let now = c .before .loop in
     record {
-      sound = λ t. pages-good (a .pages) (a .shared-base) (a .shared-count) (a .known) (a .sets .now) (λ k h. now .inv .1 k (omega arith)) (omega arith);
+      sound = λ t. pages-good _ _ _ _ _ (λ k h. c .before .loop .inv .1 k (omega arith)) (omega arith);
       complete = λ g. refl;
     }
 

@@ -7,7 +7,7 @@ use Rattle.homes.proofs.vm_good.Tie as tie
 returns : tie.Need-returns
 returns c =
     let a = c .args in
-    vm-decides (a .known) (a .pool) (a .held) (a .lent) (a .cpu) (a .dma) (omega arith) (omega arith) (omega arith) (omega arith) (omega arith)
+    vm-decides (a .known) (a .pool) (a .held) (a .dma-held) (a .cpu) (a .dma) (omega arith) (omega arith) (omega arith) (omega arith) (omega arith)
 
 pub vm-good-spec : {M : Type 1} → statement M
 vm-good-spec = tie.close (tie.spec returns)
