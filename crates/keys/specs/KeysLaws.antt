@@ -6,7 +6,8 @@ use mathlib.Core.Logic.{_⊎_, inl, inr, ⊎-elim}
 use mathlib.Core.Path.{_≡_, refl, sym, ap, _∙_}
 use native.Mathlib.Omega.{arith}
 use lib.Dec.{eqb, ltb}
-use lib.ListN.{length, getD}
+use lib.ListN.{length, getD, set, length-set}
+use lib.Seq.{getD-set-same, getD-set-other}
 use borrow.Author.Tests.{eq-eqb, ne-eqb, eqb-true, eqb-false, ltb-true, ltb-false}
 use Rattle.numbers.specs.Decides.{Decides}
 use Rattle.numbers.specs.Packing.{portOf, vmOf, guestOf, entryOf, filledOf, keyOf, addressOf}
@@ -16,29 +17,8 @@ use Rattle.table.specs.Table.{Has, Distinct, find, lookup}
 use Rattle.table.specs.TableLaws.{find-at, find-none, lookup-has, has-lookup}
 use Rattle.table.specs.declared.Found.the-variants.{At, Nothing}
 use Rattle.model.specs.Valid.{SameMap}
-use Rattle.keys.specs.Keys.{
-  CLASSES,
-  PLACES,
-  classOf,
-  lowOf,
-  mapWordOf,
-  PackedWord,
-  Packed,
-  Filled,
-  Agreement,
-  SlotsHeld,
-  Held,
-  InClass,
-  ClassOnce,
-  ClassWithin,
-  ClassHeld,
-  NewKey,
-  Links,
-  Blank,
-  Entered,
-  Tested,
-}
-use Rattle.keys.specs.ChainLaws.{class-small, low-small, Chain, Standing, walk-start, walk-next, walk-seen}
+use Rattle.keys.specs.Keys.{CLASSES, PLACES, classOf, lowOf, mapWordOf, PackedWord, Packed, Filled, Agreement, SlotsHeld, Held, InClass, Each, ClassOnce, ClassWithin, ClassAgree, ClassHeld, NewKey, Links, Blank, Inside, Shown, Shows, Entered, Matched, NoneLeft, Tested}
+use Rattle.keys.specs.ChainLaws.{class-small, low-small, low-room, Chain, Standing, walk-start, walk-next, walk-less, walk-seen}
 
 -- ---- exact tests
 pub yes : {P : Type 0} → P → Decides true P
@@ -91,10 +71,6 @@ packed-whole w r =
 packed-key : (u w : ℕ) → PackedWord u → PackedWord w → classOf u ≡ classOf w → lowOf u ≡ lowOf w → keyOf u ≡ keyOf w
 packed-key u w r s e f = omega (arith, packed-whole u r, packed-whole w s)
 
--- and what it holds as a slot is itself
-packed-own : (w : ℕ) → PackedWord w → mapWordOf w ≡ w
-packed-own w r = omega (arith, r .port)
-
 -- a filled slot holds no empty word
 filled-own : (w : ℕ) → filledOf w ≡ 1 → mapWordOf w ≡ 0 → ⊥
 filled-own w f e = omega arith
@@ -106,68 +82,230 @@ class-has ws c i r = record { spot = i; within = r .within; holds = refl; filled
 has-class : (ws : List ℕ) (w c : ℕ) (r : Has ws w) → classOf w ≡ c → InClass ws c (r .spot)
 has-class ws w c r e = record { within = r .within; filled = λ z. r .filled (sym (r .holds) ∙ z); class = rw (r .holds) e }
 
--- ---- a slot of the class against the table of places
-module _ (map place : List ℕ) (slot : ℕ) (t : Entered map (classOf slot) 0 place) where
-  -- a word that the map has stands where the slot is looked for
-  word-there : (r : Has map (mapWordOf slot)) → getD place (lowOf slot) 0 ≡ suc (r .spot)
-  word-there r =
-      let e : lowOf (getD map (r .spot) 0) ≡ lowOf slot = rw (r .holds) (address-low (mapWordOf slot) slot (address-kept slot)) in
-      ap (λ l. getD place l 0) (sym e)
-      ∙ t .there (r .spot) (omega arith) (has-class map (mapWordOf slot) (classOf slot) r (address-class (mapWordOf slot) slot (address-kept slot)))
+-- ---- a word against the table of places
+pub shows-inside : (map place : List ℕ) (c : ℕ) (P : ℕ → Type 0) → Shows map c P place → Inside map place
+shows-inside map place c P t = record { size = t .size; within = λ l p h e. t .only l p h e .0 .within }
 
-  pub word-none : getD place (lowOf slot) 0 ≡ 0 → Has map (mapWordOf slot) → ⊥
-  word-none z r = omega (arith, word-there r)
+module _ (map place : List ℕ) (w there : ℕ) (t : Inside map place) (e : getD place (lowOf w) 0 ≡ there) (n : there ≡ 0 → ⊥) where
+  pub shown-place : there - 1 < length map
+  shown-place = t .within (lowOf w) (there - 1) (low-small w) (omega arith)
 
-  module _ (there : ℕ) (e : getD place (lowOf slot) 0 ≡ there) (n : there ≡ 0 → ⊥) where
-    pub word-place : InClass map (classOf slot) (there - 1)
-    word-place = t .shows .only (lowOf slot) (there - 1) (low-small slot) (omega arith) .0
-
-    pub word-here : Decides (eqb (getD map (there - 1) 0) (mapWordOf slot)) (Has map (mapWordOf slot))
-    word-here =
-        record {
-          sound = λ q. record { spot = there - 1; within = word-place .within; holds = eqb-true _ _ q; filled = λ z. word-place .filled (eqb-true _ _ q ∙ z) };
-          complete = λ r. let s : there - 1 ≡ r .spot = omega (arith, word-there r) in rw s (eq-eqb _ _ (r .holds));
-        }
-
--- ---- the walk over the slots of a class: each that it has passed is in the map
-pub record Passing (slots map : List ℕ) (c at : ℕ) : Type 0 where
-  pub standing : Standing slots c at
-  pub passed : (k : ℕ) → at ≤ k → InClass slots c k → Has map (mapWordOf (getD slots k 0))
-
-module _ (slots map next : List ℕ) (c : ℕ) where
-  pub pass-start : (from : ℕ) → Chain slots next c from → Passing slots map c from
-  pass-start from r = record { standing = walk-start slots next c from r; passed = λ k a q. absurd (r .head .none k a (q .within) q) }
-
-  pub pass-next : (at : ℕ) → Links slots next (length slots) → Passing slots map c at → (at ≡ 0 → ⊥) → Has map (mapWordOf (getD slots (at - 1) 0)) → Passing slots map c (getD next (at - 1) 0)
-  pass-next at l r n h =
+  pub shown-test : Decides (eqb (getD map (there - 1) 0) w) (Shown map place w)
+  shown-test =
       record {
-        standing = walk-next slots next c at l (r .standing) n;
-        passed = λ k a q. ⊎-elim (λ e. rw e h) (λ d. r .passed k (walk-seen slots next c at l (r .standing) n k a q d) q) (equal k (at - 1));
+        sound = λ q. record { spot = there - 1; there = omega arith; holds = eqb-true _ _ q };
+        complete = λ s. let i : there - 1 ≡ s .spot = omega arith in rw i (eq-eqb _ _ (s .holds));
       }
 
-pub pass-end : (slots map : List ℕ) (c : ℕ) → Passing slots map c 0 → ClassWithin slots map c
-unfolding ClassWithin
-pass-end slots map c r i q = r .passed i (omega arith) q
+pub shown-none : (map place : List ℕ) (w : ℕ) → getD place (lowOf w) 0 ≡ 0 → Shown map place w → ⊥
+shown-none map place w z s = omega arith
 
-pub pass-fails : (slots map : List ℕ) (c i : ℕ) → InClass slots c i → (Has map (mapWordOf (getD slots i 0)) → ⊥) → ClassWithin slots map c → ⊥
-unfolding ClassWithin
-pass-fails slots map c i q n w = n (w i q)
+pub shown-has : (map place : List ℕ) (c w : ℕ) (P : ℕ → Type 0) → Shows map c P place → Shown map place w → Has map w
+shown-has map place c w P t s =
+    let r = t .only (lowOf w) (s .spot) (low-small w) (s .there) .0 in
+    record { spot = s .spot; within = r .within; holds = s .holds; filled = λ z. r .filled (s .holds ∙ z) }
+
+-- what is entered is shown
+pub has-shown : (map place : List ℕ) (c w : ℕ) → Entered map c 0 place → classOf w ≡ c → Has map w → Shown map place w
+has-shown map place c w t e r =
+    record { spot = r .spot; there = rw (r .holds) at (t .there (r .spot) (omega arith) (has-class map w c r e)); holds = r .holds }
+
+-- ---- a walk over a class: each place that it has passed meets Q
+pub record Passing (ws : List ℕ) (c : ℕ) (Q : ℕ → Type 0) (at : ℕ) : Type 0 where
+  pub standing : Standing ws c at
+  pub passed : (k : ℕ) → at ≤ k → InClass ws c k → Q k
+
+module _ (ws next : List ℕ) (c : ℕ) (Q : ℕ → Type 0) where
+  pub pass-start : (from : ℕ) → Chain ws next c from → Passing ws c Q from
+  pass-start from r = record { standing = walk-start ws next c from r; passed = λ k a q. absurd (r .head .none k a (q .within) q) }
+
+  pub pass-next : (at : ℕ) → Links ws next (length ws) → Passing ws c Q at → (at ≡ 0 → ⊥) → Q (at - 1) → Passing ws c Q (getD next (at - 1) 0)
+  pass-next at l r n h =
+      record {
+        standing = walk-next ws next c at l (r .standing) n;
+        passed = λ k a q. ⊎-elim (λ e. rw e h) (λ d. r .passed k (walk-seen ws next c at l (r .standing) n k a q d) q) (equal k (at - 1));
+      }
+
+module _ (ws : List ℕ) (c : ℕ) (Q : ℕ → Type 0) where
+  pub pass-end : Passing ws c Q 0 → Each ws c Q
+  unfolding Each
+  pass-end r i q = r .passed i (omega arith) q
+
+  pub pass-fails : (i : ℕ) → InClass ws c i → (Q i → ⊥) → Each ws c Q → ⊥
+  unfolding Each
+  pass-fails i q n all = n (all i q)
+
+-- ---- the words of map and walker, taken out one by one
+module _ (map walker place : List ℕ) (c : ℕ) where
+  pub match-start : (next : List ℕ) (from : ℕ) → Chain walker next c from → Entered map c 0 place → Matched map walker c from place
+  match-start next from r t =
+      record {
+        shows = record { size = t .shows .size; only = λ l p h e. let s = t .shows .only l p h e in (s .0, s .1, λ j a q. absurd (none j a q)) };
+        there = λ k q. inl (t .there k (omega arith) q);
+        within = λ j a q. absurd (none j a q);
+        once = λ i j a h q. absurd (none i a q);
+      }
+    where
+      none : (j : ℕ) → from ≤ j → InClass walker c j → ⊥
+      none j a q = r .head .none j a (q .within) q
+
+  module _ (at : ℕ) (t : Matched map walker c at place) (own : InClass walker c (at - 1)) (n : at ≡ 0 → ⊥) where
+    -- a word that is not there is not in the map, or was taken before
+    pub match-fails : (Shown map place (getD walker (at - 1) 0) → ⊥) → ClassAgree map walker c → ⊥
+    unfolding Each ClassOnce
+    match-fails no a =
+        let r = a .walker-within (at - 1) own in
+        ⊎-elim (λ e. no (record { spot = r .spot; there = rw (r .holds) at e; holds = r .holds }))
+        (λ (j, h, q, e). a .walker-once (at - 1) j (omega arith) own q (ap lowOf (sym (e ∙ r .holds))))
+        (t .there (r .spot) (has-class map (getD walker (at - 1) 0) c r (own .class)))
+
+    module _ (next : List ℕ) (l : Links walker next (length walker)) (r : Standing walker c at) (s : Shown map place (getD walker (at - 1) 0)) where
+      abbrev low : ℕ
+      low = lowOf (getD walker (at - 1) 0)
+
+      -- the place that shows the word is of its low bits, and no word before was
+      alone : (j : ℕ) → at ≤ j → InClass walker c j → lowOf (getD walker j 0) ≡ low → ⊥
+      alone j a q e =
+          let o = t .shows .only low (s .spot) (low-small _) (s .there) in
+          o .2 j a q (e ∙ sym (o .1))
+
+      pub match-next : Matched map walker c (getD next (at - 1) 0) (set place (lowOf (getD walker (at - 1) 0)) 0)
+      match-next = record { shows = record { size = length-set place low 0 ∙ t .shows .size; only = only }; there = there; within = within; once = once }
+        where
+          less : getD next (at - 1) 0 < at
+          less = walk-less walker next c at l r n
+
+          seen : (j : ℕ) → getD next (at - 1) 0 ≤ j → InClass walker c j → (j ≡ at - 1 → ⊥) → at ≤ j
+          seen = walk-seen walker next c at l r n
+
+          only : (i p : ℕ) → i < PLACES → getD (set place low 0) i 0 ≡ suc p → InClass map c p × (lowOf (getD map p 0) ≡ i) × ((j : ℕ) → getD next (at - 1) 0 ≤ j → InClass walker c j → lowOf (getD walker j 0) ≡ lowOf (getD map p 0) → ⊥)
+          only i p h e = ⊎-elim (λ q. absurd (omega (arith, getD-set-same place low 0 0 (low-room place _ (t .shows .size)), rw q at e))) old (equal i low)
+            where
+              old : (i ≡ low → ⊥) → InClass map c p × (lowOf (getD map p 0) ≡ i) × ((j : ℕ) → getD next (at - 1) 0 ≤ j → InClass walker c j → lowOf (getD walker j 0) ≡ lowOf (getD map p 0) → ⊥)
+              old d =
+                  let o = t .shows .only i p h (sym (getD-set-other place low i 0 0 d) ∙ e) in
+                  (o .0, o .1, λ j a q f. ⊎-elim (λ z. d (sym (rw z at f ∙ o .1))) (λ z. o .2 j (seen j a q z) q f) (equal j (at - 1)))
+
+          there : (k : ℕ) → InClass map c k → (getD (set place low 0) (lowOf (getD map k 0)) 0 ≡ suc k) ⊎ ((j : ℕ) × (getD next (at - 1) 0 ≤ j) × InClass walker c j × (getD walker j 0 ≡ getD map k 0))
+          there k q = ⊎-elim stands (λ (j, a, b, e). inr (j, omega (arith, less), b, e)) (t .there k q)
+            where
+              stands : getD place (lowOf (getD map k 0)) 0 ≡ suc k → (getD (set place low 0) (lowOf (getD map k 0)) 0 ≡ suc k) ⊎ ((j : ℕ) × (getD next (at - 1) 0 ≤ j) × InClass walker c j × (getD walker j 0 ≡ getD map k 0))
+              stands e =
+                  ⊎-elim (λ z. let o : s .spot ≡ k = omega (arith, rw z at e, s .there) in inr (at - 1, omega (arith, less), own, sym (rw o at (s .holds))))
+                  (λ d. inl (getD-set-other place low (lowOf (getD map k 0)) 0 0 d ∙ e))
+                  (equal (lowOf (getD map k 0)) low)
+
+          within : (j : ℕ) → getD next (at - 1) 0 ≤ j → InClass walker c j → Has map (getD walker j 0)
+          within j a q = ⊎-elim (λ z. rw z (shown-has map place c (getD walker (at - 1) 0) _ (t .shows) s)) (λ d. t .within j (seen j a q d) q) (equal j (at - 1))
+
+          once : (i j : ℕ) → getD next (at - 1) 0 ≤ i → i < j → InClass walker c i → InClass walker c j → lowOf (getD walker i 0) ≡ lowOf (getD walker j 0) → ⊥
+          once i j a h q b e = ⊎-elim (λ z. alone j (omega arith) b (sym (rw z at e))) (λ d. t .once i j (seen i a q d) h q b e) (equal i (at - 1))
+
+  -- ---- what is left
+  module _ (t : Matched map walker c 0 place) where
+    -- where the two agree nothing is
+    pub agree-none : ClassAgree map walker c → NoneLeft map c place
+    unfolding Each
+    agree-none a k q = ⊎-elim (λ z. z) (λ n. absurd (stays n)) (equal (getD place (lowOf (getD map k 0)) 0) 0)
+      where
+        stays : (getD place (lowOf (getD map k 0)) 0 ≡ 0 → ⊥) → ⊥
+        stays n =
+            let r = a .map-within k q in
+            let o = t .shows .only (lowOf (getD map k 0)) (getD place (lowOf (getD map k 0)) 0 - 1) (low-small _) (omega arith) in
+            o .2 (r .spot) (omega arith) (has-class walker (getD map k 0) c r (q .class)) (ap lowOf (r .holds) ∙ sym (o .1))
+
+    pub none-agree : ClassOnce map c → NoneLeft map c place → ClassAgree map walker c
+    unfolding Each ClassOnce
+    none-agree m out =
+        record {
+          map-once = m;
+          walker-once = λ i j h. t .once i j (omega arith) h;
+          map-within = λ k q. ⊎-elim (λ e. absurd (omega (arith, out k q))) (λ (j, a, b, e). record { spot = j; within = b .within; holds = e; filled = q .filled }) (t .there k q);
+          walker-within = λ j q. t .within j (omega arith) q;
+        }
+
+    pub none-blank : NoneLeft map c place → Blank place
+    unfolding Each
+    none-blank out =
+        record {
+          size = t .shows .size;
+          zero = λ l h. ⊎-elim (λ z. z) (λ n. let o = t .shows .only l (getD place l 0 - 1) h (omega arith) in absurd (n (rw (o .1) at (out _ (o .0))))) (equal (getD place l 0) 0);
+        }
 
 -- ---- all classes
-module _ (slots map : List ℕ) (packed : Packed map) where
-  classes-once : ((c : ℕ) → c < CLASSES → ClassHeld slots map c) → Distinct keyOf map
-  unfolding Distinct ClassOnce
-  classes-once all i j h l e = ⊎-elim (λ z. z) twice (equal (keyOf (getD map j 0)) 0)
-    where
-      twice : (keyOf (getD map j 0) ≡ 0 → ⊥) → keyOf (getD map j 0) ≡ 0
-      twice n =
-          let a = key-address (getD map i 0) (getD map j 0) e in
-          absurd
-          (all (classOf (getD map j 0)) (class-small _) .once i j h
-          (record { within = omega arith; filled = λ z. n (omega (arith, z, e)); class = address-class _ _ a })
-          (record { within = l; filled = λ z. n (omega (arith, z)); class = refl })
-          (address-low _ _ a))
+once-classes : (ws : List ℕ) → ((c : ℕ) → c < CLASSES → ClassOnce ws c) → Distinct keyOf ws
+unfolding Distinct ClassOnce
+once-classes ws all i j h l e = ⊎-elim (λ z. z) twice (equal (keyOf (getD ws j 0)) 0)
+  where
+    twice : (keyOf (getD ws j 0) ≡ 0 → ⊥) → keyOf (getD ws j 0) ≡ 0
+    twice n =
+        let a = key-address (getD ws i 0) (getD ws j 0) e in
+        absurd
+        (all (classOf (getD ws j 0)) (class-small _) i j h
+        (record { within = omega arith; filled = λ z. n (omega (arith, z, e)); class = address-class _ _ a })
+        (record { within = l; filled = λ z. n (omega (arith, z)); class = refl })
+        (address-low _ _ a))
 
+once-class : (ws : List ℕ) → Packed ws → Distinct keyOf ws → (c : ℕ) → ClassOnce ws c
+unfolding Packed Distinct ClassOnce
+once-class ws packed d c i j h a b e =
+    let p = packed (getD ws i 0) (class-has ws c i a) in
+    let q = packed (getD ws j 0) (class-has ws c j b) in
+    let k = packed-key (getD ws i 0) (getD ws j 0) p q (a .class ∙ sym (b .class)) e in
+    omega (arith, d i j h (b .within) k, key-filled (getD ws j 0) (q .filled))
+
+-- what each class says of its words is said of each word
+each-word : (ws : List ℕ) (P : ℕ → Type 0) → ((c : ℕ) → c < CLASSES → Each ws c (λ i. P (getD ws i 0))) → (w : ℕ) → Has ws w → P w
+unfolding Each
+each-word ws P all w r = rw (r .holds) at (all (classOf w) (class-small w) (r .spot) (has-class ws w (classOf w) r refl))
+
+-- ---- a map that has each word of another
+module _ (some map : List ℕ) (packed : Packed some) where
+  within-lookup : Distinct keyOf map → ((w : ℕ) → Has some w → Has map w) → (k : ℕ) → (lookup keyOf some k ≡ 0 → ⊥) → lookup keyOf map k ≡ lookup keyOf some k
+  unfolding Packed
+  within-lookup d all k n =
+      let (r, e) = lookup-has keyOf some k n in
+      let w = lookup keyOf some k in
+      ap (lookup keyOf map) (sym e) ∙ has-lookup keyOf map w d (all w r) (key-filled w (packed w r .filled))
+
+  lookup-within : Distinct keyOf some → SameMap some map → (c : ℕ) → ClassWithin some map c
+  unfolding Packed SameMap Each
+  lookup-within d same c i q =
+      let w = getD some i 0 in
+      let r = class-has some c i q in
+      let o = key-filled w (packed w r .filled) in
+      let e : lookup keyOf map (keyOf w) ≡ w = sym (same (keyOf w) o) ∙ has-lookup keyOf some w d r o in
+      rw e at (lookup-has keyOf map (keyOf w) (λ z. q .filled (sym e ∙ z)) .0)
+
+module _ (map walker : List ℕ) (p : Packed map) (q : Packed walker) where
+  pub agree-classes : ((c : ℕ) → c < CLASSES → ClassAgree map walker c) → Agreement map walker
+  unfolding SameMap
+  agree-classes all = record { map-once = m; walker-once = w; same = same }
+    where
+      m : Distinct keyOf map
+      m = once-classes map (λ c h. all c h .map-once)
+
+      w : Distinct keyOf walker
+      w = once-classes walker (λ c h. all c h .walker-once)
+
+      same : (k : ℕ) → 0 < k → lookup keyOf map k ≡ lookup keyOf walker k
+      same k o =
+          ⊎-elim (λ z. ⊎-elim (λ y. z ∙ sym y) (within-lookup walker map q m (each-word walker (Has map) (λ c h. all c h .walker-within)) k) (equal (lookup keyOf walker k) 0))
+          (λ n. sym (within-lookup map walker p w (each-word map (Has walker) (λ c h. all c h .map-within)) k n))
+          (equal (lookup keyOf map k) 0)
+
+  pub agree-class : Agreement map walker → (c : ℕ) → ClassAgree map walker c
+  unfolding SameMap
+  agree-class a c =
+      record {
+        map-once = once-class map p (a .map-once) c;
+        walker-once = once-class walker q (a .walker-once) c;
+        map-within = lookup-within map walker p (a .map-once) (a .same) c;
+        walker-within = lookup-within walker map q (a .walker-once) (λ k o. sym (a .same k o)) c;
+      }
+
+-- ---- a map that has the word that each slot holds
+module _ (slots map : List ℕ) (packed : Packed map) where
   has-held : (w : ℕ) → Distinct keyOf map → Has map (mapWordOf w) → lookup keyOf map (addressOf w) ≡ mapWordOf w
   unfolding Packed
   has-held w d r =
@@ -176,20 +314,14 @@ module _ (slots map : List ℕ) (packed : Packed map) where
       ∙ has-lookup keyOf map (mapWordOf w) d r (key-filled (mapWordOf w) (p .filled))
 
   pub held-classes : ((c : ℕ) → c < CLASSES → ClassHeld slots map c) → Held slots map
-  unfolding ClassWithin
-  held-classes all = let d = classes-once all in record { once = d; each = λ w r. has-held w d (rw (r .holds) at (all (classOf w) (class-small w) .each (r .spot) (has-class slots w (classOf w) r refl))) }
+  held-classes all =
+      let d = once-classes map (λ c h. all c h .once) in
+      record { once = d; each = λ w r. has-held w d (each-word slots (λ s. Has map (mapWordOf s)) (λ c h. all c h .each) w r) }
 
   pub held-class : Filled slots → Held slots map → (c : ℕ) → ClassHeld slots map c
-  unfolding Packed Filled Distinct ClassOnce ClassWithin
-  held-class filled t c = record { once = once; each = each }
+  unfolding Filled Each
+  held-class filled t c = record { once = once-class map packed (t .once) c; each = each }
     where
-      once : (i j : ℕ) → i < j → InClass map c i → InClass map c j → lowOf (getD map i 0) ≡ lowOf (getD map j 0) → ⊥
-      once i j h a b e =
-          let p = packed (getD map i 0) (class-has map c i a) in
-          let q = packed (getD map j 0) (class-has map c j b) in
-          let k = packed-key (getD map i 0) (getD map j 0) p q (a .class ∙ sym (b .class)) e in
-          omega (arith, t .once i j h (b .within) k, key-filled (getD map j 0) (q .filled))
-
       each : (i : ℕ) → InClass slots c i → Has map (mapWordOf (getD slots i 0))
       each i r =
           let w = getD slots i 0 in
@@ -197,47 +329,9 @@ module _ (slots map : List ℕ) (packed : Packed map) where
           let e = t .each w h in
           rw e at (lookup-has keyOf map (addressOf w) (λ z. filled-own w (filled w h) (sym e ∙ z)) .0)
 
--- ---- two maps
-pub packed-filled : (ws : List ℕ) → Packed ws → Filled ws
-unfolding Packed Filled
-packed-filled ws p w r = p w r .filled
-
--- what one map has of a key, the other has
-held-lookup : (some map : List ℕ) → Packed some → Held some map → (k : ℕ) → (lookup keyOf some k ≡ 0 → ⊥) → lookup keyOf map k ≡ lookup keyOf some k
-unfolding Packed
-held-lookup some map packed t k n =
-    let (r, e) = lookup-has keyOf some k n in
-    let w = lookup keyOf some k in
-    let p = packed w r in
-    ap (lookup keyOf map) (sym e ∙ sym (address-key w (p .port))) ∙ t .each w r ∙ packed-own w p
-
-same-held : (some map : List ℕ) → Packed some → Distinct keyOf some → Distinct keyOf map → SameMap some map → Held some map
-unfolding Packed SameMap
-same-held some map packed d once same = record { once = once; each = each }
-  where
-    each : (w : ℕ) → Has some w → lookup keyOf map (addressOf w) ≡ mapWordOf w
-    each w r =
-        let p = packed w r in
-        let o = key-filled w (p .filled) in
-        ap (lookup keyOf map) (address-key w (p .port)) ∙ sym (same (keyOf w) o) ∙ has-lookup keyOf some w d r o ∙ sym (packed-own w p)
-
-module _ (map walker : List ℕ) (p : Packed map) (q : Packed walker) where
-  pub held-agree : Held walker map → Held map walker → Agreement map walker
-  unfolding SameMap
-  held-agree s t = record { map-once = s .once; walker-once = t .once; same = same }
-    where
-      same : (k : ℕ) → 0 < k → lookup keyOf map k ≡ lookup keyOf walker k
-      same k o =
-          ⊎-elim (λ z. ⊎-elim (λ y. z ∙ sym y) (held-lookup walker map q s k) (equal (lookup keyOf walker k) 0))
-          (λ n. sym (held-lookup map walker p t k n))
-          (equal (lookup keyOf map k) 0)
-
-  pub agree-map : Agreement map walker → Held map walker
-  agree-map a = same-held map walker p (a .map-once) (a .walker-once) (a .same)
-
-  pub agree-walker : Agreement map walker → Held walker map
-  unfolding SameMap
-  agree-walker a = same-held walker map q (a .walker-once) (a .map-once) (λ k o. sym (a .same k o))
+-- the low bits of the word that a slot holds are the slot's, and so is its class
+pub slot-class : (w : ℕ) → classOf (mapWordOf w) ≡ classOf w
+slot-class w = address-class (mapWordOf w) w (address-kept w)
 
 -- ---- one place after the other, each the first of its key
 module _ (ws : List ℕ) (i : ℕ) (h : i < length ws) where

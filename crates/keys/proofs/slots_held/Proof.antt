@@ -51,7 +51,7 @@ held-requires c κs = (c .before .before .before .before .before .before .before
 
 returns-2 : tie.Need-returns-2
 returns-2 c =
-    let d = c .before .held .ensures .answer in
+    let d = c .before .held .ensures in
     record {
       sound = λ z. record { each = d .sound z .each; once = c .before .before .before .before .before .before .before .before .before .before .before .before .before .before .before .before .before .before .once .ensures .sound (not-false _ (c .before .before .before .before .before .before .before .before .before .before .before .before .before .before .before .before .before .if1 .left)) };
       complete = λ a. d .complete (record { once = c .before .before .before .before .before .before .before .before .before .before .before .before .before .before .before .before .before .before .before .before .before .pre .3; each = a .each });
