@@ -145,10 +145,17 @@ pub record Entered (ws : List ℕ) (c at : ℕ) (place : List ℕ) : Type 0 wher
   pub shows : Shows ws c (λ p. at ≤ p) place
   pub there : (k : ℕ) → at ≤ k → InClass ws c k → getD place (lowOf (getD ws k 0)) 0 ≡ suc k
 
+-- from `at` on the walker has no word with the low bits of the map's place p, or has the word of it
+abbrev pub Unseen : List ℕ → List ℕ → ℕ → ℕ → ℕ → Type 0
+Unseen map walker c at p = (j : ℕ) → at ≤ j → InClass walker c j → lowOf (getD walker j 0) ≡ lowOf (getD map p 0) → ⊥
+
+abbrev pub Seen : List ℕ → List ℕ → ℕ → ℕ → ℕ → Type 0
+Seen map walker c at p = (j : ℕ) × (at ≤ j) × InClass walker c j × (getD walker j 0 ≡ getD map p 0)
+
 -- the map's places stand in it but for those whose words the walker has from `at` on, each once
 pub record Matched (map walker : List ℕ) (c at : ℕ) (place : List ℕ) : Type 0 where
-  pub shows : Shows map c (λ p. (j : ℕ) → at ≤ j → InClass walker c j → lowOf (getD walker j 0) ≡ lowOf (getD map p 0) → ⊥) place
-  pub there : (k : ℕ) → InClass map c k → (getD place (lowOf (getD map k 0)) 0 ≡ suc k) ⊎ ((j : ℕ) × (at ≤ j) × InClass walker c j × (getD walker j 0 ≡ getD map k 0))
+  pub shows : Shows map c (Unseen map walker c at) place
+  pub there : (k : ℕ) → InClass map c k → (getD place (lowOf (getD map k 0)) 0 ≡ suc k) ⊎ Seen map walker c at k
   pub within : (j : ℕ) → at ≤ j → InClass walker c j → Has map (getD walker j 0)
   pub once : (i j : ℕ) → at ≤ i → i < j → InClass walker c i → InClass walker c j → lowOf (getD walker i 0) ≡ lowOf (getD walker j 0) → ⊥
 

@@ -1,12 +1,12 @@
 // The keys of maps and caches: that none is there twice, that software map and walker are the same map, and that each slot
 // holds what the walker has. Linear in the tables whatever the keys are, since guests choose some of them.
 ghost use mathlib.Core.Path.{_≡_};
-ghost use Prim.Native.Nat.{_≤_, _<_, _+_};
-ghost use lib.ListN.{length, getD, replicate};
+ghost use Prim.Native.Nat.{_<_, _+_};
+ghost use lib.ListN.{length, replicate};
 ghost use Rattle.numbers.specs.Decides.{Decides};
 ghost use Rattle.numbers.specs.Limits.{ENTRIES, SLOTS};
 ghost use Rattle.numbers.specs.Packing.{keyOf};
-ghost use Rattle.table.specs.Table.{Has, Distinct};
+ghost use Rattle.table.specs.Table.{Distinct};
 ghost use Rattle.keys.specs.Keys.{CLASSES, PLACES, LINKS, classOf, lowOf, mapWordOf, Packed, Filled, Agreement, SlotsHeld, Held, ClassAgree, SlotsWithin, ClassHeld, NewKey, Chained, Blank, Inside, Shown, Entered, NoneLeft, Entering, Taking, Tested};
 use numbers::ENTRIES;
 use numbers::SLOTS;

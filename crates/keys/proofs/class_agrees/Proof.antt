@@ -1,8 +1,8 @@
 -- `keys::class_agrees` meets its contract.
 use borrow.Author.Needs.{needs}
 use borrow.Author.Tests.{not-true, not-false}
-use Rattle.keys.specs.ChainLaws.{enter-once}
-use Rattle.keys.specs.KeysLaws.{tested-no, agree-none, none-agree, none-blank}
+use Rattle.keys.specs.PlaceLaws.{enter-once, agree-none, none-agree, none-blank}
+use Rattle.keys.specs.KeysLaws.{tested-no}
 use Rattle.keys.proofs.class_agrees.Statement.{statement}
 use Rattle.keys.proofs.class_agrees.Tie as tie
 

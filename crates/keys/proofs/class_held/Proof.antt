@@ -1,7 +1,7 @@
 -- `keys::class_held` meets its contract.
 use borrow.Author.Needs.{needs}
 use borrow.Author.Tests.{not-true, not-false}
-use Rattle.keys.specs.ChainLaws.{enter-once}
+use Rattle.keys.specs.PlaceLaws.{enter-once}
 use Rattle.keys.specs.KeysLaws.{refuted, tested-yes, tested-no}
 use Rattle.keys.proofs.class_held.Statement.{statement}
 use Rattle.keys.proofs.class_held.Tie as tie

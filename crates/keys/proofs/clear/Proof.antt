@@ -2,7 +2,8 @@
 use borrow.Author.Needs.{needs}
 use Prim.Native.Nat.{_<_}
 use Rattle.keys.specs.Keys.{Shows}
-use Rattle.keys.specs.ChainLaws.{chain-of, Standing, walk-start, walk-next, walk-less, clear-start, clear-next, clear-end}
+use Rattle.keys.specs.ChainLaws.{chain-of, Standing, walk-start, walk-next, walk-less}
+use Rattle.keys.specs.PlaceLaws.{clear-start, clear-next, clear-end}
 use Rattle.keys.proofs.clear.Statement.{statement}
 use Rattle.keys.proofs.clear.Tie as tie
 

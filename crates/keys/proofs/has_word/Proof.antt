@@ -5,7 +5,8 @@ use mathlib.Core.Path.{_≡_, sym, _∙_}
 use native.Mathlib.Omega.{arith}
 use lib.ListN.{length, getD}
 use Rattle.keys.specs.Keys.{lowOf}
-use Rattle.keys.specs.KeysLaws.{no, shown-none, shown-place, shown-test}
+use Rattle.keys.specs.PlaceLaws.{shown-none, shown-place, shown-test}
+use Rattle.keys.specs.KeysLaws.{no}
 use Rattle.keys.proofs.has_word.Statement.{statement}
 use Rattle.keys.proofs.has_word.Tie as tie
 

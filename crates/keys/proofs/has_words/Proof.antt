@@ -5,8 +5,9 @@ use borrow.Author.Tests.{not-true, not-false}
 use lib.ListN.{getD}
 use Rattle.table.specs.Table.{Has}
 use Rattle.keys.specs.Keys.{mapWordOf}
-use Rattle.keys.specs.ChainLaws.{chain-of, walk-on, walk-less}
-use Rattle.keys.specs.KeysLaws.{yes, no, refuted, slot-class, shows-inside, shown-has, has-shown, Passing, pass-start, pass-next, pass-end, pass-fails}
+use Rattle.keys.specs.ChainLaws.{chain-of, walk-on, walk-less, Passing, pass-start, pass-next, pass-end, pass-fails}
+use Rattle.keys.specs.PlaceLaws.{shows-inside, shown-has, has-shown}
+use Rattle.keys.specs.KeysLaws.{yes, no, refuted, slot-class}
 use Rattle.keys.proofs.has_words.Statement.{statement}
 use Rattle.keys.proofs.has_words.Tie as tie
 

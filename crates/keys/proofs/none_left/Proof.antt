@@ -3,8 +3,8 @@ use borrow.Author.Needs.{needs}
 use mathlib.Core.Path.{_≡_}
 use lib.ListN.{getD}
 use Rattle.keys.specs.Keys.{lowOf}
-use Rattle.keys.specs.ChainLaws.{chain-of, walk-on, walk-less}
-use Rattle.keys.specs.KeysLaws.{yes, no, Passing, pass-start, pass-next, pass-end, pass-fails}
+use Rattle.keys.specs.ChainLaws.{chain-of, walk-on, walk-less, Passing, pass-start, pass-next, pass-end, pass-fails}
+use Rattle.keys.specs.KeysLaws.{yes, no}
 use Rattle.keys.proofs.none_left.Statement.{statement}
 use Rattle.keys.proofs.none_left.Tie as tie
 

@@ -1,7 +1,7 @@
 -- `keys::same_maps` meets its contract.
 use borrow.Author.Needs.{needs}
 use mathlib.Core.Path.{refl}
-use Rattle.keys.specs.ChainLaws.{blank-start}
+use Rattle.keys.specs.PlaceLaws.{blank-start}
 use Rattle.keys.proofs.same_maps.Statement.{statement}
 use Rattle.keys.proofs.same_maps.Tie as tie
 

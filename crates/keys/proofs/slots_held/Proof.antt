@@ -2,7 +2,7 @@
 use borrow.Author.Needs.{needs}
 use mathlib.Core.Path.{refl}
 use borrow.Author.Tests.{not-true, not-false}
-use Rattle.keys.specs.ChainLaws.{blank-start}
+use Rattle.keys.specs.PlaceLaws.{blank-start}
 use Rattle.keys.specs.KeysLaws.{no, refuted}
 use Rattle.keys.proofs.slots_held.Statement.{statement}
 use Rattle.keys.proofs.slots_held.Tie as tie

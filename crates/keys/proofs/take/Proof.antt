@@ -5,7 +5,8 @@ use mathlib.Core.Path.{sym}
 use borrow.Author.Tests.{not-true, not-false}
 use Rattle.keys.specs.Keys.{Matched}
 use Rattle.keys.specs.ChainLaws.{chain-of, Standing, walk-start, walk-on, walk-next, walk-less}
-use Rattle.keys.specs.KeysLaws.{refuted, shows-inside, match-start, match-fails, match-next}
+use Rattle.keys.specs.PlaceLaws.{shows-inside, match-start, match-fails, match-next}
+use Rattle.keys.specs.KeysLaws.{refuted}
 use Rattle.keys.proofs.take.Statement.{statement}
 use Rattle.keys.proofs.take.Tie as tie
 
