@@ -1,0 +1,4 @@
+-- What the parts of the test say, and the laws that put them together.
+pub mod DecideLaws
+pub mod Parts
+pub mod KnownLaws

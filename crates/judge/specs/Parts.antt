@@ -1,0 +1,30 @@
+-- What the parts of the test ask, where the model's rule names more than a part is handed.
+use Prim.Native.Nat.{ℕ, _+_, _*_, _≤_, _<_}
+use mathlib.Core.List.{List}
+use mathlib.Core.Path.{_≡_}
+use Rattle.numbers.specs.Limits.{PAGES, UNITS, ENTRIES, PAIRS, SLOTS, SETS, SET-WORDS}
+use Rattle.units.specs.declared.Unit.{Unit}
+use Rattle.model.specs.State.{Setup}
+
+-- ---- 1: the lengths of what is lent; units and ports have theirs by type
+pub record RouteSizes (m w c : ℕ) : Type 0 where
+  pub map : m ≡ ENTRIES
+  pub walker : w ≡ ENTRIES
+  pub cache : c ≡ SLOTS
+
+pub record Sizes (s p cm cw cc dm dw dc : ℕ) : Type 0 where
+  pub sets : s ≡ SETS * SET-WORDS
+  pub pairs : p ≡ PAIRS
+  pub cpu : RouteSizes cm cw cc
+  pub dma : RouteSizes dm dw dc
+
+-- ---- 2: the setup without its units, and the setup of these numbers and units
+pub record SetupNumbers (pages base count units : ℕ) : Type 0 where
+  pub some-pages : 0 < pages
+  pub most-pages : pages ≤ PAGES
+  pub shared : base + count ≤ pages
+  pub unit-count : units ≤ UNITS
+
+abbrev pub setupWith : ℕ → ℕ → ℕ → List Unit → ℕ → Setup
+setupWith pages base count units unit-count =
+    record { pages = pages; sharedBase = base; sharedCount = count; units = units; unitCount = unit-count }
