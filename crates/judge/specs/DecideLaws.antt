@@ -30,6 +30,12 @@ passed {r} d e = d .sound (not-false r e)
 pub decides-as : {r : Bool} {P Q : Type 0} → (P → Q) → (Q → P) → Decides r P → Decides r Q
 decides-as f g d = record { sound = λ e. f (d .sound e); complete = λ q. d .complete (g q) }
 
+-- two tests, each true where the other is
+pub same-answer : {a b : Bool} → (a ≡ true → b ≡ true) → (b ≡ true → a ≡ true) → a ≡ b
+same-answer {a = true} f g = sym (f refl)
+same-answer {a = false} {b = true} f g = g refl
+same-answer {a = false} {b = false} f g = refl
+
 -- ---- tests of numbers
 pub decides-same : (a b : ℕ) → Decides (eqb a b) (a ≡ b)
 decides-same a b = record { sound = eqb-true a b; complete = eq-eqb a b }

@@ -2,3 +2,7 @@
 pub mod DecideLaws
 pub mod Parts
 pub mod KnownLaws
+pub mod MoreLaws
+pub mod Sharing
+pub mod SharingLaws
+pub mod LentLaws

@@ -1,10 +1,13 @@
 -- What the parts of the test ask, where the model's rule names more than a part is handed.
 use Prim.Native.Nat.{ℕ, _+_, _*_, _≤_, _<_}
 use mathlib.Core.List.{List}
+use mathlib.Core.Bool.{true}
 use mathlib.Core.Path.{_≡_}
 use Rattle.numbers.specs.Limits.{PAGES, UNITS, ENTRIES, PAIRS, SLOTS, SETS, SET-WORDS}
+use Rattle.numbers.specs.Packing.{portOf, filledOf, vmOf, pageOf, accessOf, generationOf, leftOf, rightOf}
 use Rattle.units.specs.declared.Unit.{Unit}
 use Rattle.model.specs.State.{Setup}
+use Rattle.model.specs.Views.{knows}
 
 -- ---- 1: the lengths of what is lent; units and ports have theirs by type
 pub record RouteSizes (m w c : ℕ) : Type 0 where
@@ -28,3 +31,18 @@ pub record SetupNumbers (pages base count units : ℕ) : Type 0 where
 abbrev pub setupWith : ℕ → ℕ → ℕ → List Unit → ℕ → Setup
 setupWith pages base count units unit-count =
     record { pages = pages; sharedBase = base; sharedCount = count; units = units; unitCount = unit-count }
+
+-- ---- 5 and 6: what a pair's word and an entry's word have in common
+pub record Packed (pages known w : ℕ) : Type 0 where
+  pub port : portOf w ≡ 0
+  pub filled : filledOf w ≡ 1
+  pub page : pageOf w < pages
+  pub vm : knows known (vmOf w) ≡ true
+
+-- a pair's word, whoever owns its page
+pub record PairPacked (pages known w : ℕ) : Type 0 where
+  pub packed : Packed pages known w
+  pub access : accessOf w ≡ 0
+  pub generation : generationOf w ≡ 0
+  pub apart : leftOf w ≡ rightOf w → ⊥
+  pub right : knows known (rightOf w) ≡ true
