@@ -10,6 +10,7 @@ use borrow.Author.Tests.{eq-eqb, eqb-true, lt-ltb, ltb-true, le-leb, leb-true, n
 use lib.Dec.{eqb, ltb, leb}
 use lib.ListN.{length, getD}
 use Rattle.numbers.specs.Decides.{Decides}
+use Rattle.table.specs.ScanLaws.{equal}
 use Rattle.table.specs.Table.{Has}
 
 -- ---- an answer that is known
@@ -81,6 +82,13 @@ module _ {P : ℕ → Type 0} {n : ℕ} where
 -- ---- of every filled word of a table
 abbrev pub Filled : ℕ → Type 0
 Filled w = w ≡ 0 → ⊥
+
+pub decides-filled : (w : ℕ) {b : Bool} {P : Type 0} → Decides b P → Decides (eqb w 0 || b) (Filled w → P)
+decides-filled w {b} {P} d =
+    decides-as
+    (λ (e : (w ≡ 0) ⊎ P) f. ⊎-elim (λ z. absurd (f z)) (λ p. p) e)
+    (λ h. ⊎-elim (λ z. inl z) (λ f. inr (h f)) (equal w 0))
+    (decides-either (decides-same w 0) d)
 
 module _ (P : ℕ → Type 0) (ws : List ℕ) where
   -- what a loop over the places asks of the word at a place

@@ -2,8 +2,9 @@
 use Prim.Native.Nat.{ℕ, _+_, _*_, _≤_, _<_}
 use mathlib.Core.List.{List}
 use mathlib.Core.Bool.{true}
+use mathlib.Core.Logic.{_⊎_}
 use mathlib.Core.Path.{_≡_}
-use Rattle.numbers.specs.Limits.{PAGES, UNITS, ENTRIES, PAIRS, SLOTS, SETS, SET-WORDS}
+use Rattle.numbers.specs.Limits.{PAGES, UNITS, PORTS, IDLE, ENTRIES, PAIRS, SLOTS, SETS, SET-WORDS}
 use Rattle.numbers.specs.Packing.{portOf, filledOf, vmOf, pageOf, accessOf, generationOf, leftOf, rightOf}
 use Rattle.units.specs.declared.Unit.{Unit}
 use Rattle.model.specs.State.{Setup}
@@ -33,7 +34,7 @@ setupWith pages base count units unit-count =
     record { pages = pages; sharedBase = base; sharedCount = count; units = units; unitCount = unit-count }
 
 -- ---- 5 and 6: what a pair's word and an entry's word have in common
-pub record Packed (pages known w : ℕ) : Type 0 where
+pub record KnownWord (pages known w : ℕ) : Type 0 where
   pub port : portOf w ≡ 0
   pub filled : filledOf w ≡ 1
   pub page : pageOf w < pages
@@ -41,8 +42,16 @@ pub record Packed (pages known w : ℕ) : Type 0 where
 
 -- a pair's word, whoever owns its page
 pub record PairPacked (pages known w : ℕ) : Type 0 where
-  pub packed : Packed pages known w
+  pub word : KnownWord pages known w
   pub access : accessOf w ≡ 0
   pub generation : generationOf w ≡ 0
   pub apart : leftOf w ≡ rightOf w → ⊥
   pub right : knows known (rightOf w) ≡ true
+
+-- ---- 7 and 8: a slot, whatever the walker has; one port
+pub record SlotPacked (w : ℕ) : Type 0 where
+  pub port : portOf w < PORTS
+  pub filled : filledOf w ≡ 1
+
+abbrev pub PortGood : ℕ → ℕ → Type 0
+PortGood known vm = (vm ≡ IDLE) ⊎ (knows known vm ≡ true)

@@ -10,7 +10,7 @@ ghost use Rattle.model.specs.Valid.{PairGood};
 ghost use Rattle.judge.specs.Parts.{PairPacked};
 ghost use Rattle.judge.specs.Sharing.{OneOwner, borrowerOf, Marked, PairsJudged};
 use super::header::is_known;
-use super::words::packed;
+use super::words::known_word;
 use numbers::Side;
 use numbers::VmId;
 
@@ -24,7 +24,7 @@ fn packs_pair(w: u64, pages: u64, known: u64) -> bool
 {
     let left = numbers::left_of(w);
     let right = numbers::right_of(w);
-    packed(w, pages, known)
+    known_word(w, pages, known)
         & (numbers::access_of(w) == 0)
         & (numbers::generation_of(w) == 0)
         & !(left.0 == right.0)

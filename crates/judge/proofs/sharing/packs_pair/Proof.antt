@@ -9,8 +9,8 @@ left-of-requires c κs = search needs
 right-of-requires : tie.Need-right-of-requires
 right-of-requires c κs = search needs
 
-packed-requires : tie.Need-packed-requires
-packed-requires c κs = search needs
+known-word-requires : tie.Need-known-word-requires
+known-word-requires c κs = search needs
 
 access-of-requires : tie.Need-access-of-requires
 access-of-requires c κs = search needs
@@ -25,9 +25,9 @@ returns : tie.Need-returns
 returns c =
     rw (c .before .before .before .before .access-of .ensures, c .before .before .before .generation-of .ensures, c .is-known .ensures, c .before .before .before .before .before .before .before .left-of .ensures, c .before .before .before .before .before .before .right-of .ensures)
     (decides-as
-    (λ p. record { packed = p .0 .0 .0 .0; access = p .0 .0 .0 .1; generation = p .0 .0 .1; apart = p .0 .1; right = p .1 })
-    (λ w. ((((w .packed, w .access), w .generation), w .apart), w .right))
-    (decides-both (decides-both (decides-both (decides-both (c .before .before .before .before .before .packed .ensures) (decides-same _ _)) (decides-same _ _)) (decides-not (decides-same _ _))) (decides-true _)))
+    (λ p. record { word = p .0 .0 .0 .0; access = p .0 .0 .0 .1; generation = p .0 .0 .1; apart = p .0 .1; right = p .1 })
+    (λ w. ((((w .word, w .access), w .generation), w .apart), w .right))
+    (decides-both (decides-both (decides-both (decides-both (c .before .before .before .before .before .known-word .ensures) (decides-same _ _)) (decides-same _ _)) (decides-not (decides-same _ _))) (decides-true _)))
 
 pub packs-pair-spec : {M : Type 1} → statement M
 packs-pair-spec =
@@ -35,7 +35,7 @@ packs-pair-spec =
     (tie.spec
     left-of-requires
     right-of-requires
-    packed-requires
+    known-word-requires
     access-of-requires
     generation-of-requires
     is-known-requires

@@ -11,7 +11,7 @@ packs-pair-requires c κs = search needs
 returns : tie.Need-returns
 returns c =
     says-no
-    (λ g. failed (c .before .packs-pair .ensures) (c .if1 .taken) (record { packed = record { port = g .port; filled = g .filled; page = g .page; vm = g .left }; access = g .access; generation = g .generation; apart = g .apart; right = g .right }))
+    (λ g. failed (c .before .packs-pair .ensures) (c .if1 .taken) (record { word = record { port = g .port; filled = g .filled; page = g .page; vm = g .left }; access = g .access; generation = g .generation; apart = g .apart; right = g .right }))
 
 left-of-requires : tie.Need-left-of-requires
 left-of-requires c κs = search needs
@@ -25,21 +25,21 @@ page-of-requires c κs = search needs
 claims-requires : tie.Need-claims-requires
 claims-requires c κs =
     let p = passed (c .before .before .before .before .packs-pair .ensures) (c .before .before .before .if1 .left) in
-    let v = knows-below _ _ (c .before .before .before .before .before .before .pre .2) (p .packed .vm) in
-    (omega (arith, c .before .before .left-of .ensures), omega (arith, c .page-of .ensures, p .packed .page, c .before .before .before .before .before .before .pre .1), c .before .before .before .before .before .before .pre .0)
+    let v = knows-below _ _ (c .before .before .before .before .before .before .pre .2) (p .word .vm) in
+    (omega (arith, c .before .before .left-of .ensures), omega (arith, c .page-of .ensures, p .word .page, c .before .before .before .before .before .before .pre .1), c .before .before .before .before .before .before .pre .0)
 
 claims-requires-2 : tie.Need-claims-requires-2
 claims-requires-2 c κs =
     let p = passed (c .before .before .before .before .before .packs-pair .ensures) (c .before .before .before .before .if1 .left) in
     let v = knows-below _ _ (c .before .before .before .before .before .before .before .pre .2) (p .right) in
-    (omega (arith, c .before .before .right-of .ensures), omega (arith, c .before .page-of .ensures, p .packed .page, c .before .before .before .before .before .before .before .pre .1), c .before .before .before .before .before .before .before .pre .0)
+    (omega (arith, c .before .before .right-of .ensures), omega (arith, c .before .page-of .ensures, p .word .page, c .before .before .before .before .before .before .before .pre .1), c .before .before .before .before .before .before .before .pre .0)
 
 returns-2 : tie.Need-returns-2
 returns-2 c =
     let p = passed (c .before .before .before .before .before .before .packs-pair .ensures) (c .before .before .before .before .before .if1 .left) in
     rw (c .before .claims .ensures, c .claims2 .ensures, c .before .before .before .before .left-of .ensures, c .before .before .before .right-of .ensures, c .before .before .page-of .ensures)
     (decides-as
-    (λ o. record { port = p .packed .port; filled = p .packed .filled; access = p .access; generation = p .generation; page = p .packed .page; apart = p .apart; left = p .packed .vm; right = p .right; owned = o })
+    (λ o. record { port = p .word .port; filled = p .word .filled; access = p .access; generation = p .generation; page = p .word .page; apart = p .apart; left = p .word .vm; right = p .right; owned = o })
     (λ g. g .owned)
     (decides-either (decides-true _) (decides-true _)))
 

@@ -1,7 +1,7 @@
 use borrow.Author.Needs.{needs}
 use Rattle.judge.specs.DecideLaws.{decides-as, decides-both, decides-same, decides-below, decides-true}
-use Rattle.judge.proofs.words.packed.Statement.{statement}
-use Rattle.judge.proofs.words.packed.Tie as tie
+use Rattle.judge.proofs.words.known_word.Statement.{statement}
+use Rattle.judge.proofs.words.known_word.Tie as tie
 
 vm-of-requires : tie.Need-vm-of-requires
 vm-of-requires c κs = search needs
@@ -26,8 +26,8 @@ returns c =
     (λ w. (((w .port, w .filled), w .page), w .vm))
     (decides-both (decides-both (decides-both (decides-same _ _) (decides-same _ _)) (decides-below _ _)) (decides-true _)))
 
-pub packed-spec : {M : Type 1} → statement M
-packed-spec =
+pub known-word-spec : {M : Type 1} → statement M
+known-word-spec =
     tie.close
     (tie.spec
     vm-of-requires
