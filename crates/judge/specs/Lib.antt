@@ -6,3 +6,5 @@ pub mod MoreLaws
 pub mod Sharing
 pub mod SharingLaws
 pub mod LentLaws
+pub mod RouteLaws
+pub mod ValidLaws

@@ -6,8 +6,10 @@ use mathlib.Core.Logic.{_⊎_}
 use mathlib.Core.Path.{_≡_}
 use Rattle.numbers.specs.Limits.{PAGES, UNITS, PORTS, IDLE, ENTRIES, PAIRS, SLOTS, SETS, SET-WORDS}
 use Rattle.numbers.specs.Packing.{portOf, filledOf, vmOf, pageOf, accessOf, generationOf, leftOf, rightOf}
+use Rattle.numbers.specs.declared.Side.{Side}
 use Rattle.units.specs.declared.Unit.{Unit}
-use Rattle.model.specs.State.{Setup}
+use Rattle.model.specs.State.{Setup, Route}
+use Rattle.model.specs.Valid.{MapGood, SameMap}
 use Rattle.model.specs.Views.{knows}
 
 -- ---- 1: the lengths of what is lent; units and ports have theirs by type
@@ -48,6 +50,12 @@ pub record PairPacked (pages known w : ℕ) : Type 0 where
   pub apart : leftOf w ≡ rightOf w → ⊥
   pub right : knows known (rightOf w) ≡ true
 
+-- ---- 6: both maps of a side
+pub record MapsGood (side : Side) (pages known : ℕ) (sets pairs m w : List ℕ) : Type 0 where
+  pub map : MapGood side pages known sets pairs m
+  pub walker : MapGood side pages known sets pairs w
+  pub same : SameMap m w
+
 -- ---- 7 and 8: a slot, whatever the walker has; one port
 pub record SlotPacked (w : ℕ) : Type 0 where
   pub port : portOf w < PORTS
@@ -55,3 +63,7 @@ pub record SlotPacked (w : ℕ) : Type 0 where
 
 abbrev pub PortGood : ℕ → ℕ → Type 0
 PortGood known vm = (vm ≡ IDLE) ⊎ (knows known vm ≡ true)
+
+-- ---- 6 to 8: the route of these tables and numbers
+abbrev pub routeWith : List ℕ → List ℕ → List ℕ → ℕ → List ℕ → Route
+routeWith map walker cache hand ports = record { map = map; walker = walker; cache = cache; hand = hand; ports = ports }

@@ -3,18 +3,21 @@ ghost use mathlib.Core.Path.{_≡_};
 ghost use Prim.Native.Nat.{ℕ, _*_, _^_, _≤_, _<_};
 ghost use lib.ListN.{length};
 ghost use Rattle.numbers.specs.Decides.{Decides};
-ghost use Rattle.numbers.specs.Limits.{PAGES, VMS, SETS, SET-WORDS};
-ghost use Rattle.table.specs.Table.{Has};
-ghost use Rattle.model.specs.Valid.{EntryGood, PortsGood};
+ghost use Rattle.numbers.specs.Limits.{PAGES, VMS, ENTRIES, SLOTS, SETS, SET-WORDS};
+ghost use Rattle.numbers.specs.Packing.{keyOf};
+ghost use Rattle.table.specs.Table.{Has, Distinct};
+ghost use Rattle.model.specs.Valid.{EntryGood, CacheGood, PortsGood, RouteGood};
 ghost use Rattle.model.specs.Views.{mayMap};
+ghost use Rattle.keys.specs.Keys.{Packed};
 ghost use Rattle.judge.specs.DecideLaws.{Filled};
-ghost use Rattle.judge.specs.Parts.{SlotPacked, PortGood};
+ghost use Rattle.judge.specs.Parts.{MapsGood, SlotPacked, PortGood, routeWith};
 ghost use Rattle.judge.specs.Sharing.{Lends};
 use super::header::is_known;
 use super::words::known_word;
 use numbers::IDLE;
 use numbers::PORTS;
 use numbers::PhysPage;
+use numbers::SLOTS;
 use numbers::Side;
 use numbers::VmId;
 
@@ -95,6 +98,29 @@ fn entries(
     true
 }
 
+// Both maps of a side: every word of each, then the keys of the two together.
+fn maps(
+    side: Side,
+    map: &[u64],
+    walker: &[u64],
+    sets: &[u64],
+    pairs: &[u64],
+    lent: &[u64],
+    pages: u64,
+    known: u64,
+) -> bool
+    requires { ⌜ (length (now map) ≡ ENTRIES) × (length (now walker) ≡ ENTRIES) × (length (now sets) ≡ SETS * SET-WORDS) × (Lends pages (now sets) (now pairs) (now lent)) × (pages ≤ PAGES) × (known < 2 ^ VMS) ⌝ }
+    ensures { λ r. ⌜ Decides r (MapsGood side pages known (now (sets .entry)) (now (pairs .entry)) (now (map .entry)) (now (walker .entry))) ⌝ }
+{
+    if !entries(side, map, sets, pairs, lent, pages, known) {
+        return false;
+    }
+    if !entries(side, walker, sets, pairs, lent, pages, known) {
+        return false;
+    }
+    keys::same_maps(map, walker)
+}
+
 // ---- 7: caches.
 
 // One slot: empty, or filled and of a port.
@@ -117,6 +143,17 @@ fn slots(cache: &[u64]) -> bool
     true
 }
 
+// Every slot of a cache, then what it holds against the walker.
+fn caches(walker: &[u64], cache: &[u64]) -> bool
+    requires { ⌜ (length (now walker) ≡ ENTRIES) × (length (now cache) ≡ SLOTS) × (Packed (now walker)) × (Distinct keyOf (now walker)) ⌝ }
+    ensures { λ r. ⌜ Decides r (CacheGood (now (walker .entry)) (now (cache .entry))) ⌝ }
+{
+    if !slots(cache) {
+        return false;
+    }
+    keys::slots_held(walker, cache)
+}
+
 // ---- 8: ports.
 
 // One port: idle, or with a known VM on it.
@@ -127,7 +164,7 @@ fn port_good(known: u64, vm: u64) -> bool
     (vm == IDLE) | is_known(known, VmId(vm))
 }
 
-pub fn ports(known: u64, ports: [u64; 8]) -> bool
+fn ports(known: u64, ports: [u64; 8]) -> bool
     requires { ⌜ known < 2 ^ VMS ⌝ }
     ensures { λ r. ⌜ Decides r (PortsGood known ports) ⌝ }
 {
@@ -139,4 +176,31 @@ pub fn ports(known: u64, ports: [u64; 8]) -> bool
         port += 1;
     }
     true
+}
+
+// ---- A side: 6 to 8.
+
+pub fn route(
+    side: Side,
+    map: &[u64],
+    walker: &[u64],
+    cache: &[u64],
+    sets: &[u64],
+    pairs: &[u64],
+    lent: &[u64],
+    pages: u64,
+    known: u64,
+    on_ports: [u64; 8],
+    hand: u64,
+) -> bool
+    requires { ⌜ (length (now map) ≡ ENTRIES) × (length (now walker) ≡ ENTRIES) × (length (now cache) ≡ SLOTS) × (length (now sets) ≡ SETS * SET-WORDS) × (Lends pages (now sets) (now pairs) (now lent)) × (pages ≤ PAGES) × (known < 2 ^ VMS) ⌝ }
+    ensures { λ r. ⌜ Decides r (RouteGood side pages known (now (sets .entry)) (now (pairs .entry)) (routeWith (now (map .entry)) (now (walker .entry)) (now (cache .entry)) hand «on_ports»)) ⌝ }
+{
+    if !maps(side, map, walker, sets, pairs, lent, pages, known) {
+        return false;
+    }
+    if !caches(walker, cache) {
+        return false;
+    }
+    ports(known, on_ports) & (hand < SLOTS)
 }
