@@ -8,7 +8,7 @@ use native.Mathlib.Omega.{arith}
 use lib.Dec.{eqb}
 use lib.ListN.{length}
 use borrow.Author.Tests.{eqb-false, ne-eqb, ltb-true, not-false}
-use Rattle.numbers.specs.Limits.{PORTS, VMS, PAIRS}
+use Rattle.numbers.specs.Limits.{VMS, PAIRS}
 use Rattle.numbers.specs.Packing.{filledOf, pageOf, vmOf, leftOf, rightOf, pairWord, pairKey, pairKeyOf}
 use Rattle.numbers.specs.PackingLaws.{pair-left, pair-right, pair-page, pair-filled, pair-port, pair-access, pair-generation, pair-key, pair-same}
 use Rattle.numbers.specs.declared.Answer.{Answer}
@@ -52,7 +52,8 @@ use Rattle.model.specs.Good.{Good, Made, holdsPage, Cleared}
 use Rattle.model.proofs.ViewLaws.{neither, of-vm, Lends, lends-shares, shares-lends, no-edge-on, no-edge-of, not-paired, not-targeted, no-mappings, on-no-port, no-pages, may-own, may-lent}
 use Rattle.model.proofs.PagesKept.{pages-assigned, pages-reclaimed}
 use Rattle.model.proofs.EditedSets.{Edited, insert-edited, remove-edited, given-stays, given-holds, taken-ended, ended-free}
-use Rattle.model.proofs.LedgerKept.{each-side, Named, by-claim, by-entry, by-pair, by-port, known-valid, sets-valid, pairs-valid}
+use Rattle.model.proofs.OneRoute.{lengths-of}
+use Rattle.model.proofs.LedgerKept.{Named, by-claim, by-entry, by-pair, by-port, known-valid, sets-valid, pairs-valid}
 use Rattle.model.proofs.Refused.{quiet-good, decided-good}
 
 -- ---- 1: add VM, after which the others are known as before
@@ -73,6 +74,11 @@ add-vm-good t v vm =
 known-removed : (known vm other : ℕ) → (other ≡ vm → ⊥) → knows known other ≡ true → knows (removeVmKnown known vm) other ≡ true
 unfolding knows
 known-removed known vm other d k = hasBit-without-other known vm other d ∙ k
+
+-- what holds for CPU and for DMA
+each-side : (P : Side → Type 0) → P Cpu → P Dma → (side : Side) → P side
+each-side P c d Cpu = c
+each-side P c d Dma = d
 
 record RemoveVmPassed (t : Tables) (vm : ℕ) : Type 0 where
   no-claim : (side : Side) → hasPages side (t .sets) vm ≡ false
@@ -101,10 +107,7 @@ named-nowhere : (t : Tables) (vm : ℕ) → ValidTables t → RemoveVmPassed t v
 named-nowhere t vm v u (by-claim side page l e) = true≢false (sym e ∙ no-pages side (t .sets) vm page (u .no-claim side) (omega (arith, v .setup .most-pages)))
 named-nowhere t vm v u (by-entry side w h f e) = no-mappings (route side t .map) vm w (u .no-entry side) h f e
 named-nowhere t vm v u (by-pair w h f e) = no-edge-of (t .pairs) vm w (u .no-pair) h f e
-named-nowhere t vm v u (by-port side port h e) = on-no-port (route side t .ports) vm port (u .no-port side) (rw long h) e
-  where
-    long : length (route side t .ports) ≡ PORTS
-    long = each-side (λ s. length (route s t .ports) ≡ PORTS) (v .lengths .cpu .ports) (v .lengths .dma .ports) side
+named-nowhere t vm v u (by-port side port h e) = on-no-port (route side t .ports) vm port (u .no-port side) (rw (lengths-of side t v .ports) h) e
 
 pub remove-vm-good : (t : Tables) → ValidTables t → (vm : VmId) → Good t (RemoveVm vm) (removeVmControl t (vm .0))
 unfolding removeVmControl

@@ -15,26 +15,19 @@ use Rattle.model.specs.State.{Tables, Route, route, withRoute, withKnown
 use Rattle.model.specs.Views.{knows, inShared, owns, claims, shares, lentTo, mayMap}
 use Rattle.model.specs.Valid.{KnownGood, PagesGood, PairGood, PairsGood, EntryGood, PortsGood, ValidTables}
 use Rattle.model.proofs.ViewLaws.{AtEnd, may-own, may-lent}
+use Rattle.model.proofs.OneRoute.{route-of}
 use Rattle.model.proofs.Carried.{Ground, ground-kept, route-carried, pairs-carried, pages-carried}
 
--- what holds for CPU and for DMA
-pub each-side : (P : Side → Type 0) → P Cpu → P Dma → (side : Side) → P side
-each-side P c d Cpu = c
-each-side P c d Dma = d
-
-ports-good : (t : Tables) → ValidTables t → (side : Side) → PortsGood (t .known) (route side t .ports)
-ports-good t v = each-side (λ side. PortsGood (t .known) (route side t .ports)) (v .cpu .ports) (v .dma .ports)
-
 -- ---- all three replaced
-abbrev pub ledger : Tables → ℕ → List ℕ → List ℕ → Tables
+abbrev ledger : Tables → ℕ → List ℕ → List ℕ → Tables
 ledger t known sets pairs = record { setup = t .setup; known = known; sets = sets; pairs = pairs; cpu = t .cpu; dma = t .dma }
 
 -- an entry of the side that rests on the old ones rests on the new
-abbrev pub Carries : Tables → ℕ → List ℕ → List ℕ → Side → Type 0
+abbrev Carries : Tables → ℕ → List ℕ → List ℕ → Side → Type 0
 Carries t known sets pairs side = (w : ℕ) → Has (route side t .map) w → EntryGood side (t .setup .pages) (t .known) (t .sets) (t .pairs) w → Ground side known sets pairs w
 
 module _ (t : Tables) (v : ValidTables t) (known : ℕ) (sets pairs : List ℕ) where
-  pub ledger-valid : length sets ≡ SETS * SET-WORDS → length pairs ≡ PAIRS → KnownGood known →
+  ledger-valid : length sets ≡ SETS * SET-WORDS → length pairs ≡ PAIRS → KnownGood known →
       PagesGood (t .setup .pages) (t .setup .sharedBase) (t .setup .sharedCount) known sets → PairsGood (t .setup .pages) known sets pairs →
       ((side : Side) → Carries t known sets pairs side) → ((side : Side) → PortsGood known (route side t .ports)) → ValidTables (ledger t known sets pairs)
   ledger-valid sets-long pairs-long k g p carries ports =
@@ -69,7 +62,7 @@ known-valid t v known k keeps =
       owned = g .owned;
     }))
     (λ side w h g. record { vm = keeps _ (by-entry side w h (g .filled) refl) (g .vm); may = g .may })
-    (λ side port h. ⊎-elim inl (λ e. inr (keeps _ (by-port side port h refl) e)) (ports-good t v side port h))
+    (λ side port h. ⊎-elim inl (λ e. inr (keeps _ (by-port side port h refl) e)) (route-of side t v .ports port h))
 
 -- ---- other page sets
 -- what is lent stays lent where the shared span stays
@@ -90,7 +83,7 @@ sets-valid t v sets k =
     ledger-valid t v (t .known) sets (t .pairs) (k .long) (v .lengths .pairs) (v .known) (k .good)
     (pairs-carried (t .setup .pages) (t .known) (t .known) (t .sets) sets (t .pairs) (v .pairs)
     (λ w h g. record { left = g .left; right = g .right; owned = ⊎-elim (λ o. inl (k .pair w (leftOf w) h g o)) (λ o. inr (k .pair w (rightOf w) h g o)) (g .owned) }))
-    carries (ports-good t v)
+    carries (λ side. route-of side t v .ports)
   where
     carries : (side : Side) → Carries t (t .known) sets (t .pairs) side
     carries side w h g =
@@ -109,7 +102,7 @@ both-valid Dma t r sets v k = sets-valid (withRoute Dma t r) v sets (record { lo
 pub pairs-valid : (t : Tables) → ValidTables t → (pairs : List ℕ) → length pairs ≡ PAIRS → PairsGood (t .setup .pages) (t .known) (t .sets) pairs →
     ((w : ℕ) → Has (t .cpu .map) w → filledOf w ≡ 1 → shares (t .pairs) (vmOf w) (pageOf w) ≡ true → mayMap Cpu (t .sets) pairs (vmOf w) (pageOf w) ≡ true) →
     ValidTables (withPairs t pairs)
-pairs-valid t v pairs long good lent = ledger-valid t v (t .known) (t .sets) pairs (v .lengths .sets) long (v .known) (v .pages) good carries (ports-good t v)
+pairs-valid t v pairs long good lent = ledger-valid t v (t .known) (t .sets) pairs (v .lengths .sets) long (v .known) (v .pages) good carries (λ side. route-of side t v .ports)
   where
     carries : (side : Side) → Carries t (t .known) (t .sets) pairs side
     carries Cpu w h g =

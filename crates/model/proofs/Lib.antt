@@ -7,12 +7,12 @@ pub mod ViewLaws
 pub mod Refused
 pub mod Carried
 pub mod PagesKept
-pub mod LedgerKept
+pub mod EditedSets
 pub mod StartKept
 pub mod RoutesKept
 pub mod OneRoute
+pub mod LedgerKept
 pub mod RegionLaws
-pub mod EditedSets
 pub mod RegionSets
 pub mod RegionTables
 pub mod GoodLedger
