@@ -54,12 +54,11 @@ module _ (n : ℕ) where
   empty-holds row page = let i = row * PAGES + page in rw (zero-at (i / 64), div-eq-of-lt (pow-pos (i % 64)))
 
 -- ---- the units that are told
-module _ (numbers : List ℕ) where
-  told-good : (pages k : ℕ) → badField numbers k ≡ false → badSpan pages numbers k ≡ false → UnitGood pages (unitTold numbers k)
-  told-good pages k f s =
-      let a = hold (isVm (numberTold numbers k 0) && isAccess (numberTold numbers k 4)) (isMark (numberTold numbers k 5)) f in
-      let b = both (isVm (numberTold numbers k 0)) (isAccess (numberTold numbers k 4)) (a .0) in
-      record { vm = ltb-true _ _ (b .0); access = ltb-true _ _ (b .1); span = not-false _ s }
+told-good : (numbers : List ℕ) (pages k : ℕ) → badField numbers k ≡ false → badSpan pages numbers k ≡ false → UnitGood pages (unitTold numbers k)
+told-good numbers pages k f s =
+    let a = hold (isVm (numberTold numbers k 0) && isAccess (numberTold numbers k 4)) (isMark (numberTold numbers k 5)) f in
+    let b = both (isVm (numberTold numbers k 0)) (isAccess (numberTold numbers k 4)) (a .0) in
+    record { vm = ltb-true _ _ (b .0); access = ltb-true _ _ (b .1); span = not-false _ s }
 
 setup-good : (told : Told) (lent : Lent) → StartPassed told lent → SetupGood (setupTold told)
 setup-good told lent p =
