@@ -14,7 +14,7 @@ pub mod MemoryLaws
 pub mod Step
 pub mod ShapeLaws
 pub mod Start
-pub mod UnitLaws
+pub mod StartTold
 pub mod Sequence
 pub mod Good
 pub mod Entries
