@@ -1,20 +1,25 @@
--- What the entries rest on: a valid state is fit for the joined operation.
-use Prim.Native.Nat.{ℕ}
+-- What a valid state gives to the functions behind the entries.
+use Prim.Native.Nat.{ℕ, _≤_}
 use mathlib.Core.List.{List}
-use mathlib.Core.Path.{_≡_, refl, sym, _∙_}
-use Rattle.numbers.specs.Decides.{Decides}
-use Rattle.model.specs.Entries.{Judged, valid, not-valid}
+use native.Mathlib.Omega.{arith}
+use lib.ListN.{length}
+use Rattle.numbers.specs.Limits.{PAGES, SET-WORDS}
 use Rattle.model.specs.Header.{stateOf}
-use Rattle.model.specs.State.{State}
 use Rattle.model.specs.Valid.{Valid}
 use Rattle.model.specs.declared.Machine.{Machine}
 use Rattle.operate.specs.Outcome.{Fit}
 
-pub fit : (m : Machine) (sets pairs cpuMap cpuWalker cpuCache dmaMap dmaWalker dmaCache memory : List ℕ) → Valid (stateOf m sets pairs cpuMap cpuWalker cpuCache dmaMap dmaWalker dmaCache memory) → Fit m sets memory
-fit m sets pairs cpuMap cpuWalker cpuCache dmaMap dmaWalker dmaCache memory v =
-    record {
-      few-pages = v .tables .setup .most-pages;
-      few-units = v .tables .setup .unit-count;
-      sets-length = v .tables .lengths .sets;
-      memory-length = v .memory;
-    }
+module _ (m : Machine) (sets pairs cpuMap cpuWalker cpuCache dmaMap dmaWalker dmaCache memory : List ℕ) (v : Valid (stateOf m sets pairs cpuMap cpuWalker cpuCache dmaMap dmaWalker dmaCache memory)) where
+  -- the joined operation may be given it
+  pub fit : Fit m sets memory
+  fit =
+      record {
+        few-pages = v .tables .setup .most-pages;
+        few-units = v .tables .setup .unit-count;
+        sets-length = v .tables .lengths .sets;
+        memory-length = v .memory;
+      }
+
+  -- and so may the searches of the pool
+  pub free-asks : (m .pages ≤ PAGES) × (SET-WORDS ≤ length sets)
+  free-asks = (v .tables .setup .most-pages, omega (arith, v .tables .lengths .sets))

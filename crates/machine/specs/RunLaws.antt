@@ -84,21 +84,27 @@ module _ (rows : List ℕ) (n : ℕ) (start : Progress) where
   run-end now k r h = repeat-end (turn rows) n start now k (r .steps) h
 
 -- ---- one row, from what decoding it and carrying it out gave
+pub row-done : (s : State) (row : List ℕ) (d : Decoded) (operation : Operation) (r : Stepped) → known d ≡ operationIn row → d ≡ Known operation → r ≡ step s operation → r ≡ stepRow s row
+unfolding stepRow
+row-done s row d operation r e f g =
+    let o : operationIn row ≡ some operation = sym e ∙ ap known f in
+    rw (o, g)
+
+pub row-unknown : (s : State) (row : List ℕ) (d : Decoded) → known d ≡ operationIn row → d ≡ Unknown → record { answer = refused OutOfRange; state = s } ≡ stepRow s row
+unfolding stepRow
+row-unknown s row d e f =
+    let o : operationIn row ≡ none = sym e ∙ ap known f in
+    rw o
+
 pub turn-done :
     (rows : List ℕ) (k : ℕ) (p : Progress) (d : Decoded) (operation : Operation) (r : Stepped) →
     known d ≡ operationIn (rowAt rows k) → d ≡ Known operation → r ≡ step (p .state) operation → recorded r k (p .room) ≡ turn rows k p
-unfolding stepRow
-turn-done rows k p d operation r e f g =
-    let o : operationIn (rowAt rows k) ≡ some operation = sym e ∙ ap known f in
-    rw (o, g)
+turn-done rows k p d operation r e f g = ap (λ (x : Stepped). recorded x k (p .room)) (row-done (p .state) (rowAt rows k) d operation r e f g)
 
 pub turn-unknown :
     (rows : List ℕ) (k : ℕ) (p : Progress) (d : Decoded) →
     known d ≡ operationIn (rowAt rows k) → d ≡ Unknown → recorded (record { answer = refused OutOfRange; state = p .state }) k (p .room) ≡ turn rows k p
-unfolding stepRow
-turn-unknown rows k p d e f =
-    let o : operationIn (rowAt rows k) ≡ none = sym e ∙ ap known f in
-    rw o
+turn-unknown rows k p d e f = ap (λ (x : Stepped). recorded x k (p .room)) (row-unknown (p .state) (rowAt rows k) d e f)
 
 -- ---- what the joined operation asks for still holds
 pub fit-kept :

@@ -121,7 +121,7 @@ pub fn sequence(
 }
 
 // ---- The free query.
-pub struct Free {
+pub struct FreePages {
     pub answer: Answer,
     pub count: u64,
     pub lowest: Lowest,
@@ -138,7 +138,7 @@ pub fn free(
     dma_walker: &[u64],
     dma_cache: &[u64],
     memory: &[u64],
-) -> Free
+) -> FreePages
     ensures { λ r. ⌜ JudgedFree (stateOf m (now (sets .entry)) (now (pairs .entry)) (now («cpu_map» .entry)) (now («cpu_walker» .entry)) (now («cpu_cache» .entry)) (now («dma_map» .entry)) (now («dma_walker» .entry)) (now («dma_cache» .entry)) (now (memory .entry))) (freeOf (r .answer) (r .count) (r .lowest)) ⌝ }
 {
     if !judge::valid(
@@ -153,7 +153,7 @@ pub fn free(
         dma_cache,
         memory,
     ) {
-        return Free {
+        return FreePages {
             answer: numbers::refuse(Refusal::StateNotValid, 0),
             count: 0,
             lowest: Lowest::Nothing,
@@ -161,7 +161,7 @@ pub fn free(
     }
     let count = pages::free_count(sets, m.pages);
     let lowest = pages::lowest_free(sets, m.pages);
-    Free {
+    FreePages {
         answer: numbers::accept(0),
         count,
         lowest,
