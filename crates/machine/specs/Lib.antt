@@ -1,5 +1,6 @@
--- The sequence over a header and its lists, and its laws.
+-- The sequence over a header and its lists, the test before it, and their laws.
 pub mod Run
+pub mod Fits
 pub mod RoomLaws
 pub mod RunLaws
 pub mod EntryLaws
