@@ -1,6 +1,5 @@
--- The sequence over a header and its lists, the test before it, and their laws.
+-- The sequence over a header and its lists, and its laws.
 pub mod Run
-pub mod Fits
 pub mod RoomLaws
 pub mod RunLaws
 pub mod EntryLaws

@@ -7,7 +7,6 @@ ghost use Rattle.numbers.specs.Meaning.{answerNumbers};
 ghost use Rattle.model.specs.Header.{stateOf};
 ghost use Rattle.model.specs.Sequence.{writeAt, turn, after, sequence};
 ghost use Rattle.operate.specs.Outcome.{Fit};
-ghost use Rattle.machine.specs.Fits.{fitting};
 ghost use Rattle.machine.specs.Run.{progress, ran, shapeOf};
 
 pub mod entries;
@@ -15,13 +14,8 @@ pub mod entries;
 use model::Machine;
 use numbers::ANSWER_NUMBERS;
 use numbers::Answer;
-use numbers::PAGE_WORDS;
-use numbers::PAGES;
 use numbers::ROW_NUMBERS;
 use numbers::Refusal;
-use numbers::SET_WORDS;
-use numbers::SETS;
-use numbers::UNITS;
 use rows::Decoded;
 
 // Answer k's four numbers, in their place of the answer room.
@@ -160,19 +154,6 @@ fn shape(rows: usize, room: usize) -> Answer
         dropped: 0,
         word: 0,
     }
-}
-
-// Whether `sequence` may be given this header with so many words of page sets and of memory. The pages are judged first, so
-// that their words can be counted.
-pub fn fits(m: Machine, sets: usize, memory: usize) -> bool
-    ensures { λ r. ⌜ r ≡ fitting m sets memory ⌝ }
-{
-    if PAGES < m.pages {
-        return false;
-    }
-    (m.unit_count <= UNITS as u64)
-        & (sets == SETS * SET_WORDS)
-        & (memory as u64 == PAGE_WORDS * m.pages)
 }
 
 pub struct Ran {

@@ -14,6 +14,7 @@ use crate::work::ROWS_ROOM;
 use crate::work::SETS_WORDS;
 use crate::work::UNITS_ROOM;
 use crate::work::Work;
+use machine::entries;
 use model::Machine;
 use numbers::ANSWER_NUMBERS;
 use numbers::Answer;
@@ -33,19 +34,6 @@ fn words_of(pages: u64) -> usize
         return (pages * PAGE_WORDS) as usize;
     }
     MEMORY_WORDS
-}
-
-fn phase_of(answer: Answer) -> Phase {
-    match answer {
-        Answer::Accepted {
-            dropped: _,
-            word: _,
-        } => Phase::Started,
-        Answer::Refused {
-            refusal: _,
-            index: _,
-        } => Phase::Refused,
-    }
 }
 
 // Starts the machine as it was told, unless it was started already.
@@ -90,7 +78,7 @@ fn begin(
     let answer = begun.answer;
     let machine = begun.machine;
     print::print_start(answer);
-    work::moved(work, phase_of(answer), machine, work.rows)
+    work::moved(work, Phase::Begun, machine, work.rows)
 }
 
 // Refusal 1, in every place of the room.
@@ -106,7 +94,7 @@ fn refuse_all(room: &mut [u64; ANSWER_ROOM]) {
     }
 }
 
-// The rows that wait, in one sequence; each is refused where there is no machine for them.
+// The rows that wait, in one sequence. Refused as a whole, as after a refused start, every row is refused with 1.
 fn carry_out(
     work: Work,
     sets: &mut [u64; SETS_WORDS],
@@ -124,32 +112,74 @@ fn carry_out(
     requires { ⌜ Orderly (work .units) (work .rows) ⌝ }
     requires { ⌜ (length (now memory) ≡ MEMORY-WORDS) × (length (now rows) ≡ ROWS-ROOM) ⌝ }
 {
-    let phase = work.phase;
     let machine = work.machine;
     let words = words_of(machine.pages);
     let count = work.rows * ROW_NUMBERS;
-    if let Phase::Started = phase {
-        if machine::fits(machine, SETS_WORDS, words) {
-            let ran = machine::sequence(
-                machine,
-                sets,
-                pairs,
-                cpu_map,
-                cpu_walker,
-                cpu_cache,
-                dma_map,
-                dma_walker,
-                dma_cache,
-                &mut memory[..words],
-                &rows[..count],
-                room,
-            );
-            let next = ran.machine;
-            return next;
-        }
+    let ran = entries::sequence(
+        machine,
+        sets,
+        pairs,
+        cpu_map,
+        cpu_walker,
+        cpu_cache,
+        dma_map,
+        dma_walker,
+        dma_cache,
+        &mut memory[..words],
+        &rows[..count],
+        room,
+    );
+    let answer = ran.answer;
+    let next = ran.machine;
+    if let Answer::Refused {
+        refusal: _,
+        index: _,
+    } = answer {
+        refuse_all(room);
+        return next;
     }
-    refuse_all(room);
-    machine
+    next
+}
+
+// The free query.
+pub fn query(
+    work: Work,
+    sets: &[u64; SETS_WORDS],
+    pairs: &[u64; PAIRS],
+    cpu_map: &[u64; ENTRIES],
+    cpu_walker: &[u64; ENTRIES],
+    cpu_cache: &[u64; CACHE_WORDS],
+    dma_map: &[u64; ENTRIES],
+    dma_walker: &[u64; ENTRIES],
+    dma_cache: &[u64; CACHE_WORDS],
+    memory: &[u64],
+)
+    requires { ⌜ length (now memory) ≡ MEMORY-WORDS ⌝ }
+{
+    let machine = work.machine;
+    let words = words_of(machine.pages);
+    let free = entries::free(
+        machine,
+        sets,
+        pairs,
+        cpu_map,
+        cpu_walker,
+        cpu_cache,
+        dma_map,
+        dma_walker,
+        dma_cache,
+        &memory[..words],
+    );
+    let answer = free.answer;
+    let lowest = free.lowest;
+    if let Answer::Refused {
+        refusal: _,
+        index: _,
+    } = answer {
+        print::print_free_refused();
+        return;
+    }
+    print::print_free(free.count, lowest);
 }
 
 // Answers all that waits, where it is asked for or no further row has room.

@@ -4,6 +4,7 @@ mod print;
 mod work;
 
 ghost use Rattle.runbox.specs.Room.{Orderly};
+use carry::query;
 use carry::settle;
 use libc::STDIN_FILENO;
 use numbers::ENTRIES;
@@ -58,7 +59,21 @@ fn line(
         rows,
         room,
     );
-    work::take(ready, placed, units, rows, sets)
+    if let Line::Free = placed {
+        query(
+            ready,
+            sets,
+            pairs,
+            cpu_map,
+            cpu_walker,
+            cpu_cache,
+            dma_map,
+            dma_walker,
+            dma_cache,
+            memory,
+        );
+    }
+    work::take(ready, placed, units, rows)
 }
 
 // Where the reading has come to: the box, and the line under way.

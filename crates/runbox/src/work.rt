@@ -35,8 +35,8 @@ pub enum Phase {
     NoBox,
     // It is told, and not started yet.
     Told,
-    Started,
-    Refused,
+    // Start has answered, whatever it said: a machine that it refused refuses every row.
+    Begun,
     // A line was not understood: nothing after it counts.
     Ended,
 }
@@ -143,8 +143,7 @@ pub fn in_place(work: Work, said: Line) -> Line {
             }
             later_line(said)
         }
-        Phase::Started => later_line(said),
-        Phase::Refused => later_line(said),
+        Phase::Begun => later_line(said),
         Phase::Ended => Line::Blank,
     }
 }
@@ -179,20 +178,6 @@ fn new_box(work: Work, pages: u64, base: u64, count: u64) -> Work
         rows: 0,
         line: work.line,
     }
-}
-
-fn query(work: Work, sets: &[u64; SETS_WORDS]) {
-    let phase = work.phase;
-    let machine = work.machine;
-    let pages = machine.pages;
-    if let Phase::Started = phase {
-        if pages <= PAGES {
-            let lowest = pages::lowest_free(sets, pages);
-            print::print_free(pages::free_count(sets, pages), lowest);
-            return;
-        }
-    }
-    print::print_free_refused();
 }
 
 fn not_understood(work: Work) -> Work
@@ -268,7 +253,6 @@ pub fn take(
     placed: Line,
     units: &mut [u64; UNITS_ROOM],
     rows: &mut [u64; ROWS_ROOM],
-    sets: &[u64; SETS_WORDS],
 ) -> Work
     requires { ⌜ Orderly (work .units) (work .rows) ⌝ }
     requires { ⌜ work .rows < BATCH ⌝ }
@@ -295,10 +279,7 @@ pub fn take(
             f,
             g,
         } => keep_row(work, rows, operation, a, b, c, d, e, f, g),
-        Line::Free => {
-            query(work, sets);
-            work
-        }
+        Line::Free => work,
         Line::Unreadable => not_understood(work),
     }
 }
