@@ -20,6 +20,7 @@ pub mod GoodRegions
 pub mod GoodPorts
 pub mod GoodAccess
 pub mod Kept
+pub mod FullMaps
 pub mod ExactLaws
 pub mod ExactViews
 pub mod ExactLedger
