@@ -1,5 +1,6 @@
 -- Every operation accepted, and refused for every cause that the paper lists, each in a computed valid state
--- (docs/MACHINE.md, 7). An answer is the paper's four numbers: refusal, index, dropped slots, word.
+-- (docs/MACHINE.md, 7). An answer is the paper's four numbers: refusal, index, dropped slots, word. The comment at a scene
+-- names its refusals in the order of its lines, each with its causes.
 use Prim.Native.Nat.{ℕ, zero, suc, _+_, _*_, _/_, _%_}
 use mathlib.Core.Bool.{true}
 use mathlib.Core.List.{List, [], _∷_, _++_, map}
@@ -581,7 +582,7 @@ abbrev pub operationSaid : Said → ℕ
 operationSaid (row ns) = getD ns 0 0
 operationSaid query = 0
 
--- an operation and an answer's number as one number
+-- an operation and an answer's number, 0 to 16, as one number
 abbrev pub code : ℕ → ℕ → ℕ
 code operation number = operation * 17 + number
 
@@ -603,7 +604,7 @@ abbrev pub operationsFrom : List ℕ → ℕ → ℕ → List (List ℕ)
 operationsFrom codes operation zero = []
 operationsFrom codes operation (suc n) = numbersFrom codes operation 0 17 ∷ operationsFrom codes (suc operation) n
 
--- 0 is accepted; 2 is any operation's that has an argument with a range
+-- in rising order: 0 is accepted, and 2 is of every operation that has an argument with a range
 abbrev pub listed : List (List ℕ)
 listed =
     (0 ∷ 2 ∷ 5 ∷ [])
