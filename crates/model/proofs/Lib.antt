@@ -21,6 +21,8 @@ pub mod GoodRegions
 pub mod GoodPorts
 pub mod GoodAccess
 pub mod Kept
+pub mod FullMaps
+pub mod Refusals
 pub mod ExactLaws
 pub mod ExactViews
 pub mod ExactLedger
