@@ -35,6 +35,10 @@ abbrev pub setupWith : ℕ → ℕ → ℕ → List Unit → ℕ → Setup
 setupWith pages base count units unit-count =
     record { pages = pages; sharedBase = base; sharedCount = count; units = units; unitCount = unit-count }
 
+-- ---- 5 to 7: a word that is none of the table's empty places
+abbrev pub NotEmpty : ℕ → Type 0
+NotEmpty w = w ≡ 0 → ⊥
+
 -- ---- 5 and 6: what a pair's word and an entry's word have in common
 pub record KnownWord (pages known w : ℕ) : Type 0 where
   pub port : portOf w ≡ 0

@@ -9,8 +9,7 @@ ghost use Rattle.table.specs.Table.{Has, Distinct};
 ghost use Rattle.model.specs.Valid.{EntryGood, CacheGood, PortsGood, RouteGood};
 ghost use Rattle.model.specs.Views.{mayMap};
 ghost use Rattle.keys.specs.Keys.{Packed};
-ghost use Rattle.judge.specs.DecideLaws.{Filled};
-ghost use Rattle.judge.specs.Parts.{MapsGood, SlotPacked, PortGood, routeWith};
+ghost use Rattle.judge.specs.Parts.{NotEmpty, MapsGood, SlotPacked, PortGood, routeWith};
 ghost use Rattle.judge.specs.Sharing.{Lends};
 use super::header::is_known;
 use super::words::known_word;
@@ -56,7 +55,7 @@ fn entry_good(
     known: u64,
 ) -> bool
     requires { ⌜ (length (now sets) ≡ SETS * SET-WORDS) × (Lends pages (now sets) (now pairs) (now lent)) × (pages ≤ PAGES) × (known < 2 ^ VMS) ⌝ }
-    ensures { λ r. ⌜ Decides r (Filled w → EntryGood side pages known (now (sets .entry)) (now (pairs .entry)) w) ⌝ }
+    ensures { λ r. ⌜ Decides r (NotEmpty w → EntryGood side pages known (now (sets .entry)) (now (pairs .entry)) w) ⌝ }
 {
     if w == 0 {
         return true;
@@ -125,7 +124,7 @@ fn maps(
 
 // One slot: empty, or filled and of a port.
 fn slot_packed(w: u64) -> bool
-    ensures { λ r. ⌜ Decides r (Filled w → SlotPacked w) ⌝ }
+    ensures { λ r. ⌜ Decides r (NotEmpty w → SlotPacked w) ⌝ }
 {
     (w == 0) | ((numbers::port_of(w) < PORTS) & (numbers::filled_of(w) == 1))
 }

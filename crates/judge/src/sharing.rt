@@ -11,11 +11,13 @@ ghost use Rattle.judge.specs.Parts.{PairPacked};
 ghost use Rattle.judge.specs.Sharing.{OneOwner, borrowerOf, Marked, PairsJudged};
 use super::header::is_known;
 use super::words::known_word;
+use numbers::SET_WORDS;
 use numbers::Side;
+use numbers::VMS;
 use numbers::VmId;
 
 // Words of a set of pages for each VM.
-pub const LENT_WORDS: usize = 256;
+pub const LENT_WORDS: usize = VMS as usize * SET_WORDS;
 
 // A word that packs a pair of two different known VMs.
 fn packs_pair(w: u64, pages: u64, known: u64) -> bool
