@@ -6,11 +6,11 @@ use mathlib.Core.Path.{_≡_}
 use lib.ListN.{length, take}
 use Rattle.numbers.specs.Choice.{if_then_else_}
 use Rattle.numbers.specs.Decides.{Decides}
-use Rattle.numbers.specs.Limits.{PAGES, VMS, SET-WORDS}
+use Rattle.numbers.specs.Limits.{PAGES, VMS, SETS, SET-WORDS}
 use Rattle.numbers.specs.Packing.{leftOf, rightOf, pageOf}
 use Rattle.table.specs.Table.{Has}
 use Rattle.pages.specs.Rows.{holds, add}
-use Rattle.model.specs.Valid.{PairGood, PairsGood}
+use Rattle.model.specs.Valid.{KnownGood, PairGood, PairsGood}
 use Rattle.model.specs.Views.{owns, shares}
 use Rattle.judge.specs.Parts.{NotEmpty}
 
@@ -48,3 +48,10 @@ pub record Lends (pages : ℕ) (sets pairs lent : List ℕ) : Type 0 where
 pub record PairsJudged (pages known : ℕ) (sets pairs lent : List ℕ) (r : Bool) : Type 0 where
   pub exact : Decides r (PairsGood pages known sets pairs)
   pub lends : r ≡ true → Lends pages sets pairs lent
+
+-- what rules 1 to 5 have shown where rule 6 begins
+pub record Ground (pages known : ℕ) (sets pairs lent : List ℕ) : Type 0 where
+  pub size : length sets ≡ SETS * SET-WORDS
+  pub most-pages : pages ≤ PAGES
+  pub known-vms : KnownGood known
+  pub lends : Lends pages sets pairs lent

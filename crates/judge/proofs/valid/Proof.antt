@@ -67,7 +67,7 @@ route-requires c κs =
     let p = passed (c .before .before .before .before .before .before .before .page-sets .ensures) (c .before .before .before .before .before .before .if4 .left) in
     let q = c .before .before .before .before .pairs .ensures in
     let e = c .before .before .if5 .left in
-    (z .cpu .map, z .cpu .walker, z .cpu .cache, z .sets, q .lends (not-false _ e), s .most-pages, k)
+    (z .cpu .map, z .cpu .walker, z .cpu .cache, record { size = z .sets; most-pages = s .most-pages; known-vms = k; lends = q .lends (not-false _ e) })
 
 returns-6 : tie.Need-returns-6
 returns-6 c = says-no (λ v. failed (c .before .route .ensures) (c .if6 .taken) (v .tables .cpu))
@@ -83,7 +83,7 @@ route-requires-2 c κs =
     let p = passed (c .before .before .before .before .before .before .before .before .before .before .before .page-sets .ensures) (c .before .before .before .before .before .before .before .before .before .before .if4 .left) in
     let q = c .before .before .before .before .before .before .before .before .pairs .ensures in
     let e = c .before .before .before .before .before .before .if5 .left in
-    (z .dma .map, z .dma .walker, z .dma .cache, z .sets, q .lends (not-false _ e), s .most-pages, k)
+    (z .dma .map, z .dma .walker, z .dma .cache, record { size = z .sets; most-pages = s .most-pages; known-vms = k; lends = q .lends (not-false _ e) })
 
 returns-7 : tie.Need-returns-7
 returns-7 c = says-no (λ v. failed (c .before .route2 .ensures) (c .if7 .taken) (v .tables .dma))
