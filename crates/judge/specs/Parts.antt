@@ -1,7 +1,7 @@
 -- What the parts of the test ask, where the model's rule names more than a part is handed.
 use Prim.Native.Nat.{ℕ, _+_, _*_, _≤_, _<_}
-use mathlib.Core.List.{List}
 use mathlib.Core.Bool.{true}
+use mathlib.Core.List.{List}
 use mathlib.Core.Logic.{_⊎_}
 use mathlib.Core.Path.{_≡_}
 use Rattle.numbers.specs.Limits.{PAGES, UNITS, PORTS, IDLE, ENTRIES, PAIRS, SLOTS, SETS, SET-WORDS}
