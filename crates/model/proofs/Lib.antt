@@ -27,3 +27,4 @@ pub mod ExactLedger
 pub mod ExactMaps
 pub mod ExactRegions
 pub mod Exactly
+pub mod EffectLaws
