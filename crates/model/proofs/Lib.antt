@@ -28,3 +28,4 @@ pub mod ExactMaps
 pub mod ExactRegions
 pub mod Exactly
 pub mod EffectLaws
+pub mod Secret
