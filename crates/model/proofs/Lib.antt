@@ -29,3 +29,4 @@ pub mod ExactRegions
 pub mod Exactly
 pub mod EffectLaws
 pub mod Secret
+pub mod Secrecy

@@ -1,0 +1,111 @@
+-- Demand 3 (docs/MACHINE.md, 12), for a set of VMs and for one: one row, a sequence, and what changes a private page.
+use Prim.Native.Nat.{ℕ, zero, suc, _≤_, _<_}
+use mathlib.Core.Bool.{Bool, true, false}
+use mathlib.Core.List.{List}
+use mathlib.Core.Logic.{_⊎_, inl}
+use mathlib.Core.Option.{Option, none, some}
+use mathlib.Core.Path.{_≡_, refl, sym, ap, subst, _∙_}
+use native.Mathlib.Omega.{arith}
+use lib.Dec.{eqb}
+use lib.ListN.{length}
+use borrow.Author.Tests.{eqb-true, eq-eqb}
+use Rattle.numbers.specs.Limits.{PAGE-WORDS}
+use Rattle.numbers.specs.Packing.{leftOf, rightOf}
+use Rattle.numbers.specs.declared.Answer.{Answer}
+use Rattle.numbers.specs.declared.Answer.the-variants.{Accepted, Refused}
+use Rattle.numbers.specs.declared.GuestPage.{GuestPage}
+use Rattle.numbers.specs.declared.Side.{Side}
+use Rattle.numbers.specs.declared.Side.the-variants.{Cpu, Dma}
+use Rattle.numbers.specs.declared.Operation.{Operation}
+use Rattle.model.specs.State.{Tables, State}
+use Rattle.model.specs.Effect.{wordIn, Effect, reads, writes, clears, decided, Control}
+use Rattle.model.specs.Step.{Stepped, answerWith, step, writeControl, control}
+use Rattle.model.specs.Sequence.{operationIn, stepKnown, stepRow, rowAt, Progress, turn, after}
+use Rattle.model.specs.Valid.{ValidTables, Valid}
+use Rattle.model.specs.MemoryLaws.{length-applied}
+use Rattle.model.specs.ShapeLaws.{control-shape}
+use Rattle.model.specs.Good.{Wrote}
+use Rattle.model.specs.Secrecy.{PrivateTo, Private, effectIn, SameButValue, equal, cpu-value, dma-value, Shared, withoutWord, NearStores, stop, same, other, Near, alike, stores, Differ, Seen, Alike, SameAnswer, Asked, Premise, Kept}
+use Rattle.model.proofs.Repeats.{repeat-last}
+use Rattle.model.proofs.Kept.{good, after-valid}
+use Rattle.model.proofs.EffectLaws.{inside}
+use Rattle.model.proofs.Secret.{Sound, only-own, same-answer, same-words}
+
+sound : (t : Tables) → ValidTables t → (operation : Operation) → Sound t operation (control t operation)
+sound t v operation = record { good = good t v operation; inside = inside t operation; setup = control-shape t operation .setup }
+
+-- ---- what the tables decide does not look at the value written
+pub record SameControl (c d : Control) : Type 0 where
+  pub answer : c .answer ≡ d .answer
+  pub tables : c .tables ≡ d .tables
+
+decided-alike : (t : Tables) (answer : Answer) (new : Tables) (effect effect′ : Effect) → SameControl (decided t answer new effect) (decided t answer new effect′)
+unfolding decided
+decided-alike t answer new effect effect′ = record { answer = refl; tables = refl }
+
+write-blind : (side : Side) (t : Tables) (port guest word value value′ : ℕ) → SameControl (writeControl side t port guest word value) (writeControl side t port guest word value′)
+unfolding writeControl
+write-blind side t port guest word value value′ = decided-alike t _ _ _ _
+
+pub blind : (t : Tables) (x y : Operation) → SameButValue (some x) (some y) → SameControl (control t x) (control t y)
+unfolding control
+blind t x y equal = record { answer = refl; tables = refl }
+blind t x y (cpu-value {port = port} {guest = guest} {word = word} {a = a} {b = b}) = write-blind Cpu t port (guest .0) word a b
+blind t x y (dma-value {port = port} {guest = guest} {word = word} {a = a} {b = b}) = write-blind Dma t port (guest .0) word a b
+
+-- ---- answers but for the word
+unread : (effect : Effect) (memory : List ℕ) (x : Answer) → withoutWord (answerWith effect memory x) ≡ withoutWord x
+unread (reads vm places) memory (Accepted dropped word) = refl
+unread (reads vm places) memory (Refused refusal index) = refl
+unread (writes vm xs) memory x = refl
+unread (clears pages) memory x = refl
+
+module _ (members : ℕ → Bool) where
+  near-answer : {t : Tables} {effect effect′ : Effect} → Near members (Private members) t effect effect′ → (memory : List ℕ) (x : Answer) → answerWith effect memory x ≡ answerWith effect′ memory x
+  near-answer alike memory x = refl
+  near-answer (stores near) memory x = refl
+
+  -- ---- one row
+  pub record StepKept (t : Tables) (operation : Option Operation) (r r′ : Stepped) : Type 0 where
+    pub states : Alike members (Private members) (r .state) (r′ .state)
+    pub answers : SameAnswer members (Private members) t operation (r .answer) (r′ .answer)
+
+  abbrev SharesEqual : Tables → Option Operation → List ℕ → List ℕ → Type 0
+  SharesEqual t operation a b = (left right page word : ℕ) → Shared t operation left right page → members left ≡ true → members right ≡ false → word < PAGE-WORDS → wordIn a page word ≡ wordIn b page word
+
+  module _ (t : Tables) (v : ValidTables t) (a b : List ℕ) (like : Alike members (Private members) (record { tables = t; memory = a }) (record { tables = t; memory = b })) where
+    operation-kept : (x y : Operation) → SameButValue (some x) (some y) → Near members (Private members) t (control t x .effect) (control t y .effect) → SharesEqual t (some x) a b →
+        StepKept t (some x) (step (record { tables = t; memory = a }) x) (step (record { tables = t; memory = b }) y)
+    unfolding step
+    operation-kept x y shape near shares =
+        let c = control t x in
+        let d = control t y in
+        let decides = blind t x y shape in
+        let s = sound t v x in
+        record {
+          states =
+              record {
+                tables = decides .tables;
+                size = length-applied (c .effect) a ∙ like .size ∙ sym (length-applied (d .effect) b);
+                words = same-words members t v x (c .answer) (c .tables) a b (like .words)
+                    (λ left right page word share agreed. shares left right page word (record { share = rw share; agreed = rw share at agreed })) (like .size) s near;
+              };
+          answers =
+              record {
+                but-word = unread (c .effect) a (c .answer) ∙ ap withoutWord (decides .answer) ∙ sym (unread (d .effect) b (d .answer));
+                whole = λ n. same-answer members t v x (c .answer) (c .tables) a b (like .words) (c .effect) s n (c .answer) ∙ near-answer near b (c .answer) ∙ ap (answerWith (d .effect) b) (decides .answer);
+              };
+        }
+
+    -- a row of no operation is refused in both
+    known-kept : (x y : Option Operation) → SameButValue x y → Near members (Private members) t (effectIn t x) (effectIn t y) → SharesEqual t x a b →
+        StepKept t x (stepKnown (record { tables = t; memory = a }) x) (stepKnown (record { tables = t; memory = b }) y)
+    known-kept none none shape near shares = record { states = like; answers = record { but-word = refl; whole = λ n. refl } }
+    known-kept (some x) (some y) shape near shares = operation-kept x y shape near shares
+
+  pub secret-step : (s s′ : State) (row row′ : List ℕ) → Valid s → Alike members (Private members) s s′ → Asked members (Private members) s s′ row row′ →
+      StepKept (s .tables) (operationIn row) (stepRow s row) (stepRow s′ row′)
+  unfolding stepRow
+  secret-step s s′ row row′ v like asked =
+      subst (λ (t : Tables). Alike members (Private members) s (record { tables = t; memory = s′ .memory }) → StepKept (s .tables) (operationIn row) (stepRow s row) (stepRow (record { tables = t; memory = s′ .memory }) row′))
+      (like .tables) (λ l. known-kept (s .tables) (v .tables) (s .memory) (s′ .memory) l (operationIn row) (operationIn row′) (asked .differ .shape) (asked .differ .near) (asked .shares-equal)) like
