@@ -1,5 +1,5 @@
 -- Demand 3 (docs/MACHINE.md, 12), for a set of VMs and for one: one row, a sequence, and what changes a private page.
-use Prim.Native.Nat.{ℕ, zero, suc, _≤_, _<_}
+use Prim.Native.Nat.{ℕ, zero, suc, _+_, _≤_, _<_}
 use mathlib.Core.Bool.{Bool, true, false}
 use mathlib.Core.List.{List}
 use mathlib.Core.Logic.{_⊎_, inl}
@@ -60,6 +60,15 @@ unread (reads vm places) memory (Refused refusal index) = refl
 unread (writes vm xs) memory x = refl
 unread (clears pages) memory x = refl
 
+-- ---- one row more
+after-none : (rows : List ℕ) (p : Progress) → after rows 0 p ≡ p
+unfolding after
+after-none rows p = refl
+
+after-next : (rows : List ℕ) (k : ℕ) (p : Progress) → after rows (suc k) p ≡ turn rows k (after rows k p)
+unfolding after
+after-next rows k p = let z : 0 + k ≡ k = omega arith in rw z at (repeat-last (turn rows) 0 k p)
+
 module _ (members : ℕ → Bool) where
   near-answer : {t : Tables} {effect effect′ : Effect} → Near members (Private members) t effect effect′ → (memory : List ℕ) (x : Answer) → answerWith effect memory x ≡ answerWith effect′ memory x
   near-answer alike memory x = refl
@@ -109,3 +118,16 @@ module _ (members : ℕ → Bool) where
   secret-step s s′ row row′ v like asked =
       subst (λ (t : Tables). Alike members (Private members) s (record { tables = t; memory = s′ .memory }) → StepKept (s .tables) (operationIn row) (stepRow s row) (stepRow (record { tables = t; memory = s′ .memory }) row′))
       (like .tables) (λ l. known-kept (s .tables) (v .tables) (s .memory) (s′ .memory) l (operationIn row) (operationIn row′) (asked .differ .shape) (asked .differ .near) (asked .shares-equal)) like
+
+  -- ---- a sequence, after every row
+  pub secrecy : (p q : Progress) (rows rows′ : List ℕ) (count : ℕ) → Valid (p .state) → Alike members (Private members) (p .state) (q .state) →
+      Premise members (Private members) p q rows rows′ count → Kept members (Private members) p q rows rows′ count
+  secrecy p q rows rows′ count v like asked = record { states = states; answers = λ k h. row k h (states k (omega arith)) .answers }
+    where
+      row : (k : ℕ) → k < count → Alike members (Private members) (after rows k p .state) (after rows′ k q .state) →
+          StepKept (after rows k p .state .tables) (operationIn (rowAt rows k)) (stepRow (after rows k p .state) (rowAt rows k)) (stepRow (after rows′ k q .state) (rowAt rows′ k))
+      row k h l = secret-step (after rows k p .state) (after rows′ k q .state) (rowAt rows k) (rowAt rows′ k) (after-valid rows k p v) l (asked k h)
+
+      states : (k : ℕ) → k ≤ count → Alike members (Private members) (after rows k p .state) (after rows′ k q .state)
+      states zero h = rw (after-none rows p, after-none rows′ q) like
+      states (suc k) h = rw (after-next rows k p, after-next rows′ k q) (row k (omega arith) (states k (omega arith)) .states)
