@@ -30,3 +30,6 @@ pub mod ExactMaps
 pub mod ExactRegions
 pub mod Exactly
 pub mod Determined
+pub mod EffectLaws
+pub mod Secret
+pub mod Secrecy
