@@ -30,6 +30,7 @@ pub mod ExactMaps
 pub mod ExactRegions
 pub mod Exactly
 pub mod Determined
+pub mod Answers
 pub mod EffectLaws
 pub mod Secret
 pub mod Secrecy
