@@ -34,3 +34,4 @@ pub mod Answers
 pub mod EffectLaws
 pub mod Secret
 pub mod Secrecy
+pub mod SecrecyCalls
