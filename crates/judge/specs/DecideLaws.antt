@@ -12,6 +12,7 @@ use lib.ListN.{length, getD}
 use Rattle.numbers.specs.Decides.{Decides}
 use Rattle.table.specs.ScanLaws.{equal}
 use Rattle.table.specs.Table.{Has}
+use Rattle.judge.specs.Parts.{NotEmpty}
 
 -- ---- an answer that is known
 pub says-yes : {P : Type 0} → P → Decides true P
@@ -65,26 +66,23 @@ decides-not {a = true} d = says-no (λ n. n (d .sound refl))
 decides-not {a = false} d = says-yes (λ p. true≢false (sym (d .complete p)))
 
 -- ---- a loop over the numbers below n that goes on while the test passes
-pub record Passing (P : ℕ → Type 0) (n i : ℕ) : Type 0 where
+pub record Judging (P : ℕ → Type 0) (n i : ℕ) : Type 0 where
   pub place : i ≤ n
   pub each : (k : ℕ) → k < i → P k
 
 module _ {P : ℕ → Type 0} {n : ℕ} where
-  pub pass-start : Passing P n 0
-  pass-start = record { place = omega arith; each = λ k h. absurd (omega arith) }
+  pub judge-start : Judging P n 0
+  judge-start = record { place = omega arith; each = λ k h. absurd (omega arith) }
 
-  pub pass-next : {i : ℕ} → Passing P n i → i < n → P i → Passing P n (i + 1)
-  pass-next {i} r h p = record { place = omega arith; each = below-more P i (r .each) p }
+  pub judge-next : {i : ℕ} → Judging P n i → i < n → P i → Judging P n (i + 1)
+  judge-next {i} r h p = record { place = omega arith; each = below-more P i (r .each) p }
 
-  pub pass-end : {i : ℕ} → Passing P n i → n ≤ i → (k : ℕ) → k < n → P k
-  pass-end r h k l = r .each k (omega arith)
+  pub judge-end : {i : ℕ} → Judging P n i → n ≤ i → (k : ℕ) → k < n → P k
+  judge-end r h k l = r .each k (omega arith)
 
 -- ---- of every filled word of a table
-abbrev pub Filled : ℕ → Type 0
-Filled w = w ≡ 0 → ⊥
-
-pub decides-filled : (w : ℕ) {b : Bool} {P : Type 0} → Decides b P → Decides (eqb w 0 || b) (Filled w → P)
-decides-filled w {b} {P} d =
+pub decides-unless-empty : (w : ℕ) {b : Bool} {P : Type 0} → Decides b P → Decides (eqb w 0 || b) (NotEmpty w → P)
+decides-unless-empty w {b} {P} d =
     decides-as
     (λ (e : (w ≡ 0) ⊎ P) f. ⊎-elim (λ z. absurd (f z)) (λ p. p) e)
     (λ h. ⊎-elim (λ z. inl z) (λ f. inr (h f)) (equal w 0))
@@ -93,7 +91,7 @@ decides-filled w {b} {P} d =
 module _ (P : ℕ → Type 0) (ws : List ℕ) where
   -- what a loop over the places asks of the word at a place
   abbrev pub AtPlace : ℕ → Type 0
-  AtPlace k = Filled (getD ws k 0) → P (getD ws k 0)
+  AtPlace k = NotEmpty (getD ws k 0) → P (getD ws k 0)
 
   pub each-place : ((w : ℕ) → Has ws w → P w) → (k : ℕ) → k < length ws → AtPlace k
   each-place h k l f = h (getD ws k 0) (record { spot = k; within = l; holds = refl; filled = f })

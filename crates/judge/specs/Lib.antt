@@ -1,10 +1,10 @@
--- What the parts of the test say, and the laws that put them together.
-pub mod DecideLaws
+-- What the parts of the test say, then the laws that put them together.
 pub mod Parts
+pub mod Sharing
+pub mod DecideLaws
 pub mod KnownLaws
 pub mod MoreLaws
-pub mod Sharing
 pub mod SharingLaws
-pub mod LentLaws
+pub mod MarkLaws
 pub mod RouteLaws
 pub mod ValidLaws

@@ -9,7 +9,7 @@ use lib.ListN.{length, getD, take, length-append, List·getD-append}
 use lib.Seq.{take-suc, getD-append-seam, getD-take, length-take-le}
 use Rattle.table.specs.ScanLaws.{equal}
 use Rattle.table.specs.Table.{Has, Distinct}
-use Rattle.judge.specs.DecideLaws.{Filled}
+use Rattle.judge.specs.Parts.{NotEmpty}
 
 -- the first i + 1 words
 pub take-more : (ws : List ℕ) (i : ℕ) → i < length ws → take (i + 1) ws ≡ take i ws ++ (getD ws i 0 ∷ [])
@@ -35,16 +35,16 @@ module _ (ws : List ℕ) (w : ℕ) where
   has-more-old u r =
       record { spot = r .spot; within = omega (arith, length-more, r .within); holds = at-old (r .spot) (r .within) ∙ r .holds; filled = r .filled }
 
-  pub has-more-new : Filled w → Has (ws ++ (w ∷ [])) w
+  pub has-more-new : NotEmpty w → Has (ws ++ (w ∷ [])) w
   has-more-new f = record { spot = length ws; within = omega (arith, length-more); holds = at-new (length ws) refl; filled = f }
 
-  pub has-more-inv : (u : ℕ) → Has (ws ++ (w ∷ [])) u → Has ws u ⊎ ((u ≡ w) × Filled w)
+  pub has-more-inv : (u : ℕ) → Has (ws ++ (w ∷ [])) u → Has ws u ⊎ ((u ≡ w) × NotEmpty w)
   has-more-inv u r = ⊎-elim new old (equal (r .spot) (length ws))
     where
-      new : r .spot ≡ length ws → Has ws u ⊎ ((u ≡ w) × Filled w)
+      new : r .spot ≡ length ws → Has ws u ⊎ ((u ≡ w) × NotEmpty w)
       new e = let q : u ≡ w = sym (r .holds) ∙ at-new (r .spot) e in inr (q, λ z. r .filled (q ∙ z))
 
-      old : (r .spot ≡ length ws → ⊥) → Has ws u ⊎ ((u ≡ w) × Filled w)
+      old : (r .spot ≡ length ws → ⊥) → Has ws u ⊎ ((u ≡ w) × NotEmpty w)
       old n =
           let l : r .spot < length ws = omega (arith, length-more, r .within) in
           inl (record { spot = r .spot; within = l; holds = sym (at-old (r .spot) l) ∙ r .holds; filled = r .filled })

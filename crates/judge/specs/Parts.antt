@@ -1,7 +1,7 @@
 -- What the parts of the test ask, where the model's rule names more than a part is handed.
 use Prim.Native.Nat.{ℕ, _+_, _*_, _≤_, _<_}
-use mathlib.Core.List.{List}
 use mathlib.Core.Bool.{true}
+use mathlib.Core.List.{List}
 use mathlib.Core.Logic.{_⊎_}
 use mathlib.Core.Path.{_≡_}
 use Rattle.numbers.specs.Limits.{PAGES, UNITS, PORTS, IDLE, ENTRIES, PAIRS, SLOTS, SETS, SET-WORDS}
@@ -34,6 +34,10 @@ pub record SetupNumbers (pages base count units : ℕ) : Type 0 where
 abbrev pub setupWith : ℕ → ℕ → ℕ → List Unit → ℕ → Setup
 setupWith pages base count units unit-count =
     record { pages = pages; sharedBase = base; sharedCount = count; units = units; unitCount = unit-count }
+
+-- ---- 5 to 7: a word that is none of the table's empty places
+abbrev pub NotEmpty : ℕ → Type 0
+NotEmpty w = w ≡ 0 → ⊥
 
 -- ---- 5 and 6: what a pair's word and an entry's word have in common
 pub record KnownWord (pages known w : ℕ) : Type 0 where

@@ -1,16 +1,15 @@
 -- Pairs by their borrowers: two good pairs have the same key where they lend the same page to the same VM.
-use Prim.Native.Nat.{ℕ, _+_, _*_, _/_, _≤_, _<_, min, max}
-use mathlib.Core.Bool.{Bool, true, false, true≢false, _&&_}
-use mathlib.Core.List.{List, [], _∷_, _++_}
+use Prim.Native.Nat.{ℕ, _+_, _*_, _/_, _<_, min, max}
+use mathlib.Core.Bool.{true, false, true≢false}
+use mathlib.Core.List.{List}
 use mathlib.Core.Logic.{_⊎_, inl, inr, ⊎-elim}
-use mathlib.Core.Path.{_≡_, refl, sym, ap, _∙_}
+use mathlib.Core.Path.{_≡_, refl, sym, _∙_}
 use native.Mathlib.Omega.{arith}
-use borrow.Author.Tests.{eq-eqb, eqb-true}
-use Rattle.numbers.specs.Limits.{PAGES, VMS, SET-WORDS}
+use Rattle.numbers.specs.Limits.{VMS}
 use Rattle.numbers.specs.Packing.{leftOf, rightOf, pageOf, filledOf, pairKey, pairKeyOf}
 use Rattle.numbers.specs.PackingLaws.{pair-either}
 use Rattle.table.specs.ScanLaws.{cases}
-use Rattle.pages.specs.Rows.{holds, cpuRow}
+use Rattle.pages.specs.Rows.{cpuRow}
 use Rattle.model.specs.Valid.{KnownGood, PagesGood, PairGood, Home}
 use Rattle.model.specs.Views.{owns}
 use Rattle.judge.specs.KnownLaws.{knows-below}

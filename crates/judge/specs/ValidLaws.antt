@@ -1,6 +1,4 @@
 -- The lengths of what is lent, and those that the header has by type, are the lengths that rule 1 asks for.
-use Prim.Native.Nat.{ℕ}
-use mathlib.Core.List.{List}
 use mathlib.Core.Path.{_≡_}
 use lib.ListN.{length}
 use Rattle.numbers.specs.Limits.{UNITS, PORTS}

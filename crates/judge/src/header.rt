@@ -1,9 +1,9 @@
 // Rules 1 to 3: the lengths of what is lent, the setup, and the known VMs.
 ghost use mathlib.Core.Path.{_≡_};
-ghost use Prim.Native.Nat.{ℕ, _^_, _≤_, _<_};
+ghost use Prim.Native.Nat.{ℕ, _≤_, _<_};
 ghost use lib.ListN.{getD};
 ghost use Rattle.numbers.specs.Decides.{Decides};
-ghost use Rattle.numbers.specs.Limits.{UNITS, VMS};
+ghost use Rattle.numbers.specs.Limits.{UNITS};
 ghost use Rattle.units.specs.Units.{noUnit};
 ghost use Rattle.model.specs.Valid.{UnitGood, SetupGood, KnownGood};
 ghost use Rattle.model.specs.Views.{knows};
@@ -115,7 +115,7 @@ pub fn known_vms(known: u64) -> bool
 
 // Whether a VM of any number at all is known: by rule 3 none at VMS or above is.
 pub fn is_known(known: u64, vm: VmId) -> bool
-    requires { ⌜ known < 2 ^ VMS ⌝ }
+    requires { ⌜ KnownGood known ⌝ }
     ensures { λ r. ⌜ r ≡ knows known (vm .0) ⌝ }
 {
     if VMS <= vm.0 {

@@ -52,7 +52,7 @@ pub fn valid(
     if !homes::page_sets(sets, pages, m.shared_base, m.shared_count, known) {
         return false;
     }
-    let mut lent = [0u64; 256];
+    let mut lent = [0u64; sharing::LENT_WORDS];
     if !sharing::pairs(pairs, sets, &mut lent, pages, known) {
         return false;
     }

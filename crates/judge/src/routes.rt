@@ -1,17 +1,16 @@
 // Rules 6 to 8, written once for a side: its maps, its cache, its ports and its hand.
 ghost use mathlib.Core.Path.{_≡_};
-ghost use Prim.Native.Nat.{ℕ, _*_, _^_, _≤_, _<_};
+ghost use Prim.Native.Nat.{ℕ, _*_, _≤_, _<_};
 ghost use lib.ListN.{length};
 ghost use Rattle.numbers.specs.Decides.{Decides};
 ghost use Rattle.numbers.specs.Limits.{PAGES, VMS, ENTRIES, SLOTS, SETS, SET-WORDS};
 ghost use Rattle.numbers.specs.Packing.{keyOf};
 ghost use Rattle.table.specs.Table.{Has, Distinct};
-ghost use Rattle.model.specs.Valid.{EntryGood, CacheGood, PortsGood, RouteGood};
+ghost use Rattle.model.specs.Valid.{KnownGood, EntryGood, CacheGood, PortsGood, RouteGood};
 ghost use Rattle.model.specs.Views.{mayMap};
 ghost use Rattle.keys.specs.Keys.{Packed};
-ghost use Rattle.judge.specs.DecideLaws.{Filled};
-ghost use Rattle.judge.specs.Parts.{MapsGood, SlotPacked, PortGood, routeWith};
-ghost use Rattle.judge.specs.Sharing.{Lends};
+ghost use Rattle.judge.specs.Parts.{NotEmpty, MapsGood, SlotPacked, PortGood, routeWith};
+ghost use Rattle.judge.specs.Sharing.{Lends, Ground};
 use super::header::is_known;
 use super::words::known_word;
 use numbers::IDLE;
@@ -55,8 +54,8 @@ fn entry_good(
     pages: u64,
     known: u64,
 ) -> bool
-    requires { ⌜ (length (now sets) ≡ SETS * SET-WORDS) × (Lends pages (now sets) (now pairs) (now lent)) × (pages ≤ PAGES) × (known < 2 ^ VMS) ⌝ }
-    ensures { λ r. ⌜ Decides r (Filled w → EntryGood side pages known (now (sets .entry)) (now (pairs .entry)) w) ⌝ }
+    requires { ⌜ Ground pages known (now sets) (now pairs) (now lent) ⌝ }
+    ensures { λ r. ⌜ Decides r (NotEmpty w → EntryGood side pages known (now (sets .entry)) (now (pairs .entry)) w) ⌝ }
 {
     if w == 0 {
         return true;
@@ -85,7 +84,7 @@ fn entries(
     pages: u64,
     known: u64,
 ) -> bool
-    requires { ⌜ (length (now sets) ≡ SETS * SET-WORDS) × (Lends pages (now sets) (now pairs) (now lent)) × (pages ≤ PAGES) × (known < 2 ^ VMS) ⌝ }
+    requires { ⌜ Ground pages known (now sets) (now pairs) (now lent) ⌝ }
     ensures { λ r. ⌜ Decides r ((w : ℕ) → Has (now (table .entry)) w → EntryGood side pages known (now (sets .entry)) (now (pairs .entry)) w) ⌝ }
 {
     let mut i = 0;
@@ -109,7 +108,7 @@ fn maps(
     pages: u64,
     known: u64,
 ) -> bool
-    requires { ⌜ (length (now map) ≡ ENTRIES) × (length (now walker) ≡ ENTRIES) × (length (now sets) ≡ SETS * SET-WORDS) × (Lends pages (now sets) (now pairs) (now lent)) × (pages ≤ PAGES) × (known < 2 ^ VMS) ⌝ }
+    requires { ⌜ (length (now map) ≡ ENTRIES) × (length (now walker) ≡ ENTRIES) × Ground pages known (now sets) (now pairs) (now lent) ⌝ }
     ensures { λ r. ⌜ Decides r (MapsGood side pages known (now (sets .entry)) (now (pairs .entry)) (now (map .entry)) (now (walker .entry))) ⌝ }
 {
     if !entries(side, map, sets, pairs, lent, pages, known) {
@@ -125,7 +124,7 @@ fn maps(
 
 // One slot: empty, or filled and of a port.
 fn slot_packed(w: u64) -> bool
-    ensures { λ r. ⌜ Decides r (Filled w → SlotPacked w) ⌝ }
+    ensures { λ r. ⌜ Decides r (NotEmpty w → SlotPacked w) ⌝ }
 {
     (w == 0) | ((numbers::port_of(w) < PORTS) & (numbers::filled_of(w) == 1))
 }
@@ -158,14 +157,14 @@ fn caches(walker: &[u64], cache: &[u64]) -> bool
 
 // One port: idle, or with a known VM on it.
 fn port_good(known: u64, vm: u64) -> bool
-    requires { ⌜ known < 2 ^ VMS ⌝ }
+    requires { ⌜ KnownGood known ⌝ }
     ensures { λ r. ⌜ Decides r (PortGood known vm) ⌝ }
 {
     (vm == IDLE) | is_known(known, VmId(vm))
 }
 
 fn ports(known: u64, ports: [u64; 8]) -> bool
-    requires { ⌜ known < 2 ^ VMS ⌝ }
+    requires { ⌜ KnownGood known ⌝ }
     ensures { λ r. ⌜ Decides r (PortsGood known ports) ⌝ }
 {
     let mut port = 0;
@@ -193,7 +192,7 @@ pub fn route(
     on_ports: [u64; 8],
     hand: u64,
 ) -> bool
-    requires { ⌜ (length (now map) ≡ ENTRIES) × (length (now walker) ≡ ENTRIES) × (length (now cache) ≡ SLOTS) × (length (now sets) ≡ SETS * SET-WORDS) × (Lends pages (now sets) (now pairs) (now lent)) × (pages ≤ PAGES) × (known < 2 ^ VMS) ⌝ }
+    requires { ⌜ (length (now map) ≡ ENTRIES) × (length (now walker) ≡ ENTRIES) × (length (now cache) ≡ SLOTS) × Ground pages known (now sets) (now pairs) (now lent) ⌝ }
     ensures { λ r. ⌜ Decides r (RouteGood side pages known (now (sets .entry)) (now (pairs .entry)) (routeWith (now (map .entry)) (now (walker .entry)) (now (cache .entry)) hand «on_ports»)) ⌝ }
 {
     if !maps(side, map, walker, sets, pairs, lent, pages, known) {

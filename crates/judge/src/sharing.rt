@@ -1,25 +1,27 @@
 // Rule 5: sharing pairs, in one pass. A page has one owner by rule 4, so a pair is known by its page and its other end, the
 // borrower: a pair stored twice marks the same bit twice.
 ghost use mathlib.Core.Path.{_≡_};
-ghost use Prim.Native.Nat.{_*_, _^_, _≤_, _<_};
+ghost use Prim.Native.Nat.{_*_, _≤_, _<_};
 ghost use lib.ListN.{length, replicate};
 ghost use Rattle.numbers.specs.Decides.{Decides};
 ghost use Rattle.numbers.specs.Limits.{PAGES, VMS, SETS, SET-WORDS};
 ghost use Rattle.numbers.specs.Packing.{leftOf, pageOf};
-ghost use Rattle.model.specs.Valid.{PairGood};
+ghost use Rattle.model.specs.Valid.{KnownGood, PairGood};
 ghost use Rattle.judge.specs.Parts.{PairPacked};
 ghost use Rattle.judge.specs.Sharing.{OneOwner, borrowerOf, Marked, PairsJudged};
 use super::header::is_known;
 use super::words::known_word;
+use numbers::SET_WORDS;
 use numbers::Side;
+use numbers::VMS;
 use numbers::VmId;
 
 // Words of a set of pages for each VM.
-pub const LENT_WORDS: usize = 256;
+pub const LENT_WORDS: usize = VMS as usize * SET_WORDS;
 
 // A word that packs a pair of two different known VMs.
 fn packs_pair(w: u64, pages: u64, known: u64) -> bool
-    requires { ⌜ known < 2 ^ VMS ⌝ }
+    requires { ⌜ KnownGood known ⌝ }
     ensures { λ r. ⌜ Decides r (PairPacked pages known w) ⌝ }
 {
     let left = numbers::left_of(w);
@@ -33,7 +35,7 @@ fn packs_pair(w: u64, pages: u64, known: u64) -> bool
 
 // One whose page belongs to one of the two.
 fn pair_good(w: u64, sets: &[u64], pages: u64, known: u64) -> bool
-    requires { ⌜ (length (now sets) ≡ SETS * SET-WORDS) × (pages ≤ PAGES) × (known < 2 ^ VMS) ⌝ }
+    requires { ⌜ (length (now sets) ≡ SETS * SET-WORDS) × (pages ≤ PAGES) × (KnownGood known) ⌝ }
     ensures { λ r. ⌜ Decides r (PairGood pages known (now (sets .entry)) w) ⌝ }
 {
     if !packs_pair(w, pages, known) {
@@ -59,7 +61,7 @@ fn borrower(w: u64, sets: &[u64]) -> VmId
 
 // One word of the pairs: empty, or a good pair whose page is not marked as lent to its borrower. It is marked then.
 fn mark_pair(w: u64, sets: &[u64], lent: &mut [u64], pages: u64, known: u64) -> bool
-    requires { ⌜ (length (now sets) ≡ SETS * SET-WORDS) × (length (now lent) ≡ VMS * SET-WORDS) × (pages ≤ PAGES) × (known < 2 ^ VMS) ⌝ }
+    requires { ⌜ (length (now sets) ≡ SETS * SET-WORDS) × (length (now lent) ≡ VMS * SET-WORDS) × (pages ≤ PAGES) × (KnownGood known) ⌝ }
     ensures { λ r. ⌜ Marked pages known (now (sets .entry)) w (now (lent .entry)) (now (lent .exit)) r ⌝ }
 {
     if w == 0 {
@@ -79,7 +81,7 @@ fn mark_pair(w: u64, sets: &[u64], lent: &mut [u64], pages: u64, known: u64) -> 
 
 // All pairs. What was an empty set for each VM leaves as the pages that pairs lend to it.
 pub fn pairs(pairs: &[u64], sets: &[u64], lent: &mut [u64], pages: u64, known: u64) -> bool
-    requires { ⌜ (length (now sets) ≡ SETS * SET-WORDS) × (now lent ≡ replicate (VMS * SET-WORDS) 0) × (pages ≤ PAGES) × (known < 2 ^ VMS) × OneOwner pages (now sets) ⌝ }
+    requires { ⌜ (length (now sets) ≡ SETS * SET-WORDS) × (now lent ≡ replicate (VMS * SET-WORDS) 0) × (pages ≤ PAGES) × (KnownGood known) × OneOwner pages (now sets) ⌝ }
     ensures { λ r. ⌜ PairsJudged pages known (now (sets .entry)) (now (pairs .entry)) (now (lent .exit)) r ⌝ }
 {
     let mut i = 0;

@@ -13,7 +13,7 @@ use Rattle.table.specs.Table.{Has, Distinct, lookup}
 use Rattle.model.specs.Valid.{SameMap}
 
 -- ---- the numbers of the index, under the names that the code has for them
--- classes of keys: a VM, and the high bits of a guest page
+-- classes of keys: a VM and the high bits of a guest page, so that the two of a map's word tell its key
 abbrev pub CLASSES : ℕ
 CLASSES = 1024
 
@@ -21,7 +21,7 @@ CLASSES = 1024
 abbrev pub PLACES : ℕ
 PLACES = 1024
 
--- a link is a number of 16 bits: one more than a place, or 0
+-- a link is a number of 16 bits, one more than a place, or 0: a table that can be chained has fewer places than this
 abbrev pub LINKS : ℕ
 LINKS = 65536
 
@@ -36,7 +36,7 @@ lowOf w = addressOf w / 2 % PLACES
 abbrev pub mapWordOf : ℕ → ℕ
 mapWordOf w = mapWord (vmOf w) (guestOf w) (entryOf w)
 
--- ---- what is known of the words before they are compared
+-- ---- what is known of the words before they are compared: a map's are packed, and slots may have any port and VM
 pub record PackedWord (w : ℕ) : Type 0 where
   pub port : portOf w ≡ 0
   pub filled : filledOf w ≡ 1
@@ -60,7 +60,7 @@ pub record SlotsHeld (walker cache : List ℕ) : Type 0 where
   pub each : (w : ℕ) → Has cache w → lookup keyOf walker (addressOf w) ≡ mapWordOf w
   pub once : Distinct keyOf cache
 
--- what both come down to: no key twice in the map, and each slot holds the map's entry
+-- what all classes tell of slots: no key is twice in the map, and each slot holds the map's entry
 pub record Held (slots map : List ℕ) : Type 0 where
   pub once : Distinct keyOf map
   pub each : (w : ℕ) → Has slots w → lookup keyOf map (addressOf w) ≡ mapWordOf w

@@ -9,6 +9,7 @@ use lib.Dec.{eqb, ltb}
 use lib.ListN.{length, getD}
 use borrow.Author.Tests.{eq-eqb, ne-eqb, eqb-true, eqb-false, ltb-true, ltb-false}
 use Rattle.numbers.specs.Decides.{Decides}
+use Rattle.numbers.specs.Limits.{VMS}
 use Rattle.numbers.specs.Packing.{portOf, filledOf, keyOf, addressOf}
 use Rattle.numbers.specs.PackingLaws.{word-whole, key-filled, address-key}
 use Rattle.table.specs.ScanLaws.{cases, equal}
@@ -36,7 +37,7 @@ tested-yes p b = record { answer = yes p; blank = λ z. b }
 pub tested-no : {P : Type 0} {place : List ℕ} → (P → ⊥) → Tested P place false
 tested-no n = record { answer = no n; blank = λ z. absurd (true≢false (sym z)) }
 
--- ---- words: class and place in it are the address's
+-- ---- words: class and low bits are the address's
 address-class : (u w : ℕ) → addressOf u ≡ addressOf w → classOf u ≡ classOf w
 unfolding classOf
 address-class u w e = ap (λ a. a / 2 / PLACES % CLASSES) e
@@ -58,12 +59,12 @@ address-kept w =
     above : (port low : ℕ) → (port * 33554432 + low) % 33554432 ≡ low % 33554432
     above port low = omega arith
 
--- of a packed word, class and place tell the key
+-- class and low bits of a packed word tell its key
 packed-whole : (w : ℕ) → PackedWord w → keyOf w ≡ (classOf w * PLACES + lowOf w) * 2 + 1
 unfolding classOf lowOf
 packed-whole w r =
     let a : w / 281474976710656 / 256 ≡ portOf w = omega arith in
-    let b : w / 281474976710656 < 16 = omega arith in
+    let b : w / 281474976710656 < VMS = omega arith in
     let c : addressOf w ≡ keyOf w = address-key w (r .port) in
     let d : keyOf w / 2 / PLACES < CLASSES = omega arith in
     omega arith
@@ -172,7 +173,7 @@ module _ (slots map : List ℕ) (packed : Packed map) where
           let e = t .each w h in
           rw e at (lookup-has keyOf map (addressOf w) (λ z. filled-own w (filled w h) (sym e ∙ z)) .0)
 
--- the low bits of the word that a slot holds are the slot's, and so is its class
+-- the word that a slot holds is of the slot's class
 pub slot-class : (w : ℕ) → classOf (mapWordOf w) ≡ classOf w
 slot-class w = address-class (mapWordOf w) w (address-kept w)
 

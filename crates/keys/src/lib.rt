@@ -12,7 +12,8 @@ use numbers::ENTRIES;
 use numbers::SLOTS;
 use table::Found;
 
-// Classes of keys: a VM, and the high bits of a guest page.
+// Classes of keys: a VM, and the high bits of a guest page. A slot's VM may be any, and then classes wrap: words are compared
+// whole.
 const CLASSES: usize = 1024;
 // Places of a class: the low bits of a guest page.
 const PLACES: usize = 1024;
@@ -311,8 +312,8 @@ fn first_of_key(words: &[u64], i: usize) -> bool
     }
 }
 
-// Whether no key is there twice. Each filled place is the first of its key: for a cache's few slots the square of their
-// number is less than a table of places would cost.
+// Whether no key is there twice: each place is the first of its key. It takes half the square of the length in steps, which
+// for the few slots of a cache is less than chains by port and VM would.
 fn once(words: &[u64]) -> bool
     ensures { λ r. ⌜ Decides r (Distinct keyOf (now (words .entry))) ⌝ }
 {

@@ -21,9 +21,17 @@ pub mod GoodRegions
 pub mod GoodPorts
 pub mod GoodAccess
 pub mod Kept
+pub mod FullMaps
+pub mod Refusals
 pub mod ExactLaws
 pub mod ExactViews
 pub mod ExactLedger
 pub mod ExactMaps
 pub mod ExactRegions
 pub mod Exactly
+pub mod Determined
+pub mod Answers
+pub mod EffectLaws
+pub mod Secret
+pub mod Secrecy
+pub mod SecrecyCalls

@@ -274,3 +274,13 @@ one-holder pages base count known sets g vm vm′ page v v′ l e e′ = ⊎-eli
 
     held : holdsDma sets vm page ≡ true → vm ≡ vm′
     held d = ⊎-elim (λ o′. sym (owner-holder pages base count known sets g vm′ vm page v′ v l o′ d)) (g .one-dma vm vm′ page v v′ l d) other
+
+-- a page of the shared span has none
+pub span-unheld : (pages base count known : ℕ) (sets : List ℕ) → PagesGood pages base count known sets → (vm page : ℕ) → vm < VMS → page < pages → inShared sets page ≡ true → holdsPage sets vm page ≡ true → ⊥
+span-unheld pages base count known sets g vm page v l s e = ⊎-elim owned held (either (owns sets vm page) (holdsDma sets vm page) e)
+  where
+    owned : owns sets vm page ≡ true → ⊥
+    owned o = let q = g .one-home (cpuRow vm) sharedRow page (cpu vm v) shared l o s in omega arith
+
+    held : holdsDma sets vm page ≡ true → ⊥
+    held d = ⊎-elim owned (λ p. let q = g .one-home poolRow sharedRow page pool shared l p s in omega arith) (g .dma-home vm page v l d)

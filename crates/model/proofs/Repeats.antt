@@ -16,3 +16,8 @@ module _ {A : Type 0} (f : ℕ → A → A) (P : ℕ → A → A → Type 0) (n 
 -- of one
 pub repeat-keeps : {A : Type 0} (f : ℕ → A → A) (P : ℕ → A → Type 0) (n : ℕ) → ((k : ℕ) (a : A) → k < n → P k a → P (suc k) (f k a)) → (a : A) → P 0 a → P n (repeat f 0 n a)
 repeat-keeps f P n next a p = repeat-both f (λ k b c. P k b) n (λ k b c. next k b) a a p
+
+-- the last step alone
+pub repeat-last : {A : Type 0} (f : ℕ → A → A) (i n : ℕ) (a : A) → repeat f i (suc n) a ≡ f (i + n) (repeat f i n a)
+repeat-last f i zero a = let z : i + 0 ≡ i = omega arith in rw z
+repeat-last f i (suc n) a = let z : i + suc n ≡ suc i + n = omega arith in rw z (repeat-last f (suc i) n (f i a))

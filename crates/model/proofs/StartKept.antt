@@ -42,10 +42,10 @@ module _ (n : ℕ) where
       (λ h. List·getD-eq-default (zeros n) 0 (omega (arith, length-replicate {A = ℕ} n 0)))
       (below-or i n)
 
-  empty-has : (w : ℕ) → Has (zeros n) w → ⊥
+  pub empty-has : (w : ℕ) → Has (zeros n) w → ⊥
   empty-has w r = r .filled (sym (r .holds) ∙ zero-at (r .spot))
 
-  empty-distinct : (key : ℕ → ℕ) → key 0 ≡ 0 → Distinct key (zeros n)
+  pub empty-distinct : (key : ℕ → ℕ) → key 0 ≡ 0 → Distinct key (zeros n)
   unfolding Distinct
   empty-distinct key z i j h l e = rw (zero-at j) z
 

@@ -1,11 +1,16 @@
 -- Laws of memory: what clearing a part and storing words keep and change.
 use Prim.Native.Nat.{ℕ, zero, suc, _+_, _-_, _≤_, _<_}
 use mathlib.Core.List.{List, [], _∷_, _++_}
+use mathlib.Core.Logic.{⊎-elim}
 use mathlib.Core.Path.{_≡_, refl, sym, ap, _∙_}
 use native.Mathlib.Omega.{arith}
-use lib.ListN.{length, getD, take, drop, replicate, length-set, length-drop}
-use lib.Seq.{length-take-le, drop-drop}
-use Rattle.model.specs.Effect.{zeroed, clearPage, clearedPages, Store, stored, Effect, reads, writes, clears, apply}
+use lib.Dec.{ltb}
+use lib.ListN.{length, getD, set, take, drop, replicate, length-set, length-drop}
+use lib.Seq.{length-take-le, drop-drop, getD-set-same, getD-set-other, set-out}
+use borrow.Author.Tests.{ltb-true, ltb-false}
+use Rattle.numbers.specs.Limits.{PAGE-WORDS}
+use Rattle.table.specs.ScanLaws.{cases, equal}
+use Rattle.model.specs.Effect.{memoryIndex, wordIn, zeroed, clearPage, clearedPages, Store, stored, Effect, reads, writes, clears, apply}
 
 -- ---- a part set to zero
 pub length-zeroed : (skip count : ℕ) (ws : List ℕ) → length (zeroed skip count ws) ≡ length ws
@@ -83,3 +88,37 @@ pub getD-there : (ws : List ℕ) (i d d′ : ℕ) → i < length ws → getD ws 
 getD-there [] i d d′ h = absurd (omega arith)
 getD-there (w ∷ ws) zero d d′ h = refl
 getD-there (w ∷ ws) (suc i) d d′ h = getD-there ws i d d′ (omega arith)
+
+-- ---- a word of a page, after a store or a clearing
+-- a word of another page stays where a word is stored
+pub store-elsewhere : (memory : List ℕ) (page word value page′ word′ : ℕ) → word < PAGE-WORDS → word′ < PAGE-WORDS → (page ≡ page′ → ⊥) →
+    wordIn (set memory (memoryIndex page word) value) page′ word′ ≡ wordIn memory page′ word′
+unfolding wordIn
+store-elsewhere memory page word value page′ word′ h h′ ne = getD-set-other memory (memoryIndex page word) (memoryIndex page′ word′) value 0 (λ e. ne (omega arith))
+
+-- memories of one length that agree at a word agree there after the same store
+pub store-both : (a b : List ℕ) (i value page word : ℕ) → length a ≡ length b → wordIn a page word ≡ wordIn b page word → wordIn (set a i value) page word ≡ wordIn (set b i value) page word
+unfolding wordIn
+store-both a b i value page word l e = ⊎-elim here there (equal j i)
+  where
+    j : ℕ
+    j = memoryIndex page word
+
+    here : j ≡ i → getD (set a i value) j 0 ≡ getD (set b i value) j 0
+    here z =
+        ⊎-elim (λ t. let h = ltb-true i (length a) t in rw (z, getD-set-same a i value 0 h, getD-set-same b i value 0 (omega (arith, l))))
+        (λ f. let h = ltb-false i (length a) f in rw (set-out a i value h, set-out b i value (omega (arith, l))) e) (cases (ltb i (length a)))
+
+    there : (j ≡ i → ⊥) → getD (set a i value) j 0 ≡ getD (set b i value) j 0
+    there n = getD-set-other a i j value 0 n ∙ e ∙ sym (getD-set-other b i j value 0 n)
+
+-- a cleared page is all zero, and a word of another page stays
+pub clear-there : (memory : List ℕ) (page word : ℕ) → word < PAGE-WORDS → wordIn (clearPage memory page) page word ≡ 0
+unfolding wordIn clearPage
+clear-there memory page word h = zeroed-inside (memoryIndex page 0) PAGE-WORDS memory (memoryIndex page word) (omega arith) (omega arith)
+
+pub clear-elsewhere : (memory : List ℕ) (page page′ word : ℕ) → word < PAGE-WORDS → (page ≡ page′ → ⊥) → wordIn (clearPage memory page) page′ word ≡ wordIn memory page′ word
+unfolding wordIn clearPage
+clear-elsewhere memory page page′ word h ne =
+    ⊎-elim (λ t. let b = ltb-true page′ page t in zeroed-before (memoryIndex page 0) PAGE-WORDS memory (memoryIndex page′ word) (omega arith))
+    (λ f. let b = ltb-false page′ page f in zeroed-behind (memoryIndex page 0) PAGE-WORDS memory (memoryIndex page′ word) (omega (arith, ne))) (cases (ltb page′ page))

@@ -1,6 +1,10 @@
 -- `keys::same_maps` meets its contract.
 use borrow.Author.Needs.{needs}
-use mathlib.Core.Path.{refl}
+use Prim.Native.Nat.{ℕ}
+use mathlib.Core.Path.{refl, sym, _∙_}
+use native.Mathlib.Omega.{arith}
+use lib.ListN.{length-replicate}
+use Rattle.numbers.specs.Limits.{ENTRIES}
 use Rattle.keys.specs.PlaceLaws.{blank-start}
 use Rattle.keys.proofs.same_maps.Statement.{statement}
 use Rattle.keys.proofs.same_maps.Tie as tie
@@ -12,7 +16,7 @@ slice-aggregate-chain-2 : tie.Need-slice-aggregate-chain-2
 slice-aggregate-chain-2 c = search needs
 
 chain-requires : tie.Need-chain-requires
-chain-requires c κs = search needs
+chain-requires c κs = (refl, length-replicate {A = ℕ} ENTRIES 0 ∙ sym (c .before .before .before .before .pre .0), omega (arith, c .before .before .before .before .pre .0))
 
 slice-aggregate-chain-3 : tie.Need-slice-aggregate-chain-3
 slice-aggregate-chain-3 c = search needs
@@ -21,7 +25,7 @@ slice-aggregate-chain-4 : tie.Need-slice-aggregate-chain-4
 slice-aggregate-chain-4 c = search needs
 
 chain-requires-2 : tie.Need-chain-requires-2
-chain-requires-2 c κs = search needs
+chain-requires-2 c κs = (refl, length-replicate {A = ℕ} ENTRIES 0 ∙ sym (c .before .before .before .before .before .before .before .before .before .pre .1), omega (arith, c .before .before .before .before .before .before .before .before .before .pre .1))
 
 slice-aggregate-agreed : tie.Need-slice-aggregate-agreed
 slice-aggregate-agreed c = search needs

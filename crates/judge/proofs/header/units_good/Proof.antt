@@ -3,18 +3,18 @@ use Prim.Native.Nat.{ℕ, _-_}
 use lib.ListN.{getD}
 use Rattle.units.specs.Units.{noUnit}
 use Rattle.model.specs.Valid.{UnitGood}
-use Rattle.judge.specs.DecideLaws.{Passing, pass-start, pass-next, pass-end, passed, failed, says-yes, says-no}
+use Rattle.judge.specs.DecideLaws.{Judging, judge-start, judge-next, judge-end, passed, failed, says-yes, says-no}
 use Rattle.judge.proofs.header.units_good.Statement.{statement}
 use Rattle.judge.proofs.header.units_good.Tie as tie
 
 abbrev Inv-loop : tie.InvT-loop
-Inv-loop count pages units k₀ k = Passing (λ (j : ℕ). UnitGood pages (getD units j noUnit)) count k
+Inv-loop count pages units k₀ k = Judging (λ (j : ℕ). UnitGood pages (getD units j noUnit)) count k
 
 abbrev μ-loop : tie.MeasureT-loop
 μ-loop count pages units k₀ k = count - k
 
 loop-holds : tie.Need-loop-holds Inv-loop μ-loop
-loop-holds c = pass-start
+loop-holds c = judge-start
 
 mul-unit : tie.Need-mul-unit Inv-loop μ-loop
 mul-unit c = search needs
@@ -36,10 +36,10 @@ loop-less : tie.Need-loop-less Inv-loop μ-loop
 loop-less c = search needs
 
 loop-again : tie.Need-loop-again Inv-loop μ-loop
-loop-again c = pass-next (c .before .before .before .before .loop .inv) (c .before .before .before .loop-test .taken) (passed (c .before .unit-good .ensures) (c .if1 .left))
+loop-again c = judge-next (c .before .before .before .before .loop .inv) (c .before .before .before .loop-test .taken) (passed (c .before .unit-good .ensures) (c .if1 .left))
 
 returns-2 : tie.Need-returns-2 Inv-loop μ-loop
-returns-2 c = says-yes (pass-end (c .before .loop .inv) (c .loop-test .left))
+returns-2 c = says-yes (judge-end (c .before .loop .inv) (c .loop-test .left))
 
 pub units-good-spec : {M : Type 1} → statement M
 units-good-spec =

@@ -2,18 +2,18 @@ use borrow.Author.Needs.{needs}
 use Prim.Native.Nat.{_-_}
 use lib.ListN.{length}
 use Rattle.model.specs.Valid.{EntryGood}
-use Rattle.judge.specs.DecideLaws.{Passing, AtPlace, pass-start, pass-next, pass-end, each-place, each-word, says-yes, says-no, passed, failed}
+use Rattle.judge.specs.DecideLaws.{Judging, AtPlace, judge-start, judge-next, judge-end, each-place, each-word, says-yes, says-no, passed, failed}
 use Rattle.judge.proofs.routes.entries.Statement.{statement}
 use Rattle.judge.proofs.routes.entries.Tie as tie
 
 abbrev Inv-loop : tie.InvT-loop
-Inv-loop side table sets pairs lent pages known i₀ i = Passing (AtPlace (EntryGood side pages known sets pairs) table) (length table) i
+Inv-loop side table sets pairs lent pages known i₀ i = Judging (AtPlace (EntryGood side pages known sets pairs) table) (length table) i
 
 abbrev μ-loop : tie.MeasureT-loop
 μ-loop side table sets pairs lent pages known i₀ i = length table - i
 
 loop-holds : tie.Need-loop-holds Inv-loop μ-loop
-loop-holds c = pass-start
+loop-holds c = judge-start
 
 mul-entry-good : tie.Need-mul-entry-good Inv-loop μ-loop
 mul-entry-good c = search needs
@@ -34,10 +34,10 @@ loop-less : tie.Need-loop-less Inv-loop μ-loop
 loop-less c = search needs
 
 loop-again : tie.Need-loop-again Inv-loop μ-loop
-loop-again c = pass-next (c .before .before .before .before .loop .inv) (c .before .before .before .loop-test .taken) (passed (c .before .entry-good .ensures) (c .if1 .left))
+loop-again c = judge-next (c .before .before .before .before .loop .inv) (c .before .before .before .loop-test .taken) (passed (c .before .entry-good .ensures) (c .if1 .left))
 
 returns-2 : tie.Need-returns-2 Inv-loop μ-loop
-returns-2 c = says-yes (each-word _ _ (pass-end (c .before .loop .inv) (c .loop-test .left)))
+returns-2 c = says-yes (each-word _ _ (judge-end (c .before .loop .inv) (c .loop-test .left)))
 
 pub entries-spec : {M : Type 1} → statement M
 entries-spec =

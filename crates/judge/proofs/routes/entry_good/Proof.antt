@@ -26,7 +26,7 @@ may-map-requires : tie.Need-may-map-requires
 may-map-requires c κs =
     let p = c .before .before .before .before .before .before .before .before .pre in
     let k = passed (c .before .before .before .known-word .ensures) (c .before .before .if2 .left) in
-    (p .0, p .1, p .2, omega (arith, c .before .vm-of .ensures, knows-below _ _ (p .3) (k .vm)), omega (arith, c .page-of .ensures, k .page))
+    (p .size, p .lends, p .most-pages, omega (arith, c .before .vm-of .ensures, knows-below _ _ (p .known-vms) (k .vm)), omega (arith, c .page-of .ensures, k .page))
 
 returns-3 : tie.Need-returns-3
 returns-3 c =

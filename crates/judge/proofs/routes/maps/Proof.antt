@@ -4,13 +4,13 @@ use Rattle.judge.proofs.routes.maps.Statement.{statement}
 use Rattle.judge.proofs.routes.maps.Tie as tie
 
 entries-requires : tie.Need-entries-requires
-entries-requires c κs = let p = c .before .before .before .before .before .pre in (p .2, p .3, p .4, p .5)
+entries-requires c κs = c .before .before .before .before .before .pre .2
 
 returns : tie.Need-returns
 returns c = says-no (λ g. failed (c .before .entries .ensures) (c .if1 .taken) (g .map .each))
 
 entries-requires-2 : tie.Need-entries-requires-2
-entries-requires-2 c κs = let p = c .before .before .before .before .before .before .before .pre in (p .2, p .3, p .4, p .5)
+entries-requires-2 c κs = c .before .before .before .before .before .before .before .pre .2
 
 returns-2 : tie.Need-returns-2
 returns-2 c = says-no (λ g. failed (c .before .entries2 .ensures) (c .if2 .taken) (g .walker .each))
@@ -18,7 +18,7 @@ returns-2 c = says-no (λ g. failed (c .before .entries2 .ensures) (c .if2 .take
 same-maps-requires : tie.Need-same-maps-requires
 same-maps-requires c κs =
     let p = c .before .before .before .before .before .before .before .before .before .pre in
-    (p .0, p .1, packed _ _ _ _ _ _ (p .5) (passed (c .before .before .before .entries .ensures) (c .before .before .if1 .left)), packed _ _ _ _ _ _ (p .5) (passed (c .before .entries2 .ensures) (c .if2 .left)))
+    (p .0, p .1, packed _ _ _ _ _ _ (p .2 .known-vms) (passed (c .before .before .before .entries .ensures) (c .before .before .if1 .left)), packed _ _ _ _ _ _ (p .2 .known-vms) (passed (c .before .entries2 .ensures) (c .if2 .left)))
 
 returns-3 : tie.Need-returns-3
 returns-3 c =

@@ -3,19 +3,19 @@ use Prim.Native.Nat.{ℕ, _-_, _<_}
 use lib.ListN.{length, getD}
 use Rattle.numbers.specs.Limits.{PORTS, IDLE}
 use Rattle.model.specs.MemoryLaws.{getD-there}
-use Rattle.judge.specs.DecideLaws.{Passing, pass-start, pass-next, pass-end, says-yes, says-no, passed, failed}
+use Rattle.judge.specs.DecideLaws.{Judging, judge-start, judge-next, judge-end, says-yes, says-no, passed, failed}
 use Rattle.judge.specs.Parts.{PortGood}
 use Rattle.judge.proofs.routes.ports.Statement.{statement}
 use Rattle.judge.proofs.routes.ports.Tie as tie
 
 abbrev Inv-loop : tie.InvT-loop
-Inv-loop known ports port₀ port = Passing (λ (k : ℕ). PortGood known (getD ports k IDLE)) PORTS port
+Inv-loop known ports port₀ port = Judging (λ (k : ℕ). PortGood known (getD ports k IDLE)) PORTS port
 
 abbrev μ-loop : tie.MeasureT-loop
 μ-loop known ports port₀ port = PORTS - port
 
 loop-holds : tie.Need-loop-holds Inv-loop μ-loop
-loop-holds c = pass-start
+loop-holds c = judge-start
 
 mul-port-good : tie.Need-mul-port-good Inv-loop μ-loop
 mul-port-good c = search needs
@@ -42,10 +42,10 @@ loop-again : tie.Need-loop-again Inv-loop μ-loop
 loop-again c =
     let ports = c .before .before .before .before .args .t2 in
     let h : c .before .before .before .loop .port < length ports = search needs in
-    pass-next (c .before .before .before .loop .inv) (c .before .before .loop-test .taken) (rw (getD-there ports _ IDLE 0 h) (passed (c .before .port-good .ensures) (c .if1 .left)))
+    judge-next (c .before .before .before .loop .inv) (c .before .before .loop-test .taken) (rw (getD-there ports _ IDLE 0 h) (passed (c .before .port-good .ensures) (c .if1 .left)))
 
 returns-2 : tie.Need-returns-2 Inv-loop μ-loop
-returns-2 c = says-yes (pass-end (c .before .loop .inv) (c .loop-test .left))
+returns-2 c = says-yes (judge-end (c .before .loop .inv) (c .loop-test .left))
 
 pub ports-spec : {M : Type 1} → statement M
 ports-spec =

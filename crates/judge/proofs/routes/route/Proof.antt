@@ -4,7 +4,7 @@ use Rattle.judge.proofs.routes.route.Statement.{statement}
 use Rattle.judge.proofs.routes.route.Tie as tie
 
 maps-requires : tie.Need-maps-requires
-maps-requires c κs = let p = c .before .before .before .before .before .before .pre in (p .0, p .1, p .3, p .4, p .5, p .6)
+maps-requires c κs = let p = c .before .before .before .before .before .before .pre in (p .0, p .1, p .3)
 
 returns : tie.Need-returns
 returns c = says-no (λ g. failed (c .before .maps .ensures) (c .if1 .taken) (record { map = g .map; walker = g .walker; same = g .same }))
@@ -13,13 +13,13 @@ caches-requires : tie.Need-caches-requires
 caches-requires c κs =
     let p = c .before .before .before .before .before .before .before .before .pre in
     let m = passed (c .before .maps .ensures) (c .if1 .left) in
-    (p .1, p .2, packed _ _ _ _ _ _ (p .6) (m .walker .each), m .walker .once)
+    (p .1, p .2, packed _ _ _ _ _ _ (p .3 .known-vms) (m .walker .each), m .walker .once)
 
 returns-2 : tie.Need-returns-2
 returns-2 c = says-no (λ g. failed (c .before .caches .ensures) (c .if2 .taken) (g .cache))
 
 ports-requires : tie.Need-ports-requires
-ports-requires c κs = c .before .before .before .before .before .before .before .before .before .before .pre .6
+ports-requires c κs = c .before .before .before .before .before .before .before .before .before .before .pre .3 .known-vms
 
 returns-3 : tie.Need-returns-3
 returns-3 c =

@@ -1,5 +1,4 @@
 use borrow.Author.Needs.{needs}
-use mathlib.Core.Path.{sym, _∙_}
 use Rattle.judge.specs.Sharing.{borrowerOf}
 use Rattle.judge.proofs.sharing.borrower.Statement.{statement}
 use Rattle.judge.proofs.sharing.borrower.Tie as tie

@@ -5,7 +5,7 @@ use native.Mathlib.Omega.{arith}
 use Rattle.judge.specs.DecideLaws.{passed, failed}
 use Rattle.judge.specs.KnownLaws.{knows-below}
 use Rattle.judge.specs.SharingLaws.{parted}
-use Rattle.judge.specs.LentLaws.{marked-empty, marked-bad, marked-new}
+use Rattle.judge.specs.MarkLaws.{marked-empty, marked-bad, marked-new}
 use Rattle.judge.proofs.sharing.mark_pair.Statement.{statement}
 use Rattle.judge.proofs.sharing.mark_pair.Tie as tie
 

@@ -1,10 +1,8 @@
 use borrow.Author.Needs.{needs}
 use Prim.Native.Nat.{_-_}
-use native.Mathlib.Omega.{arith}
-use lib.ListN.{length, length-replicate}
-use mathlib.Core.Path.{sym, ap, _∙_}
+use lib.ListN.{length}
 use Rattle.judge.specs.Sharing.{Marking}
-use Rattle.judge.specs.LentLaws.{mark-start, mark-next, mark-stop, mark-end}
+use Rattle.judge.specs.MarkLaws.{mark-start, mark-next, mark-stop, mark-end}
 use Rattle.judge.proofs.sharing.pairs.Statement.{statement}
 use Rattle.judge.proofs.sharing.pairs.Tie as tie
 

@@ -20,9 +20,10 @@ use Rattle.pages.specs.RowLaws.{holds-add-same, holds-add-other, length-add}
 use Rattle.model.specs.EarlyLaws.{both}
 use Rattle.model.specs.Valid.{KnownGood, PairGood, PairsGood}
 use Rattle.model.specs.Views.{owns, isFilled, joins, onPage, shares}
-use Rattle.judge.specs.DecideLaws.{Filled, says-yes, says-no, passed, failed, decides-either, decides-same, same-answer}
+use Rattle.judge.specs.DecideLaws.{says-yes, says-no, passed, failed, decides-either, decides-same, same-answer}
 use Rattle.judge.specs.MoreLaws.{take-more, has-take, has-more-old, has-more-new, has-more-inv, distinct-more}
-use Rattle.judge.specs.Sharing.{OneOwner, borrowerOf, Marked, Lent, Marking, Lends, PairsJudged}
+use Rattle.judge.specs.Parts.{NotEmpty}
+use Rattle.judge.specs.Sharing.{OneOwner, borrowerOf, Marked, Marks, Marking, Lends, PairsJudged}
 use Rattle.judge.specs.SharingLaws.{Parted, parted, end-is, is-end, same-key, same-mark}
 
 -- ---- one word of the pairs
@@ -30,7 +31,7 @@ module _ (pages known : ℕ) (sets lent : List ℕ) (w : ℕ) where
   pub marked-empty : w ≡ 0 → Marked pages known sets w lent lent true
   marked-empty z = record { exact = says-yes (λ f. absurd (f z)); empty = λ _. refl; filled = λ _ f. absurd (f z) }
 
-  pub marked-bad : Filled w → (PairGood pages known sets w → holds lent (borrowerOf sets w) (pageOf w) ≡ false → ⊥) → Marked pages known sets w lent lent false
+  pub marked-bad : NotEmpty w → (PairGood pages known sets w → holds lent (borrowerOf sets w) (pageOf w) ≡ false → ⊥) → Marked pages known sets w lent lent false
   marked-bad f n =
       record {
         exact = says-no (λ h. let (g, m) = h f in n g m);
@@ -38,7 +39,7 @@ module _ (pages known : ℕ) (sets lent : List ℕ) (w : ℕ) where
         filled = λ e. absurd (true≢false (sym e));
       }
 
-  pub marked-new : (lent′ : List ℕ) → Filled w → PairGood pages known sets w → holds lent (borrowerOf sets w) (pageOf w) ≡ false → lent′ ≡ add lent (borrowerOf sets w) (pageOf w) → Marked pages known sets w lent lent′ true
+  pub marked-new : (lent′ : List ℕ) → NotEmpty w → PairGood pages known sets w → holds lent (borrowerOf sets w) (pageOf w) ≡ false → lent′ ≡ add lent (borrowerOf sets w) (pageOf w) → Marked pages known sets w lent lent′ true
   marked-new lent′ f g m e = record { exact = says-yes (λ _. (g, m)); empty = λ z. absurd (f z); filled = λ _ _. e }
 
 -- ---- a page more in a set
@@ -78,7 +79,7 @@ module _ (pages known : ℕ) (sets : List ℕ) (most : pages ≤ PAGES) (known-g
       }
 
   -- ---- one word more
-  module _ (ps lent : List ℕ) (w : ℕ) (good : PairsGood pages known sets ps) (marks : Lent sets ps lent) where
+  module _ (ps lent : List ℕ) (w : ℕ) (good : PairsGood pages known sets ps) (marks : Marks sets ps lent) where
     good-empty : w ≡ 0 → PairsGood pages known sets (ps ++ (w ∷ []))
     good-empty z =
         record {
@@ -86,15 +87,15 @@ module _ (pages known : ℕ) (sets : List ℕ) (most : pages ≤ PAGES) (known-g
           once = distinct-more ps w pairKeyOf refl (λ u h e. ap pairKeyOf z) (good .once);
         }
 
-    lent-empty : w ≡ 0 → Lent sets (ps ++ (w ∷ [])) lent
-    lent-empty z =
+    marks-empty : w ≡ 0 → Marks sets (ps ++ (w ∷ [])) lent
+    marks-empty z =
         record {
           size = marks .size;
           each = λ u h. ⊎-elim (marks .each u) (λ n. absurd (n .1 z)) (has-more-inv ps w u h);
           only = λ vm page p t. let (u, h, b, q) = marks .only vm page p t in (u, has-more-old ps w u h, b, q);
         }
 
-    module _ (f : Filled w) (g : PairGood pages known sets w) where
+    module _ (f : NotEmpty w) (g : PairGood pages known sets w) where
       -- a word of the same key has left its mark, and a mark is that of a word of the same key
       marked-same : (u : ℕ) → Has ps u → pairKeyOf u ≡ pairKeyOf w → holds lent (borrowerOf sets w) (pageOf w) ≡ true
       marked-same u h e =
@@ -119,8 +120,8 @@ module _ (pages known : ℕ) (sets : List ℕ) (most : pages ≤ PAGES) (known-g
             once = distinct-more ps w pairKeyOf refl (λ u h e. absurd (true≢false (sym (marked-same u h e) ∙ n))) (good .once);
           }
 
-      lent-filled : Lent sets (ps ++ (w ∷ [])) (add lent (borrowerOf sets w) (pageOf w))
-      lent-filled =
+      marks-filled : Marks sets (ps ++ (w ∷ [])) (add lent (borrowerOf sets w) (pageOf w))
+      marks-filled =
           let p : pageOf w < PAGES = omega (arith, g .page) in
           let (o, a) = parted pages known sets w known-good g in
           let l : (borrowerOf sets w + 1) * SET-WORDS ≤ length lent = omega (arith, a .borrower, marks .size) in
@@ -150,21 +151,21 @@ module _ (pages known : ℕ) (sets : List ℕ) (most : pages ≤ PAGES) (known-g
           record {
             place = omega arith;
             good = rw (take-more pairs i h) (good-empty (take i pairs) lent w (r .good) (r .marks) z);
-            marks = rw (take-more pairs i h, m .empty z) (lent-empty (take i pairs) lent w (r .good) (r .marks) z);
+            marks = rw (take-more pairs i h, m .empty z) (marks-empty (take i pairs) lent w (r .good) (r .marks) z);
           }
 
-      filled : Filled w → Marking pages known sets pairs lent′ (i + 1)
+      filled : NotEmpty w → Marking pages known sets pairs lent′ (i + 1)
       filled f =
           let (g, n) = passed (m .exact) e f in
           record {
             place = omega arith;
             good = rw (take-more pairs i h) (good-filled (take i pairs) lent w (r .good) (r .marks) f g n);
-            marks = rw (take-more pairs i h, m .filled (not-false t e) f) (lent-filled (take i pairs) lent w (r .good) (r .marks) f g);
+            marks = rw (take-more pairs i h, m .filled (not-false t e) f) (marks-filled (take i pairs) lent w (r .good) (r .marks) f g);
           }
 
   -- good pairs pass: a mark that is there already is that of an earlier word of the same key
   good-passes : (pairs lent : List ℕ) (i : ℕ) → Marking pages known sets pairs lent i → i < length pairs → PairsGood pages known sets pairs →
-      Filled (getD pairs i 0) → PairGood pages known sets (getD pairs i 0) × (holds lent (borrowerOf sets (getD pairs i 0)) (pageOf (getD pairs i 0)) ≡ false)
+      NotEmpty (getD pairs i 0) → PairGood pages known sets (getD pairs i 0) × (holds lent (borrowerOf sets (getD pairs i 0)) (pageOf (getD pairs i 0)) ≡ false)
   unfolding Distinct
   good-passes pairs lent i r h good f = (pair, ⊎-elim (λ t. absurd (twice t)) (λ n. n) (cases (holds lent (borrowerOf sets w) (pageOf w))))
     where
@@ -187,7 +188,7 @@ module _ (pages known : ℕ) (sets : List ℕ) (most : pages ≤ PAGES) (known-g
 
   -- ---- at the end
   -- a VM that does not own the page has its mark where it is an end of a pair on it
-  module _ (pairs lent : List ℕ) (good : PairsGood pages known sets pairs) (marks : Lent sets pairs lent) (vm page : ℕ) (p : page < pages) where
+  module _ (pairs lent : List ℕ) (good : PairsGood pages known sets pairs) (marks : Marks sets pairs lent) (vm page : ℕ) (p : page < pages) where
     mark-shared : holds lent vm page ≡ true → shares pairs vm page ≡ true
     unfolding shares
     mark-shared t =
@@ -213,7 +214,7 @@ module _ (pages known : ℕ) (sets : List ℕ) (most : pages ≤ PAGES) (known-g
         let end = decides-either (decides-same (leftOf w) vm) (decides-same (rightOf w) vm) .sound (both (isFilled w) (eqb (leftOf w) vm || eqb (rightOf w) vm) j .1) in
         end-marked w o a h (eqb-true (pageOf w) page (both (isFilled w) (eqb (pageOf w) page) q .1)) n end
 
-  pub lends : (pairs lent : List ℕ) → PairsGood pages known sets pairs → Lent sets pairs lent → Lends pages sets pairs lent
+  pub lends : (pairs lent : List ℕ) → PairsGood pages known sets pairs → Marks sets pairs lent → Lends pages sets pairs lent
   lends pairs lent good marks =
       record {
         size = marks .size;
@@ -223,5 +224,5 @@ module _ (pages known : ℕ) (sets : List ℕ) (most : pages ≤ PAGES) (known-g
   pub mark-end : (pairs lent : List ℕ) (i : ℕ) → Marking pages known sets pairs lent i → length pairs ≤ i → PairsJudged pages known sets pairs lent true
   mark-end pairs lent i r h =
       let good : PairsGood pages known sets pairs = rw (take-all i pairs h) at (r .good) in
-      let marks : Lent sets pairs lent = rw (take-all i pairs h) at (r .marks) in
+      let marks : Marks sets pairs lent = rw (take-all i pairs h) at (r .marks) in
       record { exact = says-yes good; lends = λ _. lends pairs lent good marks }

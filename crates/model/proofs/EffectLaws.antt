@@ -1,0 +1,134 @@
+-- What an effect does to a word of a page, and that every word that an operation names is one of its page.
+use Prim.{Unit, tt}
+use Prim.Native.Nat.{ℕ, _<_}
+use mathlib.Core.Bool.{not, _&&_}
+use mathlib.Core.List.{List, [], _∷_}
+use mathlib.Core.Logic.{_⊎_, inl, inr, ⊎-elim}
+use mathlib.Core.Path.{_≡_, refl, sym, _∙_}
+use borrow.Author.Tests.{ltb-true}
+use Rattle.numbers.specs.Limits.{PAGE-WORDS, READ, WRITE}
+use Rattle.numbers.specs.declared.Answer.{Answer}
+use Rattle.numbers.specs.declared.Answer.the-variants.{Accepted, Refused}
+use Rattle.numbers.specs.declared.Side.{Side}
+use Rattle.numbers.specs.declared.Side.the-variants.{Cpu, Dma}
+use Rattle.numbers.specs.declared.Operation.{Operation}
+use Rattle.numbers.specs.declared.Operation.the-variants.{AddVm, RemoveVm, AssignPage, ReclaimPage, SharePage, UnsharePage, CpuMap, DmaMap, CpuUnmap, DmaUnmap, InsertRegion, RemoveRegion, DmaInsertRegion, DmaRemoveRegion, SwitchCpu, BindDevice, CpuFill, DmaFill, EmptyCpuSlot, EmptyDmaSlot, CpuRead, DmaRead, CpuWrite, DmaWrite, DataBarrier, InstructionBarrier}
+use Rattle.table.specs.ScanLaws.{equal}
+use Rattle.model.specs.State.{Tables}
+use Rattle.model.specs.Views.{isPort, isGuest, isWord}
+use Rattle.model.specs.Effect.{wordIn, Place, Store, Effect, reads, writes, clears, stored, clearPage, clearedPages, decided}
+use Rattle.model.specs.Access.{accessAnswer}
+use Rattle.model.specs.Step.{addVmControl, removeVmControl, assignControl, reclaimControl, shareControl, unshareControl, mapControl, unmapControl, insertControl, removeControl, portControl, fillControl, emptyControl, readControl, writeControl, control}
+use Rattle.model.specs.EarlyLaws.{past, hold}
+use Rattle.model.specs.MemoryLaws.{store-elsewhere, clear-there, clear-elsewhere}
+use Rattle.model.specs.Good.{StoreOn, PageIn}
+
+-- ---- every word that an effect names is one of its page
+abbrev pub PlacesInside : List Place → Type 0
+PlacesInside [] = Unit {0}
+PlacesInside (x ∷ xs) = (x .word < PAGE-WORDS) × PlacesInside xs
+
+abbrev pub StoresInside : List Store → Type 0
+StoresInside [] = Unit {0}
+StoresInside (x ∷ xs) = (x .place .word < PAGE-WORDS) × StoresInside xs
+
+abbrev pub Inside : Effect → Type 0
+Inside (reads vm places) = PlacesInside places
+Inside (writes vm stores) = StoresInside stores
+Inside (clears pages) = Unit {0}
+
+-- only an access names a word, and only where it is accepted
+accepted-word : (ports cache walker : List ℕ) (bit port guest word : ℕ) {dropped read : ℕ} → accessAnswer ports cache walker bit port guest word ≡ Accepted dropped read → word < PAGE-WORDS
+unfolding accessAnswer
+accepted-word ports cache walker bit port guest word e =
+    let (a, b) = past (not (isPort port && isGuest guest && isWord word)) _ _ _ e in
+    let (r, w) = hold (isPort port && isGuest guest) (isWord word) a in
+    ltb-true word PAGE-WORDS w
+
+decided-inside : (t : Tables) (answer : Answer) (new : Tables) (effect : Effect) → ((dropped word : ℕ) → answer ≡ Accepted dropped word → Inside effect) → Inside (decided t answer new effect .effect)
+unfolding decided
+decided-inside t (Accepted dropped word) new effect h = h dropped word refl
+decided-inside t (Refused refusal index) new effect h = tt
+
+cleared-inside : (t : Tables) (answer : Answer) (new : Tables) (pages : List ℕ) → Inside (decided t answer new (clears pages) .effect)
+cleared-inside t answer new pages = decided-inside t answer new (clears pages) (λ dropped word e. tt)
+
+read-inside : (side : Side) (t : Tables) (port guest word : ℕ) → Inside (readControl side t port guest word .effect)
+unfolding readControl
+read-inside side t port guest word = decided-inside t _ _ _ (λ dropped read e. (accepted-word _ _ _ READ port guest word e, tt))
+
+write-inside : (side : Side) (t : Tables) (port guest word value : ℕ) → Inside (writeControl side t port guest word value .effect)
+unfolding writeControl
+write-inside side t port guest word value = decided-inside t _ _ _ (λ dropped read e. (accepted-word _ _ _ WRITE port guest word e, tt))
+
+pub inside : (t : Tables) (operation : Operation) → Inside (control t operation .effect)
+unfolding control addVmControl removeVmControl assignControl reclaimControl shareControl unshareControl mapControl unmapControl insertControl removeControl portControl fillControl emptyControl
+inside t (AddVm vm) = cleared-inside _ _ _ _
+inside t (RemoveVm vm) = cleared-inside _ _ _ _
+inside t (AssignPage vm page) = cleared-inside _ _ _ _
+inside t (ReclaimPage vm page) = cleared-inside _ _ _ _
+inside t (SharePage left right page) = cleared-inside _ _ _ _
+inside t (UnsharePage left right page) = cleared-inside _ _ _ _
+inside t (CpuMap vm guest page access generation) = cleared-inside _ _ _ _
+inside t (DmaMap vm guest page access generation) = cleared-inside _ _ _ _
+inside t (CpuUnmap vm guest) = cleared-inside _ _ _ _
+inside t (DmaUnmap vm guest) = cleared-inside _ _ _ _
+inside t (InsertRegion vm guest page count access) = cleared-inside _ _ _ _
+inside t (RemoveRegion vm guest page count access) = cleared-inside _ _ _ _
+inside t (DmaInsertRegion vm guest page count access) = cleared-inside _ _ _ _
+inside t (DmaRemoveRegion vm guest page count access) = cleared-inside _ _ _ _
+inside t (SwitchCpu port target) = cleared-inside _ _ _ _
+inside t (BindDevice port target) = cleared-inside _ _ _ _
+inside t (CpuFill port guest) = cleared-inside _ _ _ _
+inside t (DmaFill port guest) = cleared-inside _ _ _ _
+inside t (EmptyCpuSlot slot) = cleared-inside _ _ _ _
+inside t (EmptyDmaSlot slot) = cleared-inside _ _ _ _
+inside t (CpuRead port guest word) = read-inside Cpu t port (guest .0) word
+inside t (DmaRead port guest word) = read-inside Dma t port (guest .0) word
+inside t (CpuWrite port guest word value) = write-inside Cpu t port (guest .0) word value
+inside t (DmaWrite port guest word value) = write-inside Dma t port (guest .0) word value
+inside t DataBarrier = cleared-inside _ _ _ _
+inside t InstructionBarrier = cleared-inside _ _ _ _
+
+-- ---- a page is cleared or it is not
+pub listed : (page : ℕ) (pages : List ℕ) → PageIn page pages ⊎ (PageIn page pages → ⊥)
+listed page [] = inr (λ h. h)
+listed page (x ∷ xs) = ⊎-elim (λ e. inl (inl e)) (λ n. ⊎-elim (λ h. inl (inr h)) (λ m. inr (⊎-elim n m)) (listed page xs)) (equal x page)
+
+-- ---- a word of a page
+module _ (page word : ℕ) (h : word < PAGE-WORDS) where
+  -- it stays, or its page is stored to
+  pub stored-or-same : (stores : List Store) (memory : List ℕ) → StoresInside stores → (wordIn (stored stores memory) page word ≡ wordIn memory page word) ⊎ StoreOn page stores
+  unfolding stored
+  stored-or-same [] memory i = inl refl
+  stored-or-same (x ∷ xs) memory i =
+      ⊎-elim (λ e. inr (inl e))
+      (λ n. ⊎-elim (λ q. inl (q ∙ store-elsewhere memory (x .place .page) (x .place .word) (x .value) page word (i .0) h n)) (λ o. inr (inr o)) (stored-or-same xs _ (i .1)))
+      (equal (x .place .page) page)
+
+  -- it stays where its page is not cleared
+  pub uncleared-same : (pages memory : List ℕ) → (PageIn page pages → ⊥) → wordIn (clearedPages pages memory) page word ≡ wordIn memory page word
+  unfolding clearedPages
+  uncleared-same [] memory n = refl
+  uncleared-same (x ∷ xs) memory n = uncleared-same xs _ (λ o. n (inr o)) ∙ clear-elsewhere memory x page word h (λ e. n (inl e))
+
+  -- in two memories it agrees after the same clearing where its page is cleared or it agreed before
+  abbrev Agrees : List ℕ → List ℕ → Type 0
+  Agrees a b = wordIn a page word ≡ wordIn b page word
+
+  clear-agrees : (a b : List ℕ) (x : ℕ) → (x ≡ page) ⊎ Agrees a b → Agrees (clearPage a x) (clearPage b x)
+  clear-agrees a b x c = ⊎-elim here (λ n. ⊎-elim here (there n) c) (equal x page)
+    where
+      here : x ≡ page → Agrees (clearPage a x) (clearPage b x)
+      here e = rw e (clear-there a page word h ∙ sym (clear-there b page word h))
+
+      there : (x ≡ page → ⊥) → Agrees a b → Agrees (clearPage a x) (clearPage b x)
+      there n q = clear-elsewhere a x page word h n ∙ q ∙ sym (clear-elsewhere b x page word h n)
+
+  pub cleared-agrees : (pages a b : List ℕ) → PageIn page pages ⊎ Agrees a b → Agrees (clearedPages pages a) (clearedPages pages b)
+  unfolding clearedPages
+  cleared-agrees [] a b (inl z) = absurd z
+  cleared-agrees [] a b (inr q) = q
+  cleared-agrees (x ∷ xs) a b (inl (inl e)) = cleared-agrees xs _ _ (inr (clear-agrees a b x (inl e)))
+  cleared-agrees (x ∷ xs) a b (inl (inr o)) = cleared-agrees xs _ _ (inl o)
+  cleared-agrees (x ∷ xs) a b (inr q) = cleared-agrees xs _ _ (inr (clear-agrees a b x (inr q)))

@@ -1,0 +1,134 @@
+-- Secrecy of one step, from valid tables and what the step owes: who reaches a private page is a member, two memories that
+-- agree outside the private pages still do, and a page that stays private changes only by a member's own write.
+use Prim.{tt}
+use Prim.Native.Nat.{ℕ, _<_}
+use mathlib.Core.Bool.{Bool, true, false, true≢false}
+use mathlib.Core.List.{List, [], _∷_}
+use mathlib.Core.Logic.{_⊎_, inl, inr, ⊎-elim}
+use mathlib.Core.Path.{_≡_, refl, sym, _∙_}
+use lib.ListN.{length, length-set, getD}
+use Rattle.numbers.specs.Limits.{VMS, PAGE-WORDS}
+use Rattle.numbers.specs.Packing.{leftOf, rightOf, pageOf}
+use Rattle.numbers.specs.declared.Answer.{Answer}
+use Rattle.numbers.specs.declared.Answer.the-variants.{Accepted, Refused}
+use Rattle.numbers.specs.declared.Operation.{Operation}
+use Rattle.numbers.specs.declared.Operation.the-variants.{SharePage}
+use Rattle.table.specs.ScanLaws.{cases, equal}
+use Rattle.table.specs.Table.{Has}
+use Rattle.model.specs.State.{Tables}
+use Rattle.model.specs.Views.{holdsDma}
+use Rattle.model.specs.Effect.{wordIn, Place, Store, Effect, reads, writes, clears, stored, loaded, apply, Control, accepted}
+use Rattle.model.specs.Sequence.{vmId, physPage}
+use Rattle.model.specs.Step.{answerWith}
+use Rattle.model.specs.Valid.{ValidTables}
+use Rattle.model.specs.Good.{holdsPage, PlaceOn, PageIn, Wrote, Way, own, lent, span, Reaches, Made, Good}
+use Rattle.model.specs.MemoryLaws.{store-elsewhere, store-both}
+use Rattle.model.specs.Secrecy.{Private, NearStores, stop, same, other, Near, alike, stores, Seen}
+use Rattle.model.proofs.ViewLaws.{known-below, shares-lends}
+use Rattle.model.proofs.PagesKept.{one-holder, span-unheld}
+use Rattle.model.proofs.EffectLaws.{Inside, PlacesInside, StoresInside, listed, stored-or-same, uncleared-same, cleared-agrees}
+
+-- all that secrecy asks of a step
+pub record Sound (t : Tables) (operation : Operation) (c : Control) : Type 0 where
+  pub good : Good t operation c
+  pub inside : Inside (c .effect)
+  pub setup : c .tables .setup ≡ t .setup
+
+module _ (members : ℕ → Bool) (t : Tables) (v : ValidTables t) where
+  -- ---- who reaches a private page is a member
+  pub confined : (vm page : ℕ) → Private members t page → Reaches t vm page → members vm ≡ true
+  confined vm page p r = go (r .way)
+    where
+      go : Way t vm page → members vm ≡ true
+      go (own h) = rw (one-holder _ _ _ _ _ (v .pages) (p .holder) vm page (p .holder-ok) (r .vm-ok) (p .page-ok) (p .held) h) at (p .member)
+      go (lent s) =
+          let (w, l) = shares-lends (t .pairs) vm page s in
+          let both = p .inside w (l .there) (l .same) in
+          ⊎-elim (λ e. rw e at (both .0)) (λ e. rw e at (both .1)) (l .end)
+      go (span s) = absurd (span-unheld _ _ _ _ _ (v .pages) (p .holder) page (p .holder-ok) (p .page-ok) s (p .held))
+
+  module _ (operation : Operation) (answer : Answer) (new : Tables) where
+    abbrev SoundWith : Effect → Type 0
+    SoundWith effect = Sound t operation (record { answer = answer; tables = new; effect = effect })
+
+    -- ---- within one run: a page private before and after changes only by a member's own write
+    pub only-own : (effect : Effect) → SoundWith effect → (memory : List ℕ) (page word : ℕ) → word < PAGE-WORDS → Private members t page → Private members new page →
+        (wordIn (apply effect memory) page word ≡ wordIn memory page word) ⊎ ((vm : ℕ) × (members vm ≡ true) × Wrote effect vm page)
+    unfolding apply
+    only-own (reads vm places) s memory page word h p p′ = inl refl
+    only-own (writes vm xs) s memory page word h p p′ =
+        ⊎-elim inl (λ o. inr (vm, confined vm page p (s .good .reach vm page (refl, o)), (refl, o))) (stored-or-same page word h xs memory (s .inside))
+    only-own (clears pages) s memory page word h p p′ =
+        inl (uncleared-same page word h pages memory (λ c. s .good .free (p′ .holder) page (p′ .holder-ok) (p .page-ok) c (p′ .held)))
+
+    -- ---- two memories that agree outside the private pages
+    module _ (a b : List ℕ) (words : (page word : ℕ) → word < PAGE-WORDS → (Private members t page → ⊥) → wordIn a page word ≡ wordIn b page word) where
+      -- answer alike where no member reads a private page
+      first-word : (vm : ℕ) (places : List Place) → ((page : ℕ) → PlaceOn page places → Reaches t vm page) → PlacesInside places → (Seen members (Private members) t (reads vm places) → ⊥) →
+          getD (loaded places a) 0 0 ≡ getD (loaded places b) 0 0
+      unfolding loaded
+      first-word vm [] r i n = refl
+      first-word vm (x ∷ xs) r i n = words (x .page) (x .word) (i .0) (λ p. n (confined vm (x .page) p (r (x .page) (inl refl)), (x .page, inl refl, p)))
+
+      pub same-answer : (effect : Effect) → SoundWith effect → (Seen members (Private members) t effect → ⊥) → (x : Answer) → answerWith effect a x ≡ answerWith effect b x
+      same-answer (reads vm places) s n (Accepted dropped word) = rw (first-word vm places (λ page o. s .good .reach vm page (refl, o)) (s .inside) n)
+      same-answer (reads vm places) s n (Refused refusal index) = refl
+      same-answer (writes vm xs) s n x = refl
+      same-answer (clears pages) s n x = refl
+
+      -- a page that was not cleared stays private, unless a member shares it with a VM outside
+      module _ (shown : (left right page word : ℕ) → operation ≡ SharePage (vmId left) (vmId right) (physPage page) → answer ≡ accepted → members left ≡ true → members right ≡ false → word < PAGE-WORDS → wordIn a page word ≡ wordIn b page word) where
+        stays-private : (pages : List ℕ) → SoundWith (clears pages) → (page word : ℕ) → word < PAGE-WORDS → (wordIn a page word ≡ wordIn b page word → ⊥) → (PageIn page pages → ⊥) → Private members t page → Private members new page
+        stays-private pages s page word h differ uncleared p =
+            record {
+              holder = p .holder;
+              member = p .member;
+              holder-ok = p .holder-ok;
+              page-ok = rw (s .setup) (p .page-ok);
+              held = ⊎-elim (λ t. t) (λ f. absurd (uncleared (s .good .wiped (p .holder) page (p .holder-ok) (p .page-ok) (p .held) f))) (cases (holdsPage (new .sets) (p .holder) page));
+              inside = λ w k on. ⊎-elim (λ old. p .inside w old on) (made w k on) (s .good .edges w k);
+            }
+          where
+            made : (w : ℕ) → Has (new .pairs) w → pageOf w ≡ page → Made t operation answer w → (members (leftOf w) ≡ true) × (members (rightOf w) ≡ true)
+            made w k on m =
+                let below : leftOf w < VMS = known-below _ (leftOf w) (s .good .valid .known) (s .good .valid .pairs .each w k .left) in
+                let held : holdsPage (t .sets) (leftOf w) page ≡ true = rw (← on, m .owned) in
+                let left : members (leftOf w) ≡ true = confined (leftOf w) page p (record { vm-ok = below; page-ok = p .page-ok; way = own held }) in
+                ⊎-elim (λ right. (left, right)) (λ outside. absurd (differ (rw on at (shown (leftOf w) (rightOf w) (pageOf w) word (m .share) (m .agreed) left outside h)))) (cases (members (rightOf w)))
+
+        -- stores of the same words, whose values differ only on private pages
+        same-stores : (vm : ℕ) {xs ys : List Store} → NearStores members (Private members) t vm xs ys → StoresInside xs → (page word : ℕ) → word < PAGE-WORDS → (Private members t page → ⊥) →
+            (c d : List ℕ) → length c ≡ length d → wordIn c page word ≡ wordIn d page word → wordIn (stored xs c) page word ≡ wordIn (stored ys d) page word
+        unfolding stored
+        same-stores vm stop i page word h n c d l e = e
+        same-stores vm (same {x = x} near) i page word h n c d l e =
+            same-stores vm near (i .1) page word h n _ _ (length-set c _ _ ∙ l ∙ sym (length-set d _ _)) (store-both c d _ (x .value) page word l e)
+        same-stores vm (other {place = place} {a = x} {b = y} m p near) i page word h n c d l e =
+            let apart : place .page ≡ page → ⊥ = λ q. n (rw q at p) in
+            same-stores vm near (i .1) page word h n _ _ (length-set c _ _ ∙ l ∙ sym (length-set d _ _))
+            (store-elsewhere c (place .page) (place .word) x page word (i .0) h apart ∙ e ∙ sym (store-elsewhere d (place .page) (place .word) y page word (i .0) h apart))
+
+        all-same : (vm : ℕ) (xs : List Store) → NearStores members (Private members) t vm xs xs
+        all-same vm [] = stop
+        all-same vm (x ∷ xs) = same (all-same vm xs)
+
+        written : (vm : ℕ) {xs ys : List Store} → length a ≡ length b → SoundWith (writes vm xs) → NearStores members (Private members) t vm xs ys → (page word : ℕ) → word < PAGE-WORDS → (Private members new page → ⊥) →
+            wordIn (stored xs a) page word ≡ wordIn (stored ys b) page word
+        written vm size s near page word h n =
+            let before : Private members t page → ⊥ = λ p. n (rw (s .good .still tt) p) in
+            same-stores vm near (s .inside) page word h before a b size (words page word h before)
+
+        -- near effects leave every word outside the pages then private equal
+        pub same-words : {effect effect′ : Effect} → length a ≡ length b → SoundWith effect → Near members (Private members) t effect effect′ → (page word : ℕ) → word < PAGE-WORDS → (Private members new page → ⊥) →
+            wordIn (apply effect a) page word ≡ wordIn (apply effect′ b) page word
+        unfolding apply
+        same-words size s (stores {vm = vm} near) page word h n = written vm size s near page word h n
+        same-words {effect = effect} size s alike page word h n = go effect s
+          where
+            go : (effect : Effect) → SoundWith effect → wordIn (apply effect a) page word ≡ wordIn (apply effect b) page word
+            go (reads vm places) s = words page word h (λ p. n (rw (s .good .still tt) p))
+            go (writes vm xs) s = written vm size s (all-same vm xs) page word h n
+            go (clears pages) s = cleared-agrees page word h pages a b (⊎-elim inr (λ differ. ⊎-elim inl (λ uncleared. inr (stayed differ uncleared)) (listed page pages)) (equal (wordIn a page word) (wordIn b page word)))
+              where
+                stayed : (wordIn a page word ≡ wordIn b page word → ⊥) → (PageIn page pages → ⊥) → wordIn a page word ≡ wordIn b page word
+                stayed differ uncleared = words page word h (λ p. n (stays-private pages s page word h differ uncleared p))
