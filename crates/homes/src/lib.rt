@@ -1,4 +1,4 @@
-// The page sets of a state, tested by whole words: 64 pages at a time.
+// The page sets of a valid state (docs/MACHINE.md, 4), tested by whole words: 64 pages at a time.
 ghost use mathlib.Core.Path.{_≡_};
 ghost use Prim.Native.Nat.{_+_, _*_, _^_, _<_, _≤_};
 ghost use lib.ListN.{length};

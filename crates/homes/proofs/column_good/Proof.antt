@@ -24,9 +24,9 @@ homes-good-requires c κs = search needs
 
 returns : tie.Need-returns
 returns c =
-    let a = c .before .before .before .before .before .before .args in
+    let homes = rw (c .before .below3 .ensures) at (c .homes-good .ensures) in
     rw (c .before .before .before .before .below .ensures, c .before .before .before .below2 .ensures, c .before .before .column-word .ensures)
-    (column-decides (a .pages) (a .shared-base) (a .shared-count) (a .known) (a .sets .now) (a .k) (rw (c .before .below3 .ensures) at (c .homes-good .ensures)))
+    (column-decides _ _ _ _ _ _ homes)
 
 pub column-good-spec : {M : Type 1} → statement M
 column-good-spec =
