@@ -1,27 +1,19 @@
--- Laws of chains and of the table of places.
-use Prim.Native.Nat.{ℕ, zero, suc, _+_, _-_, _/_, _%_, _≤_, _<_}
-use mathlib.Core.Bool.{Bool, true, false, true≢false}
+-- Laws of chains and of walks along them.
+use Prim.Native.Nat.{ℕ, suc, _+_, _-_, _≤_, _<_}
 use mathlib.Core.List.{List}
-use mathlib.Core.Logic.{_⊎_, inl, inr, ⊎-elim}
-use mathlib.Core.Path.{_≡_, refl, sym, ap, _∙_}
+use mathlib.Core.Logic.{⊎-elim}
+use mathlib.Core.Path.{_≡_, refl, sym, _∙_}
 use native.Mathlib.Omega.{arith}
 use lib.Dec.{ltb}
 use lib.ListN.{length, getD, set, replicate, length-set, length-replicate, getD-replicate}
 use lib.Seq.{getD-set-same, getD-set-other}
 use borrow.Author.Tests.{ltb-true, ltb-false}
 use Rattle.table.specs.ScanLaws.{cases, equal}
-use Rattle.keys.specs.Keys.{CLASSES, PLACES, classOf, lowOf, InClass, ClassOnce, Last, Links, Chained, Blank, Shows, Entered, Entering}
+use Rattle.keys.specs.Keys.{CLASSES, classOf, InClass, Each, Last, Links, Chained}
 
 pub class-small : (w : ℕ) → classOf w < CLASSES
 unfolding classOf
 class-small w = omega arith
-
-pub low-small : (w : ℕ) → lowOf w < PLACES
-unfolding lowOf
-low-small w = omega arith
-
-pub low-room : (place : List ℕ) (w : ℕ) → length place ≡ PLACES → lowOf w < length place
-low-room place w e = omega (arith, low-small w)
 
 -- ---- building the chains
 pub chain-start : (ws head next : List ℕ) → head ≡ replicate CLASSES 0 → length next ≡ length ws → Chained ws head next 0
@@ -133,90 +125,27 @@ module _ (ws next : List ℕ) (c : ℕ) where
     pub walk-seen : (k : ℕ) → getD next (at - 1) 0 ≤ k → InClass ws c k → (k ≡ at - 1 → ⊥) → at ≤ k
     walk-seen k a q d = ⊎-elim (λ t. absurd (step .none k a (ltb-true _ _ t) q)) (λ f. omega (arith, ltb-false k (at - 1) f)) (cases (ltb k (at - 1)))
 
--- ---- the table of places
-pub blank-start : (place : List ℕ) → place ≡ replicate PLACES 0 → Blank place
-blank-start place e = record { size = rw e (length-replicate {A = ℕ} PLACES 0); zero = λ l h. rw e (getD-replicate {A = ℕ} PLACES l 0 0 h) }
+-- ---- a walk over a class: each place that it has passed meets Q
+pub record Passing (ws : List ℕ) (c : ℕ) (Q : ℕ → Type 0) (at : ℕ) : Type 0 where
+  pub standing : Standing ws c at
+  pub passed : (k : ℕ) → at ≤ k → InClass ws c k → Q k
 
-module _ (ws : List ℕ) (c : ℕ) (place : List ℕ) where
-  pub clear-end : Shows ws c (λ p. p < 0) place → Blank place
-  clear-end t = record { size = t .size; zero = λ l h. ⊎-elim (λ z. z) (λ n. absurd (omega (arith, t .only l (getD place l 0 - 1) h (omega arith) .2))) (equal (getD place l 0) 0) }
+module _ (ws next : List ℕ) (c : ℕ) (Q : ℕ → Type 0) where
+  pub pass-start : (from : ℕ) → Chain ws next c from → Passing ws c Q from
+  pass-start from r = record { standing = walk-start ws next c from r; passed = λ k a q. absurd (r .head .none k a (q .within) q) }
 
-  -- a place that is taken when the walk comes to it is taken by another place of the same key
-  pub enter-twice : (at : ℕ) → Entered ws c at place → InClass ws c (at - 1) → (at ≡ 0 → ⊥) → (getD place (lowOf (getD ws (at - 1) 0)) 0 ≡ 0 → ⊥) → ClassOnce ws c → ⊥
-  unfolding ClassOnce
-  enter-twice at t r n f once =
-      let low = lowOf (getD ws (at - 1) 0) in
-      let s = t .shows .only low (getD place low 0 - 1) (low-small _) (omega arith) in
-      once (at - 1) (getD place low 0 - 1) (omega (arith, s .2)) r (s .0) (sym (s .1))
-
-  pub enter-once : Entered ws c 0 place → ClassOnce ws c
-  unfolding ClassOnce
-  enter-once t i j h a b e = omega (arith, t .there i (omega arith) a, t .there j (omega arith) b, ap (λ l. getD place l 0) e)
-
-module _ (ws next : List ℕ) (c : ℕ) (place : List ℕ) where
-  -- entering a chain: no place of it has been passed
-  pub enter-start : (from : ℕ) → Chain ws next c from → Blank place → Entered ws c from place
-  enter-start from r b =
+  pub pass-next : (at : ℕ) → Links ws next (length ws) → Passing ws c Q at → (at ≡ 0 → ⊥) → Q (at - 1) → Passing ws c Q (getD next (at - 1) 0)
+  pass-next at l r n h =
       record {
-        shows = record { size = b .size; only = λ l p h e. absurd (omega (arith, b .zero l h)) };
-        there = λ k a q. absurd (r .head .none k a (q .within) q);
+        standing = walk-next ws next c at l (r .standing) n;
+        passed = λ k a q. ⊎-elim (λ e. rw e h) (λ d. r .passed k (walk-seen ws next c at l (r .standing) n k a q d) q) (equal k (at - 1));
       }
 
-  -- what is left to clear: every place of the chain
-  pub clear-start : (from : ℕ) → Chain ws next c from → Entered ws c 0 place → Shows ws c (λ p. p < from) place
-  clear-start from r t =
-      record {
-        size = t .shows .size;
-        only = λ l p h e. let s = t .shows .only l p h e in (s .0, s .1, ⊎-elim (ltb-true p from) (λ f. absurd (r .head .none p (omega (arith, ltb-false p from f)) (s .0 .within) (s .0))) (cases (ltb p from)));
-      }
+module _ (ws : List ℕ) (c : ℕ) (Q : ℕ → Type 0) where
+  pub pass-end : Passing ws c Q 0 → Each ws c Q
+  unfolding Each
+  pass-end r i q = r .passed i (omega arith) q
 
-  module _ (at : ℕ) (l : Links ws next (length ws)) (r : Standing ws c at) (n : at ≡ 0 → ⊥) where
-    abbrev low : ℕ
-    low = lowOf (getD ws (at - 1) 0)
-
-    pub enter-next : Entered ws c at place → getD place (lowOf (getD ws (at - 1) 0)) 0 ≡ 0 → Entered ws c (getD next (at - 1) 0) (set place (lowOf (getD ws (at - 1) 0)) at)
-    enter-next t z = record { shows = record { size = length-set place low at ∙ t .shows .size; only = only }; there = there }
-      where
-        room : low < length place
-        room = low-room place (getD ws (at - 1) 0) (t .shows .size)
-
-        less : getD next (at - 1) 0 < at
-        less = walk-less ws next c at l r n
-
-        only : (i p : ℕ) → i < PLACES → getD (set place low at) i 0 ≡ suc p → InClass ws c p × (lowOf (getD ws p 0) ≡ i) × (getD next (at - 1) 0 ≤ p)
-        only i p h e = ⊎-elim new old (equal i low)
-          where
-            new : i ≡ low → InClass ws c p × (lowOf (getD ws p 0) ≡ i) × (getD next (at - 1) 0 ≤ p)
-            new q =
-                let s : at ≡ suc p = sym (getD-set-same place low at 0 room) ∙ rw q at e in
-                let o : p ≡ at - 1 = omega arith in
-                rw o (walk-on ws next c at l r n, sym q, omega (arith, less))
-
-            old : (i ≡ low → ⊥) → InClass ws c p × (lowOf (getD ws p 0) ≡ i) × (getD next (at - 1) 0 ≤ p)
-            old d = let s = t .shows .only i p h (sym (getD-set-other place low i at 0 d) ∙ e) in (s .0, s .1, omega (arith, less, s .2))
-
-        there : (k : ℕ) → getD next (at - 1) 0 ≤ k → InClass ws c k → getD (set place low at) (lowOf (getD ws k 0)) 0 ≡ suc k
-        there k a q = ⊎-elim new old (equal k (at - 1))
-          where
-            new : k ≡ at - 1 → getD (set place low at) (lowOf (getD ws k 0)) 0 ≡ suc k
-            new e = rw (e, getD-set-same place low at 0 room) (omega arith)
-
-            old : (k ≡ at - 1 → ⊥) → getD (set place low at) (lowOf (getD ws k 0)) 0 ≡ suc k
-            old d =
-                let s = t .there k (walk-seen ws next c at l r n k a q d) q in
-                getD-set-other place low (lowOf (getD ws k 0)) at 0 (λ e. omega (arith, rw e at s)) ∙ s
-
-    pub clear-next : Shows ws c (λ p. p < at) place → Shows ws c (λ p. p < getD next (at - 1) 0) (set place (lowOf (getD ws (at - 1) 0)) 0)
-    clear-next t = record { size = length-set place low 0 ∙ t .size; only = only }
-      where
-        room : low < length place
-        room = low-room place (getD ws (at - 1) 0) (t .size)
-
-        only : (i p : ℕ) → i < PLACES → getD (set place low 0) i 0 ≡ suc p → InClass ws c p × (lowOf (getD ws p 0) ≡ i) × (p < getD next (at - 1) 0)
-        only i p h e = ⊎-elim (λ q. absurd (omega (arith, getD-set-same place low 0 0 room, rw q at e))) old (equal i low)
-          where
-            old : (i ≡ low → ⊥) → InClass ws c p × (lowOf (getD ws p 0) ≡ i) × (p < getD next (at - 1) 0)
-            old d =
-                let s = t .only i p h (sym (getD-set-other place low i 0 0 d) ∙ e) in
-                let far : p ≡ at - 1 → ⊥ = λ q. d (sym (s .1) ∙ rw q refl) in
-                (s .0, s .1, ⊎-elim (ltb-true p (getD next (at - 1) 0)) (λ f. absurd (omega (arith, s .2, walk-seen ws next c at l r n p (omega (arith, ltb-false p (getD next (at - 1) 0) f)) (s .0) far))) (cases (ltb p (getD next (at - 1) 0))))
+  pub pass-fails : (i : ℕ) → InClass ws c i → (Q i → ⊥) → Each ws c Q → ⊥
+  unfolding Each
+  pass-fails i q n all = n (all i q)

@@ -1,18 +1,19 @@
 // The keys of maps and caches: that none is there twice, that software map and walker are the same map, and that each slot
 // holds what the walker has. Linear in the tables whatever the keys are, since guests choose some of them.
 ghost use mathlib.Core.Path.{_≡_};
-ghost use Prim.Native.Nat.{_≤_, _<_, _+_};
-ghost use lib.ListN.{length, getD, replicate};
+ghost use Prim.Native.Nat.{_<_, _+_};
+ghost use lib.ListN.{length, replicate};
 ghost use Rattle.numbers.specs.Decides.{Decides};
 ghost use Rattle.numbers.specs.Limits.{ENTRIES, SLOTS};
 ghost use Rattle.numbers.specs.Packing.{keyOf};
-ghost use Rattle.table.specs.Table.{Has, Distinct};
-ghost use Rattle.keys.specs.Keys.{CLASSES, PLACES, LINKS, classOf, lowOf, mapWordOf, Packed, Filled, Agreement, SlotsHeld, Held, InClass, ClassWithin, ClassHeld, NewKey, Chained, Blank, Entered, Entering, Tested};
+ghost use Rattle.table.specs.Table.{Distinct};
+ghost use Rattle.keys.specs.Keys.{CLASSES, PLACES, LINKS, classOf, lowOf, mapWordOf, Packed, Filled, Agreement, SlotsHeld, Held, ClassAgree, SlotsWithin, ClassHeld, NewKey, Chained, Blank, Inside, Shown, Entered, NoneLeft, Entering, Taking, Tested};
 use numbers::ENTRIES;
 use numbers::SLOTS;
 use table::Found;
 
-// Classes of keys: a VM, and the high bits of a guest page.
+// Classes of keys: a VM, and the high bits of a guest page. A slot's VM may be any, and then classes wrap: words are compared
+// whole.
 const CLASSES: usize = 1024;
 // Places of a class: the low bits of a guest page.
 const PLACES: usize = 1024;
@@ -107,20 +108,89 @@ fn enter(words: &[u64], head: &[u16], next: &[u16], class: usize, place: &mut [u
     true
 }
 
-// Whether the map has the word that a slot of the class holds.
-fn has_word(slot: u64, map: &[u64], place: &[u16]) -> bool
-    requires { ⌜ Entered (now map) (classOf slot) 0 (now place) ⌝ }
-    ensures { λ r. ⌜ Decides r (Has (now (map .entry)) (mapWordOf slot)) ⌝ }
+// Whether the table of places shows the word where it is looked for.
+fn has_word(word: u64, map: &[u64], place: &[u16]) -> bool
+    requires { ⌜ Inside (now map) (now place) ⌝ }
+    ensures { λ r. ⌜ Decides r (Shown (now (map .entry)) (now (place .entry)) word) ⌝ }
 {
-    let there = wide(place[low_of(slot)]);
+    let there = wide(place[low_of(word)]);
     if there == 0 {
         return false;
     }
     let spot = there - 1;
-    map[spot] == map_word_of(slot)
+    map[spot] == word
 }
 
-// Whether the map has the word that each slot of the class holds.
+// ---- One class of map and walker.
+
+// Takes the walker's words out of the table of places, and answers whether each was there.
+fn take(
+    walker: &[u64],
+    head: &[u16],
+    next: &[u16],
+    class: usize,
+    map: &[u64],
+    place: &mut [u16],
+) -> bool
+    requires { ⌜ (Chained (now walker) (now head) (now next) (length (now walker))) × (class < CLASSES) × (Entered (now map) class 0 (now place)) ⌝ }
+    ensures { λ r. ⌜ Taking (now (map .entry)) (now (walker .entry)) class (now (place .exit)) r ⌝ }
+{
+    let mut at = wide(head[class]);
+    while at != 0 {
+        let spot = at - 1;
+        let word = walker[spot];
+        if !has_word(word, map, place) {
+            return false;
+        }
+        let low = low_of(word);
+        place[low] = 0;
+        at = wide(next[spot]);
+    }
+    true
+}
+
+// Whether nothing of the class is left in the table of places.
+fn none_left(words: &[u64], head: &[u16], next: &[u16], class: usize, place: &[u16]) -> bool
+    requires { ⌜ (Chained (now words) (now head) (now next) (length (now words))) × (class < CLASSES) × (length (now place) ≡ PLACES) ⌝ }
+    ensures { λ r. ⌜ Decides r (NoneLeft (now (words .entry)) class (now (place .entry))) ⌝ }
+{
+    let mut at = wide(head[class]);
+    while at != 0 {
+        let spot = at - 1;
+        if place[low_of(words[spot])] != 0 {
+            return false;
+        }
+        at = wide(next[spot]);
+    }
+    true
+}
+
+// Whether, of this class, no key is twice in map or walker, and the two have the same words.
+fn class_agrees(
+    map: &[u64],
+    map_head: &[u16],
+    map_next: &[u16],
+    walker: &[u64],
+    head: &[u16],
+    next: &[u16],
+    place: &mut [u16],
+    class: usize,
+) -> bool
+    requires { ⌜ (Chained (now map) (now «map_head») (now «map_next») (length (now map))) × (Chained (now walker) (now head) (now next) (length (now walker))) × (length (now map) < LINKS) × (Blank (now place)) × (class < CLASSES) ⌝ }
+    ensures { λ r. ⌜ Tested (ClassAgree (now (map .entry)) (now (walker .entry)) class) (now (place .exit)) r ⌝ }
+{
+    if !enter(map, map_head, map_next, class, place) {
+        return false;
+    }
+    if !take(walker, head, next, class, map, place) {
+        return false;
+    }
+    none_left(map, map_head, map_next, class, place)
+}
+
+// ---- One class of a cache and the walker. Slots of several ports may hold one entry, so none is taken out.
+
+// Whether the map has the word that each slot holds.
 fn has_words(
     slots: &[u64],
     head: &[u16],
@@ -130,12 +200,12 @@ fn has_words(
     place: &[u16],
 ) -> bool
     requires { ⌜ (Chained (now slots) (now head) (now next) (length (now slots))) × (class < CLASSES) × (Entered (now map) class 0 (now place)) ⌝ }
-    ensures { λ r. ⌜ Decides r (ClassWithin (now (slots .entry)) (now (map .entry)) class) ⌝ }
+    ensures { λ r. ⌜ Decides r (SlotsWithin (now (slots .entry)) (now (map .entry)) class) ⌝ }
 {
     let mut at = wide(head[class]);
     while at != 0 {
         let spot = at - 1;
-        if !has_word(slots[spot], map, place) {
+        if !has_word(map_word_of(slots[spot]), map, place) {
             return false;
         }
         at = wide(next[spot]);
@@ -143,8 +213,8 @@ fn has_words(
     true
 }
 
-// Takes the places of a class out of the table of places.
-fn leave(words: &[u64], head: &[u16], next: &[u16], class: usize, place: &mut [u16])
+// Empties the table of places of what was entered.
+fn clear(words: &[u64], head: &[u16], next: &[u16], class: usize, place: &mut [u16])
     requires { ⌜ (Chained (now words) (now head) (now next) (length (now words))) × (class < CLASSES) × (Entered (now words) class 0 (now place)) ⌝ }
     ensures { λ r. ⌜ Blank (now (place .exit)) ⌝ }
 {
@@ -177,13 +247,36 @@ fn class_held(
     if !has_words(slots, slot_head, slot_next, class, map, place) {
         return false;
     }
-    leave(map, head, next, class, place);
+    clear(map, head, next, class, place);
     true
 }
 
 // ---- All classes.
 
-// Whether no key is twice in the map, and the map has the word that each slot holds.
+// Whether no key is twice in map or walker, and the two are the same map.
+fn agreed(
+    map: &[u64],
+    map_head: &[u16],
+    map_next: &[u16],
+    walker: &[u64],
+    head: &[u16],
+    next: &[u16],
+    place: &mut [u16],
+) -> bool
+    requires { ⌜ (Chained (now map) (now «map_head») (now «map_next») (length (now map))) × (Chained (now walker) (now head) (now next) (length (now walker))) × (length (now map) < LINKS) × (Blank (now place)) × (Packed (now map)) × (Packed (now walker)) ⌝ }
+    ensures { λ r. ⌜ Decides r (Agreement (now (map .entry)) (now (walker .entry))) ⌝ }
+{
+    let mut class = 0;
+    while class < CLASSES {
+        if !class_agrees(map, map_head, map_next, walker, head, next, place, class) {
+            return false;
+        }
+        class += 1;
+    }
+    true
+}
+
+// Whether no key is twice in the map, and each slot holds the map's entry.
 fn held(
     slots: &[u64],
     slot_head: &[u16],
@@ -194,7 +287,7 @@ fn held(
     place: &mut [u16],
 ) -> bool
     requires { ⌜ (Chained (now slots) (now «slot_head») (now «slot_next») (length (now slots))) × (Chained (now map) (now head) (now next) (length (now map))) × (length (now map) < LINKS) × (Blank (now place)) × (Packed (now map)) × (Filled (now slots)) ⌝ }
-    ensures { λ r. ⌜ Tested (Held (now (slots .entry)) (now (map .entry))) (now (place .exit)) r ⌝ }
+    ensures { λ r. ⌜ Decides r (Held (now (slots .entry)) (now (map .entry))) ⌝ }
 {
     let mut class = 0;
     while class < CLASSES {
@@ -219,8 +312,8 @@ fn first_of_key(words: &[u64], i: usize) -> bool
     }
 }
 
-// Whether no key is there twice. Each filled place is the first of its key: for a cache's few slots the square of their
-// number is less than a table of places would cost.
+// Whether no key is there twice: each place is the first of its key. It takes half the square of the length in steps, which
+// for the few slots of a cache is less than chains by port and VM would.
 fn once(words: &[u64]) -> bool
     ensures { λ r. ⌜ Decides r (Distinct keyOf (now (words .entry))) ⌝ }
 {
@@ -242,30 +335,11 @@ pub fn same_maps(map: &[u64], walker: &[u64]) -> bool
     let mut map_head = [0u16; CLASSES];
     let mut map_next = [0u16; ENTRIES];
     chain(map, &mut map_head, &mut map_next);
-    let mut walker_head = [0u16; CLASSES];
-    let mut walker_next = [0u16; ENTRIES];
-    chain(walker, &mut walker_head, &mut walker_next);
+    let mut head = [0u16; CLASSES];
+    let mut next = [0u16; ENTRIES];
+    chain(walker, &mut head, &mut next);
     let mut place = [0u16; PLACES];
-    if !held(
-        walker,
-        &walker_head,
-        &walker_next,
-        map,
-        &map_head,
-        &map_next,
-        &mut place,
-    ) {
-        return false;
-    }
-    held(
-        map,
-        &map_head,
-        &map_next,
-        walker,
-        &walker_head,
-        &walker_next,
-        &mut place,
-    )
+    agreed(map, &map_head, &map_next, walker, &head, &next, &mut place)
 }
 
 // Rule 7, of the keys: each slot holds the walker's entry for its VM and guest page, and no key is twice in the cache.

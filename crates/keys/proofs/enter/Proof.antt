@@ -2,9 +2,9 @@
 use borrow.Author.Needs.{needs}
 use mathlib.Core.Bool.{true≢false}
 use mathlib.Core.Path.{sym}
-use native.Mathlib.Omega.{arith}
 use Rattle.keys.specs.Keys.{Entered}
-use Rattle.keys.specs.ChainLaws.{chain-of, Standing, walk-start, walk-on, walk-next, walk-less, enter-start, enter-next, enter-twice}
+use Rattle.keys.specs.ChainLaws.{chain-of, Standing, walk-start, walk-on, walk-next, walk-less}
+use Rattle.keys.specs.PlaceLaws.{enter-start, enter-next, enter-twice}
 use Rattle.keys.proofs.enter.Statement.{statement}
 use Rattle.keys.proofs.enter.Tie as tie
 

@@ -5,7 +5,7 @@ use native.Mathlib.Omega.{arith}
 use borrow.Author.Count.{below-more}
 use borrow.Author.Tests.{not-true, not-false}
 use Rattle.keys.specs.Keys.{CLASSES, ClassHeld, Blank}
-use Rattle.keys.specs.KeysLaws.{refuted, tested-yes, tested-no, held-classes, held-class}
+use Rattle.keys.specs.KeysLaws.{yes, no, refuted, held-classes, held-class}
 use Rattle.keys.proofs.held.Statement.{statement}
 use Rattle.keys.proofs.held.Tie as tie
 
@@ -25,7 +25,7 @@ same-length : tie.Need-same-length Inv-loop μ-loop
 same-length c = search needs
 
 returns : tie.Need-returns Inv-loop μ-loop
-returns c = tested-no (λ t. refuted (c .before .before .before .class-held .ensures .answer) (not-true _ (c .if1 .taken)) (held-class _ _ (c .before .before .before .before .before .before .before .before .before .before .before .before .before .before .pre .4) (c .before .before .before .before .before .before .before .before .before .before .before .before .before .before .pre .5) t _))
+returns c = no (λ t. refuted (c .before .before .before .class-held .ensures .answer) (not-true _ (c .if1 .taken)) (held-class _ _ (c .before .before .before .before .before .before .before .before .before .before .before .before .before .before .pre .4) (c .before .before .before .before .before .before .before .before .before .before .before .before .before .before .pre .5) t _))
 
 add-class : tie.Need-add-class Inv-loop μ-loop
 add-class c = search needs
@@ -36,14 +36,14 @@ loop-less c = search needs
 loop-again : tie.Need-loop-again Inv-loop μ-loop
 loop-again c =
     let t = c .before .before .before .class-held .ensures in
-    let yes = not-false _ (c .if1 .left) in
-    (t .blank yes, below-more _ _ (c .before .before .before .before .before .before .loop .inv .1) (t .answer .sound yes))
+    let passed = not-false _ (c .if1 .left) in
+    (t .blank passed, below-more _ _ (c .before .before .before .before .before .before .loop .inv .1) (t .answer .sound passed))
 
 same-length-2 : tie.Need-same-length-2 Inv-loop μ-loop
 same-length-2 c = search needs
 
 returns-2 : tie.Need-returns-2 Inv-loop μ-loop
-returns-2 c = tested-yes (held-classes _ _ (c .before .before .before .before .before .before .before .before .before .pre .4) (λ k h. c .before .loop .inv .1 k (omega (arith, c .loop-test .left)))) (c .before .loop .inv .0)
+returns-2 c = yes (held-classes _ _ (c .before .before .before .before .before .before .before .before .before .pre .4) (λ k h. c .before .loop .inv .1 k (omega (arith, c .loop-test .left))))
 
 pub held-spec : {M : Type 1} → statement M
 held-spec =

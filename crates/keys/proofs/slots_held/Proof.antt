@@ -1,8 +1,12 @@
 -- `keys::slots_held` meets its contract.
 use borrow.Author.Needs.{needs}
-use mathlib.Core.Path.{refl}
+use Prim.Native.Nat.{ℕ}
+use mathlib.Core.Path.{refl, sym, _∙_}
+use native.Mathlib.Omega.{arith}
 use borrow.Author.Tests.{not-true, not-false}
-use Rattle.keys.specs.ChainLaws.{blank-start}
+use lib.ListN.{length-replicate}
+use Rattle.numbers.specs.Limits.{ENTRIES, SLOTS}
+use Rattle.keys.specs.PlaceLaws.{blank-start}
 use Rattle.keys.specs.KeysLaws.{no, refuted}
 use Rattle.keys.proofs.slots_held.Statement.{statement}
 use Rattle.keys.proofs.slots_held.Tie as tie
@@ -20,7 +24,7 @@ slice-aggregate-chain-2 : tie.Need-slice-aggregate-chain-2
 slice-aggregate-chain-2 c = search needs
 
 chain-requires : tie.Need-chain-requires
-chain-requires c κs = search needs
+chain-requires c κs = (refl, length-replicate {A = ℕ} ENTRIES 0 ∙ sym (c .before .before .before .before .before .before .pre .0), omega (arith, c .before .before .before .before .before .before .pre .0))
 
 slice-aggregate-chain-3 : tie.Need-slice-aggregate-chain-3
 slice-aggregate-chain-3 c = search needs
@@ -29,7 +33,7 @@ slice-aggregate-chain-4 : tie.Need-slice-aggregate-chain-4
 slice-aggregate-chain-4 c = search needs
 
 chain-requires-2 : tie.Need-chain-requires-2
-chain-requires-2 c κs = search needs
+chain-requires-2 c κs = (refl, length-replicate {A = ℕ} SLOTS 0 ∙ sym (c .before .before .before .before .before .before .before .before .before .before .before .pre .1), omega (arith, c .before .before .before .before .before .before .before .before .before .before .before .pre .1))
 
 slice-aggregate-held : tie.Need-slice-aggregate-held
 slice-aggregate-held c = search needs
@@ -51,7 +55,7 @@ held-requires c κs = (c .before .before .before .before .before .before .before
 
 returns-2 : tie.Need-returns-2
 returns-2 c =
-    let d = c .before .held .ensures .answer in
+    let d = c .before .held .ensures in
     record {
       sound = λ z. record { each = d .sound z .each; once = c .before .before .before .before .before .before .before .before .before .before .before .before .before .before .before .before .before .before .once .ensures .sound (not-false _ (c .before .before .before .before .before .before .before .before .before .before .before .before .before .before .before .before .before .if1 .left)) };
       complete = λ a. d .complete (record { once = c .before .before .before .before .before .before .before .before .before .before .before .before .before .before .before .before .before .before .before .before .before .pre .3; each = a .each });

@@ -1,10 +1,11 @@
--- `keys::leave` meets its contract. The places that the walk has yet to pass are entered, and no other.
+-- `keys::clear` meets its contract. The places that the walk has yet to pass are entered, and no other.
 use borrow.Author.Needs.{needs}
 use Prim.Native.Nat.{_<_}
 use Rattle.keys.specs.Keys.{Shows}
-use Rattle.keys.specs.ChainLaws.{chain-of, Standing, walk-start, walk-next, walk-less, clear-start, clear-next, clear-end}
-use Rattle.keys.proofs.leave.Statement.{statement}
-use Rattle.keys.proofs.leave.Tie as tie
+use Rattle.keys.specs.ChainLaws.{chain-of, Standing, walk-start, walk-next, walk-less}
+use Rattle.keys.specs.PlaceLaws.{clear-start, clear-next, clear-end}
+use Rattle.keys.proofs.clear.Statement.{statement}
+use Rattle.keys.proofs.clear.Tie as tie
 
 abbrev Inv-loop : tie.InvT-loop
 Inv-loop words head next class place₀ at₀ place at = Standing words class at × Shows words class (λ p. p < at) place
@@ -73,8 +74,8 @@ same-length c = search needs
 returns : tie.Need-returns Inv-loop μ-loop
 returns c = clear-end _ _ _ (rw (c .loop-test .left) at (c .before .loop .inv .1))
 
-pub leave-spec : {M : Type 1} → statement M
-leave-spec =
+pub clear-spec : {M : Type 1} → statement M
+clear-spec =
     tie.close
     (tie.spec
     Inv-loop
