@@ -17,3 +17,6 @@ pub mod Start
 pub mod Sequence
 pub mod Good
 pub mod Entries
+pub mod Upstream
+pub mod UpstreamStep
+pub mod UpstreamRun

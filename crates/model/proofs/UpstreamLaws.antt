@@ -1,0 +1,105 @@
+-- What the views show of words, keys and pairs.
+use Prim.Native.Nat.{ℕ, _+_, _*_, _/_, _%_, _^_, _≤_, _<_, min, max}
+use mathlib.Core.Bool.{Bool, true, false, not, _&&_, _||_, true≢false}
+use mathlib.Core.List.{List}
+use mathlib.Core.Logic.{_⊎_, inl, inr, ⊎-elim}
+use mathlib.Core.Option.{Option, none, some}
+use mathlib.Core.Path.{_≡_, refl, sym, ap, _∙_}
+use native.Mathlib.Nat.{div-eq-of-lt}
+use native.Mathlib.Omega.{arith}
+use lib.Dec.{eqb, ltb}
+use lib.ListN.{length, getD}
+use lib.Pow.{pow-mono}
+use borrow.Author.Tests.{eqb-true, eqb-false, eq-eqb, ne-eqb, ltb-true, ltb-false}
+use Rattle.numbers.specs.Limits.{VMS, GUEST-PAGES, PAGES}
+use Rattle.numbers.specs.Packing.{key, keyOf, slotKey, addressOf, pairKey, pairKeyOf, portOf, vmOf, guestOf, filledOf, leftOf, rightOf, pageOf}
+use Rattle.table.specs.ScanLaws.{cases, equal, found-never}
+use Rattle.table.specs.Table.{find, lookup, isFound, wordAt, Has}
+use Rattle.table.specs.TableLaws.{find-at, find-none, lookup-has, lookup-nothing}
+use Rattle.table.specs.declared.Found.{Found}
+use Rattle.table.specs.declared.Found.the-variants.{At, Nothing}
+use Rattle.model.specs.Views.{knows}
+use Rattle.model.specs.Upstream.{S2Entry, entryIn, seen, isSome}
+
+-- ---- words
+pub seen-some : (w : ℕ) (e : S2Entry) → seen w ≡ some e → (w ≡ 0 → ⊥) × (entryIn w ≡ e)
+unfolding seen
+seen-some w e q =
+    ⊎-elim (λ t. absurd (let z : none ≡ some e = rw t at q in let u : _≡_ {A = ℕ} 0 1 = cc in omega arith))
+    (λ f. (eqb-false w 0 f, let z : some (entryIn w) ≡ some e = rw f at q in cc))
+    (cases (eqb w 0))
+
+pub seen-is : (w : ℕ) → (w ≡ 0 → ⊥) → seen w ≡ some (entryIn w)
+unfolding seen
+seen-is w n = rw (ne-eqb w 0 n)
+
+pub seen-filled : (w : ℕ) → isSome (seen w) ≡ not (eqb w 0)
+unfolding seen
+seen-filled w = ⊎-elim (λ t. rw t) (λ f. rw f) (cases (eqb w 0))
+
+-- ---- keys
+module _ (keyOf : ℕ → ℕ) (empty : keyOf 0 ≡ 0) where
+  -- a key is there exactly where lookup gives a word
+  pub found-looked : (ws : List ℕ) (k : ℕ) → 0 < k → isFound (find keyOf ws k) ≡ not (eqb (lookup keyOf ws k) 0)
+  unfolding lookup
+  found-looked ws k o = go (find keyOf ws k) refl
+    where
+      go : (f : Found) → find keyOf ws k ≡ f → isFound f ≡ not (eqb (wordAt ws f) 0)
+      go (At i) q = ⊎-elim (λ t. absurd (found-never i (sym q ∙ lookup-nothing keyOf empty ws k o (rw q (eqb-true _ _ t))))) (λ f. rw f) (cases (eqb (getD ws i 0) 0))
+      go Nothing q = refl
+
+  pub found-has : (ws : List ℕ) (k : ℕ) → 0 < k → isFound (find keyOf ws k) ≡ true → Has ws (lookup keyOf ws k) × (keyOf (lookup keyOf ws k) ≡ k)
+  found-has ws k o t = lookup-has keyOf ws k (λ z. true≢false (sym t ∙ found-looked ws k o ∙ rw z))
+
+  pub has-found : (ws : List ℕ) (w : ℕ) → Has ws w → isFound (find keyOf ws (keyOf w)) ≡ true
+  has-found ws w r = go (find keyOf ws (keyOf w)) refl
+    where
+      go : (f : Found) → find keyOf ws (keyOf w) ≡ f → isFound f ≡ true
+      go (At i) q = refl
+      go Nothing q = absurd (find-none keyOf ws (keyOf w) q (r .spot) (r .within) (rw (r .holds)))
+
+-- a word of a map's key has its VM and guest page, and one of a slot's key its port too
+pub record OfKey (w port vm gpa : ℕ) : Type 0 where
+  pub port-is : portOf w ≡ port
+  pub vm-is : vmOf w ≡ vm
+  pub guest-is : guestOf w ≡ gpa
+  pub address-is : addressOf w ≡ key vm gpa
+
+pub of-slot-key : (w port vm gpa : ℕ) → vm < VMS → gpa < GUEST-PAGES → keyOf w ≡ slotKey port vm gpa → OfKey w port vm gpa
+of-slot-key w port vm gpa v g e =
+    let a : w / 4294967296 ≡ (port * 256 + vm) * 65536 + gpa = omega arith in
+    let b : w / 281474976710656 ≡ port * 256 + vm = omega arith in
+    record { port-is = omega arith; vm-is = omega arith; guest-is = omega arith; address-is = omega arith }
+
+pub of-key : (w vm gpa : ℕ) → vm < VMS → gpa < GUEST-PAGES → keyOf w ≡ key vm gpa → OfKey w 0 vm gpa
+of-key w vm gpa v g e = of-slot-key w 0 vm gpa v g (e ∙ omega arith)
+
+-- two slot keys are one where their three parts are
+pub slot-key-same : (port vm gpa port′ vm′ gpa′ : ℕ) → vm < VMS → vm′ < VMS → gpa < GUEST-PAGES → gpa′ < GUEST-PAGES → slotKey port vm gpa ≡ slotKey port′ vm′ gpa′ → (port ≡ port′) × (vm ≡ vm′) × (gpa ≡ gpa′)
+slot-key-same port vm gpa port′ vm′ gpa′ v v′ g g′ e =
+    let a : (port * 256 + vm) * 65536 + gpa ≡ (port′ * 256 + vm′) * 65536 + gpa′ = omega arith in
+    let b : port * 256 + vm ≡ port′ * 256 + vm′ = omega arith in
+    (omega arith, omega arith, omega arith)
+
+-- ---- pairs
+-- the same pair, in one order of its ends or the other
+abbrev pub SamePair : ℕ → ℕ → ℕ → ℕ → ℕ → ℕ → Type 0
+SamePair left right page l r p = ((left ≡ l) × (right ≡ r) × (page ≡ p)) ⊎ ((left ≡ r) × (right ≡ l) × (page ≡ p))
+
+pub pair-same : (left right page l r p : ℕ) → right < 65536 → left < 65536 → r < 65536 → l < 65536 → page < 4096 → p < 4096 → pairKey left right page ≡ pairKey l r p → SamePair left right page l r p
+pair-same left right page l r p a b c d h h′ e =
+    let f : min left right * 65536 + max left right ≡ min l r * 65536 + max l r = omega arith in
+    let g : page ≡ p = omega arith in
+    let i : min left right ≡ min l r = omega arith in
+    let j : max left right ≡ max l r = omega arith in
+    ⊎-elim (λ q. inl (q, omega arith, g)) (λ q. inr (omega arith, omega arith, g)) (equal left l)
+
+-- ---- known VMs
+pub knows-below : (known vm : ℕ) → known < 2 ^ VMS → knows known vm ≡ true → vm < VMS
+unfolding knows
+knows-below known vm h t = ⊎-elim (λ q. ltb-true vm VMS q) (λ q. absurd (none (ltb-false vm VMS q))) (cases (ltb vm VMS))
+  where
+    none : VMS ≤ vm → ⊥
+    none l =
+        let z : known / 2 ^ vm ≡ 0 = div-eq-of-lt (omega (arith, pow-mono l)) in
+        true≢false (sym t ∙ rw z)
