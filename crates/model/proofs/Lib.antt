@@ -3,3 +3,6 @@ pub mod Computes
 pub mod UpstreamLaws
 pub mod Rows
 pub mod Worked
+pub mod ViewLaws
+pub mod Refused
+pub mod Carried

@@ -4,3 +4,4 @@ pub mod Table
 pub mod Loops
 pub mod ScanLaws
 pub mod TableLaws
+pub mod AgreeLaws

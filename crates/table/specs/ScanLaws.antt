@@ -84,7 +84,7 @@ module _ (p : ℕ → Bool) where
 
 -- ---- whether a word passes
 module _ (p : ℕ → Bool) where
-  any-here : (ws : List ℕ) (i : ℕ) → i < length ws → p (getD ws i 0) ≡ true → any p ws ≡ true
+  pub any-here : (ws : List ℕ) (i : ℕ) → i < length ws → p (getD ws i 0) ≡ true → any p ws ≡ true
   any-here [] i h e = absurd (omega arith)
   any-here (w ∷ ws) zero h e = rw e
   any-here (w ∷ ws) (suc i) h e = ⊎-elim (λ t. rw t) (λ f. rw f (any-here ws i (omega arith) e)) (cases (p w))
@@ -192,6 +192,10 @@ at-most-one false = omega arith
 module _ (p : ℕ → Bool) where
   count-cons : (w : ℕ) (ws : List ℕ) → count p (w ∷ ws) ≡ count p ws + (if p w then 1 else 0)
   count-cons w ws = ⊎-elim (λ t. rw t) (λ f. rw f (omega arith)) (cases (p w))
+
+  pub count-most : (ws : List ℕ) → count p ws ≤ length ws
+  count-most [] = omega arith
+  count-most (w ∷ ws) = omega (arith, count-most ws, count-cons w ws, at-most-one (p w))
 
   -- a store changes the count by the word that goes and the word that comes
   pub count-set : (ws : List ℕ) (i w : ℕ) → i < length ws → count p (set ws i w) + (if p (getD ws i 0) then 1 else 0) ≡ count p ws + (if p w then 1 else 0)

@@ -162,10 +162,10 @@ module _ (keyOf : ℕ → ℕ) where
       other : r .spot ≡ i → ⊥
       other q = let e = rw q at (r .holds) in ⊎-elim (λ t. n (rw e at t)) (λ t. r .filled (sym e ∙ t)) f
 
-  -- whatever word was replaced
-  pub distinct-set : (ws : List ℕ) (k i w : ℕ) → keyOf w ≡ k → Alone ws k i → Distinct keyOf ws → Distinct keyOf (set ws i w)
+  -- whatever word was replaced, where no other place has the new word's key
+  distinct-store : (ws : List ℕ) (i w : ℕ) → ((j : ℕ) → j < length ws → (j ≡ i → ⊥) → keyOf (getD ws j 0) ≡ keyOf w → keyOf w ≡ 0) → Distinct keyOf ws → Distinct keyOf (set ws i w)
   unfolding Distinct
-  distinct-set ws k i w e only d a b l h = ⊎-elim first-is-new (λ n. ⊎-elim (second-is-new n) (neither n) (equal b i)) (equal a i)
+  distinct-store ws i w only d a b l h = ⊎-elim first-is-new (λ n. ⊎-elim (second-is-new n) (neither n) (equal b i)) (equal a i)
     where
       goal : Type 0
       goal = keyOf (getD (set ws i w) a 0) ≡ keyOf (getD (set ws i w) b 0) → keyOf (getD (set ws i w) b 0) ≡ 0
@@ -176,14 +176,17 @@ module _ (keyOf : ℕ → ℕ) where
       first-is-new : a ≡ i → goal
       first-is-new q =
           let n : b ≡ i → ⊥ = λ s. omega (arith, h′) in
-          rw (q, getD-set-same ws i w 0 (omega (arith, h′)), getD-set-other ws i b w 0 n) (λ s. absurd (only b h′ n (sym s ∙ e)))
+          rw (q, getD-set-same ws i w 0 (omega (arith, h′)), getD-set-other ws i b w 0 n) (λ s. sym s ∙ only b h′ n (sym s))
 
       second-is-new : (a ≡ i → ⊥) → b ≡ i → goal
       second-is-new n q =
-          rw (q, getD-set-same ws i w 0 (omega (arith, h′)), getD-set-other ws i a w 0 n) (λ s. absurd (only a (omega (arith, h′)) n (s ∙ e)))
+          rw (q, getD-set-same ws i w 0 (omega (arith, h′)), getD-set-other ws i a w 0 n) (λ s. only a (omega (arith, h′)) n s)
 
       neither : (a ≡ i → ⊥) → (b ≡ i → ⊥) → goal
       neither n m = rw (getD-set-other ws i a w 0 n, getD-set-other ws i b w 0 m) (d a b l h′)
+
+  pub distinct-set : (ws : List ℕ) (k i w : ℕ) → keyOf w ≡ k → Alone ws k i → Distinct keyOf ws → Distinct keyOf (set ws i w)
+  distinct-set ws k i w e only = distinct-store ws i w (λ j h n q. absurd (only j h n (q ∙ e)))
 
   -- ---- put
   -- what holds of a store at the place, and of a table that stays as it is, holds of put
@@ -313,6 +316,10 @@ module _ (keyOf : ℕ → ℕ) where
     pub lookup-erase-other : (ws : List ℕ) (k other : ℕ) → 0 < other → (k ≡ other → ⊥) → lookup keyOf (erase keyOf ws k) other ≡ lookup keyOf ws other
     unfolding erase
     lookup-erase-other ws k other o n = lookup-wipe-other (hasKey keyOf k) ws other o (λ w q. ne-eqb (keyOf w) k (λ s. n (sym s ∙ q)))
+
+    -- a place that is emptied, however it was chosen
+    pub distinct-empty : (ws : List ℕ) (i : ℕ) → Distinct keyOf ws → Distinct keyOf (set ws i 0)
+    distinct-empty ws i = distinct-store ws i 0 (λ j h n q. empty)
 
     pub distinct-wipe : (p : ℕ → Bool) (ws : List ℕ) → Distinct keyOf ws → Distinct keyOf (wipe p ws)
     unfolding Distinct

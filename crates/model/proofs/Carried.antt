@@ -1,0 +1,78 @@
+-- What is valid stays so where the known VMs, the page sets and the pairs change, as long as each entry and each pair
+-- keeps its ground.
+use Prim.Native.Nat.{ℕ}
+use mathlib.Core.Bool.{true}
+use mathlib.Core.List.{List}
+use mathlib.Core.Logic.{_⊎_}
+use mathlib.Core.Path.{_≡_, sym, _∙_}
+use Rattle.numbers.specs.Packing.{filledOf, pageOf, vmOf, leftOf, rightOf, keyOf}
+use Rattle.numbers.specs.PackingLaws.{key-filled}
+use Rattle.numbers.specs.declared.Side.{Side}
+use Rattle.table.specs.Table.{Has, Distinct, lookup}
+use Rattle.table.specs.TableLaws.{has-lookup, lookup-has}
+use Rattle.model.specs.State.{Route}
+use Rattle.model.specs.Views.{knows, owns, mayMap}
+use Rattle.model.specs.Valid.{PairGood, PairsGood, EntryGood, MapGood, SameMap, PortsGood, RouteGood}
+
+-- ---- what an entry rests on: its VM is known and may map the page
+pub record Ground (side : Side) (known : ℕ) (sets pairs : List ℕ) (w : ℕ) : Type 0 where
+  pub vm : knows known (vmOf w) ≡ true
+  pub may : mayMap side sets pairs (vmOf w) (pageOf w) ≡ true
+
+-- tables that are equal as maps have the same words
+pub same-has : (a b : List ℕ) (w : ℕ) → SameMap a b → Distinct keyOf b → Has b w → filledOf w ≡ 1 → Has a w
+unfolding SameMap
+same-has a b w same once h f =
+    let o = key-filled w f in
+    let e : lookup keyOf a (keyOf w) ≡ w = same (keyOf w) o ∙ has-lookup keyOf b w once h o in
+    rw e at (lookup-has keyOf a (keyOf w) (λ z. h .filled (sym e ∙ z)) .0)
+
+module _ (side : Side) (pages known known′ : ℕ) (sets sets′ pairs pairs′ : List ℕ) where
+  map-carried : (table : List ℕ) → MapGood side pages known sets pairs table → ((w : ℕ) → Has table w → Ground side known′ sets′ pairs′ w) → MapGood side pages known′ sets′ pairs′ table
+  map-carried table g keeps = record { each = each; once = g .once }
+    where
+      each : (w : ℕ) → Has table w → EntryGood side pages known′ sets′ pairs′ w
+      each w h =
+          let old = g .each w h in
+          let new = keeps w h in
+          record { port = old .port; filled = old .filled; page = old .page; vm = new .vm; may = new .may }
+
+  -- the walker's entries are those of the software map, so these decide
+  pub route-carried : (r : Route) → RouteGood side pages known sets pairs r → ((w : ℕ) → Has (r .map) w → EntryGood side pages known sets pairs w → Ground side known′ sets′ pairs′ w) → PortsGood known′ (r .ports) → RouteGood side pages known′ sets′ pairs′ r
+  route-carried r g keeps ports =
+      record {
+        map = map-carried (r .map) (g .map) (λ w h. keeps w h (g .map .each w h));
+        walker = map-carried (r .walker) (g .walker) walks;
+        same = g .same;
+        cache = g .cache;
+        ports = ports;
+        hand = g .hand;
+      }
+    where
+      walks : (w : ℕ) → Has (r .walker) w → Ground side known′ sets′ pairs′ w
+      walks w h = let e = g .walker .each w h in keeps w (same-has (r .map) (r .walker) w (g .same) (g .walker .once) h (e .filled)) e
+
+-- ---- what a pair rests on: both ends are known, and one of them owns the page
+pub record PairGround (known : ℕ) (sets : List ℕ) (w : ℕ) : Type 0 where
+  pub left : knows known (leftOf w) ≡ true
+  pub right : knows known (rightOf w) ≡ true
+  pub owned : (owns sets (leftOf w) (pageOf w) ≡ true) ⊎ (owns sets (rightOf w) (pageOf w) ≡ true)
+
+pub pairs-carried : (pages known known′ : ℕ) (sets sets′ pairs : List ℕ) → PairsGood pages known sets pairs → ((w : ℕ) → Has pairs w → PairGood pages known sets w → PairGround known′ sets′ w) → PairsGood pages known′ sets′ pairs
+pairs-carried pages known known′ sets sets′ pairs g keeps = record { each = each; once = g .once }
+  where
+    each : (w : ℕ) → Has pairs w → PairGood pages known′ sets′ w
+    each w h =
+        let old = g .each w h in
+        let new = keeps w h old in
+        record {
+          port = old .port;
+          filled = old .filled;
+          access = old .access;
+          generation = old .generation;
+          page = old .page;
+          apart = old .apart;
+          left = new .left;
+          right = new .right;
+          owned = new .owned;
+        }
