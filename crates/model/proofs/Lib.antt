@@ -2,7 +2,10 @@
 pub mod Computes
 pub mod UpstreamLaws
 pub mod Rows
+pub mod Repeats
+pub mod StartKept
 pub mod Worked
 pub mod ViewLaws
 pub mod Refused
 pub mod Carried
+pub mod RegionLaws

@@ -13,6 +13,7 @@ use Rattle.numbers.specs.declared.Refusal.{Refusal}
 use Rattle.units.specs.declared.Region.{Region}
 use Rattle.units.specs.Spans.{spanWithin, regionSpan}
 use Rattle.model.specs.Views.{isVm, isGuest, isPage, isAccess, isGeneration, knows}
+use Rattle.model.specs.Effect.{andThen}
 use Rattle.model.specs.Ledger.{vmEarly, pageEarly, pairEarly}
 use Rattle.model.specs.Maps.{mapEarly, unmapEarly}
 use Rattle.model.specs.Regions.{regionEarly}
@@ -33,6 +34,11 @@ both false b e = absurd (true≢false (sym e))
 -- where a refused conjunction was false, both its parts held
 pub hold : (a b : Bool) → not (a && b) ≡ false → (a ≡ true) × (b ≡ true)
 hold a b e = both a b (not-false (a && b) e)
+
+-- where what follows an early check accepts, the check accepted too
+pub then-passed : (early next : Answer) {dropped word : ℕ} → andThen early next ≡ Accepted dropped word → (d : ℕ) × (w : ℕ) × (early ≡ Accepted d w) × (next ≡ Accepted dropped word)
+then-passed (Accepted d w) next e = (d, w, refl, e)
+then-passed (Refused r i) next e = never-both e
 
 -- ---- each early check
 pub record VmPassed (known vm : ℕ) : Type 0 where

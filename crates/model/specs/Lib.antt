@@ -14,6 +14,7 @@ pub mod MemoryLaws
 pub mod Step
 pub mod ShapeLaws
 pub mod Start
+pub mod UnitLaws
 pub mod Sequence
 pub mod Good
 pub mod Entries

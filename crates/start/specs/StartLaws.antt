@@ -1,5 +1,5 @@
 -- Laws of start: the units that a loop has written, what an accepted answer tells, and what the two headers are the machine of.
-use Prim.Native.Nat.{ℕ, zero, suc, _+_, _*_, _%_, _≤_, _<_}
+use Prim.Native.Nat.{ℕ, _+_, _*_, _%_, _≤_, _<_}
 use mathlib.Core.Bool.{Bool, true, false, not, _&&_}
 use mathlib.Core.List.{List}
 use mathlib.Core.Logic.{⊎-elim}
@@ -42,6 +42,7 @@ use Rattle.model.specs.Start.{
   emptyState,
   start,
 }
+use Rattle.model.specs.UnitLaws.{upTo, length-units, unit-at}
 use Rattle.model.specs.declared.Machine.{Machine}
 use Rattle.start.specs.Begun.{began, zeros, freshHeader, emptyHeader}
 
@@ -59,20 +60,6 @@ one-fails true true false e = refl
 one-fails true true true e = e
 
 -- ---- the units
--- what stands at j where the units below k are written
-abbrev upTo : List ℕ → ℕ → ℕ → Unit
-upTo numbers k j = if ltb j k then unitTold numbers j else noUnit
-
-module _ (numbers : List ℕ) where
-  length-units : (k n : ℕ) → length (unitsFrom numbers k n) ≡ n
-  length-units k zero = refl
-  length-units k (suc n) = rw (length-units (suc k) n)
-
-  unit-at : (k n j : ℕ) → j < n → getD (unitsFrom numbers k n) j noUnit ≡ upTo numbers (countTold numbers) (k + j)
-  unit-at k zero j h = absurd (omega arith)
-  unit-at k (suc n) zero h = let z : k + 0 ≡ k = omega arith in rw z
-  unit-at k (suc n) (suc j) h = let z : k + suc j ≡ suc k + j = omega arith in rw z (unit-at (suc k) n j (omega arith))
-
 -- writes the units that are told, k of them so far, into room for n
 pub record Writing (numbers : List ℕ) (n : ℕ) (now : List Unit) (k : ℕ) : Type 0 where
   pub place : k ≤ countTold numbers
