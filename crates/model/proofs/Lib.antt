@@ -9,3 +9,4 @@ pub mod ViewLaws
 pub mod Refused
 pub mod Carried
 pub mod RegionLaws
+pub mod PagesKept
