@@ -1,6 +1,7 @@
 -- What is proved of the machine.
 pub mod Computes
 pub mod UpstreamLaws
+pub mod UpstreamWf
 pub mod Rows
 pub mod Repeats
 pub mod StartKept

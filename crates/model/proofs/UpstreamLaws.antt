@@ -12,7 +12,7 @@ use lib.ListN.{length, getD}
 use lib.Pow.{pow-mono}
 use borrow.Author.Tests.{eqb-true, eqb-false, eq-eqb, ne-eqb, ltb-true, ltb-false}
 use Rattle.numbers.specs.Limits.{VMS, GUEST-PAGES, PAGES}
-use Rattle.numbers.specs.Packing.{key, keyOf, slotKey, addressOf, pairKey, pairKeyOf, portOf, vmOf, guestOf, filledOf, leftOf, rightOf, pageOf}
+use Rattle.numbers.specs.Packing.{key, keyOf, slotKey, addressOf, pairKey, pairKeyOf, portOf, vmOf, guestOf, entryOf, filledOf, leftOf, rightOf, pageOf, accessOf, generationOf}
 use Rattle.table.specs.ScanLaws.{cases, equal, found-never}
 use Rattle.table.specs.Table.{find, lookup, isFound, wordAt, Has}
 use Rattle.table.specs.TableLaws.{find-at, find-none, lookup-has, lookup-nothing}
@@ -103,3 +103,18 @@ knows-below known vm h t = ⊎-elim (λ q. ltb-true vm VMS q) (λ q. absurd (non
     none l =
         let z : known / 2 ^ vm ≡ 0 = div-eq-of-lt (omega (arith, pow-mono l)) in
         true≢false (sym t ∙ rw z)
+
+-- ---- entries
+-- what a word shows depends on its low half alone
+entry-low : (w : ℕ) → entryIn w ≡ entryIn (entryOf w)
+entry-low w =
+    let p : pageOf w ≡ pageOf (entryOf w) = omega arith in
+    let a : accessOf w ≡ accessOf (entryOf w) = omega arith in
+    let g : generationOf w ≡ generationOf (entryOf w) = omega arith in
+    cc
+
+pub entry-same : (w u : ℕ) → entryOf w ≡ entryOf u → entryIn w ≡ entryIn u
+entry-same w u e = entry-low w ∙ rw e (sym (entry-low u))
+
+pub seen-same : (w u : ℕ) → (w ≡ 0 → ⊥) → (u ≡ 0 → ⊥) → entryOf w ≡ entryOf u → seen w ≡ seen u
+seen-same w u n m e = rw (seen-is w n, seen-is u m, entry-same w u e)
