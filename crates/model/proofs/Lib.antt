@@ -2,6 +2,9 @@
 pub mod Computes
 pub mod UpstreamLaws
 pub mod UpstreamWf
+pub mod UpstreamFollows
+pub mod UpstreamMemory
+pub mod UpstreamLedger
 pub mod Rows
 pub mod Repeats
 pub mod StartKept

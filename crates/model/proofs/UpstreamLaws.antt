@@ -1,6 +1,6 @@
 -- What the views show of words, keys and pairs.
 use Prim.Native.Nat.{ℕ, _+_, _*_, _/_, _%_, _^_, _≤_, _<_, min, max}
-use mathlib.Core.Bool.{Bool, true, false, not, _&&_, _||_, true≢false}
+use mathlib.Core.Bool.{Bool, true, false, not, _&&_, _||_, true≢false, or-true}
 use mathlib.Core.List.{List}
 use mathlib.Core.Logic.{_⊎_, inl, inr, ⊎-elim}
 use mathlib.Core.Option.{Option, none, some}
@@ -10,16 +10,20 @@ use native.Mathlib.Omega.{arith}
 use lib.Dec.{eqb, ltb}
 use lib.ListN.{length, getD}
 use lib.Pow.{pow-mono}
-use borrow.Author.Tests.{eqb-true, eqb-false, eq-eqb, ne-eqb, ltb-true, ltb-false}
+use borrow.Author.Tests.{eqb-true, eqb-false, eq-eqb, ne-eqb, ltb-true, ltb-false, not-true}
 use Rattle.numbers.specs.Limits.{VMS, GUEST-PAGES, PAGES}
 use Rattle.numbers.specs.Packing.{key, keyOf, slotKey, addressOf, pairKey, pairKeyOf, portOf, vmOf, guestOf, entryOf, filledOf, leftOf, rightOf, pageOf, accessOf, generationOf}
+use Rattle.numbers.specs.PackingLaws.{pair-either}
 use Rattle.table.specs.ScanLaws.{cases, equal, found-never}
-use Rattle.table.specs.Table.{find, lookup, isFound, wordAt, Has}
-use Rattle.table.specs.TableLaws.{find-at, find-none, lookup-has, lookup-nothing}
+use Rattle.table.specs.Table.{find, lookup, place, put, erase, isFound, wordAt, Has}
+use Rattle.table.specs.TableLaws.{find-none, lookup-has, lookup-nothing, lookup-put-same, lookup-put-other, lookup-erase-same, lookup-erase-other}
 use Rattle.table.specs.declared.Found.{Found}
 use Rattle.table.specs.declared.Found.the-variants.{At, Nothing}
+use Rattle.model.specs.EarlyLaws.{both}
 use Rattle.model.specs.Views.{knows}
-use Rattle.model.specs.Upstream.{S2Entry, entryIn, seen, isSome}
+use Rattle.model.specs.Upstream.{S2Entry, entryIn, seen, mapSeen, isSome}
+use Rattle.model.specs.UpstreamStep.{isEdge}
+use Rattle.model.proofs.ViewLaws.{either, not-so}
 
 -- ---- words
 pub seen-some : (w : ℕ) (e : S2Entry) → seen w ≡ some e → (w ≡ 0 → ⊥) × (entryIn w ≡ e)
@@ -47,6 +51,21 @@ module _ (keyOf : ℕ → ℕ) (empty : keyOf 0 ≡ 0) where
       go : (f : Found) → find keyOf ws k ≡ f → isFound f ≡ not (eqb (wordAt ws f) 0)
       go (At i) q = ⊎-elim (λ t. absurd (found-never i (sym q ∙ lookup-nothing keyOf empty ws k o (rw q (eqb-true _ _ t))))) (λ f. rw f) (cases (eqb (getD ws i 0) 0))
       go Nothing q = refl
+
+  -- and so after a word is put, or a key erased
+  pub found-put-same : (ws : List ℕ) (k w i : ℕ) → 0 < k → keyOf w ≡ k → place keyOf ws k ≡ At i → isFound (find keyOf (put keyOf ws k w) k) ≡ true
+  found-put-same ws k w i o e p =
+      let n : w ≡ 0 → ⊥ = λ z. let q : 0 ≡ k = sym empty ∙ rw z at e in omega arith in
+      found-looked (put keyOf ws k w) k o ∙ rw (lookup-put-same keyOf ws k w i e p, ne-eqb w 0 n)
+
+  pub found-put-other : (ws : List ℕ) (k w other : ℕ) → keyOf w ≡ k → 0 < other → (k ≡ other → ⊥) → isFound (find keyOf (put keyOf ws k w) other) ≡ isFound (find keyOf ws other)
+  found-put-other ws k w other e o n = found-looked (put keyOf ws k w) other o ∙ rw (lookup-put-other keyOf empty ws k w other e o n) (sym (found-looked ws other o))
+
+  pub found-erase-same : (ws : List ℕ) (k : ℕ) → 0 < k → isFound (find keyOf (erase keyOf ws k) k) ≡ false
+  found-erase-same ws k o = found-looked (erase keyOf ws k) k o ∙ rw (lookup-erase-same keyOf empty ws k o)
+
+  pub found-erase-other : (ws : List ℕ) (k other : ℕ) → 0 < other → (k ≡ other → ⊥) → isFound (find keyOf (erase keyOf ws k) other) ≡ isFound (find keyOf ws other)
+  found-erase-other ws k other o n = found-looked (erase keyOf ws k) other o ∙ rw (lookup-erase-other keyOf empty ws k other o n) (sym (found-looked ws other o))
 
   pub found-has : (ws : List ℕ) (k : ℕ) → 0 < k → isFound (find keyOf ws k) ≡ true → Has ws (lookup keyOf ws k) × (keyOf (lookup keyOf ws k) ≡ k)
   found-has ws k o t = lookup-has keyOf ws k (λ z. true≢false (sym t ∙ found-looked ws k o ∙ rw z))
@@ -118,3 +137,42 @@ entry-same w u e = entry-low w ∙ rw e (sym (entry-low u))
 
 pub seen-same : (w u : ℕ) → (w ≡ 0 → ⊥) → (u ≡ 0 → ⊥) → entryOf w ≡ entryOf u → seen w ≡ seen u
 seen-same w u n m e = rw (seen-is w n, seen-is u m, entry-same w u e)
+
+-- a key that a map shows is of a word in it
+pub map-word : (table : List ℕ) (vm gpa : ℕ) → vm < VMS → gpa < GUEST-PAGES → isSome (mapSeen table vm gpa) ≡ true → Has table (lookup keyOf table (key vm gpa)) × OfKey (lookup keyOf table (key vm gpa)) 0 vm gpa
+map-word table vm gpa v g e =
+    let w = lookup keyOf table (key vm gpa) in
+    let (h, k) = lookup-has keyOf table (key vm gpa) (eqb-false w 0 (not-true _ (sym (seen-filled w) ∙ e))) in
+    (h, of-key w vm gpa v g k)
+
+-- ---- edges
+edge-there : (left right page l r p : ℕ) → SamePair left right page l r p → (isEdge left right page l r p || isEdge right left page l r p) ≡ true
+edge-there left right page l r p (inl q) = rw (eq-eqb l left (sym (q .0)), eq-eqb r right (sym (q .1)), eq-eqb p page (sym (q .2)))
+edge-there left right page l r p (inr q) = rw (eq-eqb l right (sym (q .1)), eq-eqb r left (sym (q .0)), eq-eqb p page (sym (q .2))) (or-true (eqb l left && eqb r right && true))
+
+edge-parts : (left right page l r p : ℕ) → isEdge left right page l r p ≡ true → (l ≡ left) × (r ≡ right) × (p ≡ page)
+edge-parts left right page l r p e =
+    let a = both (eqb l left && eqb r right) (eqb p page) e in
+    let b = both (eqb l left) (eqb r right) (a .0) in
+    (eqb-true _ _ (b .0), eqb-true _ _ (b .1), eqb-true _ _ (a .1))
+
+-- an edge or its reverse is told by the pair's key
+pub edge-key : (left right page l r p : ℕ) → left < VMS → right < VMS → page < PAGES → l < VMS → r < VMS → p < PAGES → (isEdge left right page l r p || isEdge right left page l r p) ≡ eqb (pairKey left right page) (pairKey l r p)
+edge-key left right page l r p a b c a′ b′ c′ = ⊎-elim same other (equal (pairKey left right page) (pairKey l r p))
+  where
+    goal : Type 0
+    goal = (isEdge left right page l r p || isEdge right left page l r p) ≡ eqb (pairKey left right page) (pairKey l r p)
+
+    same : pairKey left right page ≡ pairKey l r p → goal
+    same e =
+        rw (eq-eqb _ _ e)
+        (edge-there left right page l r p (pair-same left right page l r p (omega arith) (omega arith) (omega arith) (omega arith) (omega arith) (omega arith) e))
+
+    other : (pairKey left right page ≡ pairKey l r p → ⊥) → goal
+    other n =
+        rw (ne-eqb _ _ n)
+        (not-so _
+        (λ t.
+        ⊎-elim (λ e. let q = edge-parts left right page l r p e in n (rw (q .0, q .1, q .2)))
+        (λ e. let q = edge-parts right left page l r p e in n (rw (q .0, q .1, q .2) (pair-either left right page)))
+        (either _ _ t)))

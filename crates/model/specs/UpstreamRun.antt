@@ -160,12 +160,12 @@ HardwareStep (clear page) h h′ = ClearStep page h h′
 
 -- ---- runs: no step leaves an equal view
 pub data SoftwareRun (setup : Setup) : List SoftwareCall → SoftwareView → SoftwareView → Type 0 where
-  rest : {a b : SoftwareView} → SameSoftware b a → SoftwareRun setup [] a b
-  then : {call : SoftwareCall} {calls : List SoftwareCall} {a b c : SoftwareView} → SoftwareStep setup call a b → SoftwareRun setup calls b c → SoftwareRun setup (call ∷ calls) a c
+  stop : {a b : SoftwareView} → SameSoftware b a → SoftwareRun setup [] a b
+  go : {call : SoftwareCall} {calls : List SoftwareCall} {a b c : SoftwareView} → SoftwareStep setup call a b → SoftwareRun setup calls b c → SoftwareRun setup (call ∷ calls) a c
 
 pub data HardwareRun : List HardwareCall → HardwareView → HardwareView → Type 0 where
-  rest : {a b : HardwareView} → SameHardware b a → HardwareRun [] a b
-  then : {call : HardwareCall} {calls : List HardwareCall} {a b c : HardwareView} → HardwareStep call a b → HardwareRun calls b c → HardwareRun (call ∷ calls) a c
+  stop : {a b : HardwareView} → SameHardware b a → HardwareRun [] a b
+  go : {call : HardwareCall} {calls : List HardwareCall} {a b c : HardwareView} → HardwareStep call a b → HardwareRun calls b c → HardwareRun (call ∷ calls) a c
 
 -- ---- which steps an operation is, once it is accepted
 abbrev pub entryOf : ℕ → ℕ → ℕ → S2Entry
