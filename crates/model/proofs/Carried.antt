@@ -4,12 +4,12 @@ use Prim.Native.Nat.{ℕ}
 use mathlib.Core.Bool.{true}
 use mathlib.Core.List.{List}
 use mathlib.Core.Logic.{_⊎_}
-use mathlib.Core.Path.{_≡_, sym, _∙_}
+use mathlib.Core.Path.{_≡_, refl}
 use Rattle.numbers.specs.Packing.{filledOf, pageOf, vmOf, leftOf, rightOf, keyOf}
 use Rattle.numbers.specs.PackingLaws.{key-filled}
 use Rattle.numbers.specs.declared.Side.{Side}
-use Rattle.table.specs.Table.{Has, Distinct, lookup}
-use Rattle.table.specs.TableLaws.{has-lookup, lookup-has}
+use Rattle.table.specs.Table.{Has, Distinct}
+use Rattle.table.specs.AgreeLaws.{agree-has}
 use Rattle.model.specs.State.{Route}
 use Rattle.model.specs.Views.{knows, owns, mayMap}
 use Rattle.model.specs.Valid.{PairGood, PairsGood, EntryGood, MapGood, SameMap, PortsGood, RouteGood}
@@ -22,10 +22,7 @@ pub record Ground (side : Side) (known : ℕ) (sets pairs : List ℕ) (w : ℕ) 
 -- tables that are equal as maps have the same words
 pub same-has : (a b : List ℕ) (w : ℕ) → SameMap a b → Distinct keyOf b → Has b w → filledOf w ≡ 1 → Has a w
 unfolding SameMap
-same-has a b w same once h f =
-    let o = key-filled w f in
-    let e : lookup keyOf a (keyOf w) ≡ w = same (keyOf w) o ∙ has-lookup keyOf b w once h o in
-    rw e at (lookup-has keyOf a (keyOf w) (λ z. h .filled (sym e ∙ z)) .0)
+same-has a b w same once h f = agree-has keyOf refl a b w once same h (key-filled w f)
 
 module _ (side : Side) (pages known known′ : ℕ) (sets sets′ pairs pairs′ : List ℕ) where
   map-carried : (table : List ℕ) → MapGood side pages known sets pairs table → ((w : ℕ) → Has table w → Ground side known′ sets′ pairs′ w) → MapGood side pages known′ sets′ pairs′ table

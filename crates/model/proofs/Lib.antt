@@ -8,9 +8,15 @@ pub mod UpstreamLedger
 pub mod Rows
 pub mod Repeats
 pub mod StartKept
+pub mod RegionLaws
+pub mod RegionSets
 pub mod Worked
 pub mod ViewLaws
 pub mod Refused
 pub mod Carried
-pub mod RegionLaws
 pub mod PagesKept
+pub mod RoutesKept
+pub mod OneRoute
+pub mod GoodMaps
+pub mod GoodPorts
+pub mod GoodAccess

@@ -89,6 +89,29 @@ entry-whole w f =
     let c : w / 2147483648 / 2 ≡ w / 4294967296 = omega arith in
     omega arith
 
+-- ---- the map's word that a slot's stands for: all of it but the port
+abbrev pub unported : ℕ → ℕ
+unported w = mapWord (vmOf w) (guestOf w) (entryOf w)
+
+module _ (w : ℕ) where
+  pub unported-vm : vmOf (unported w) ≡ vmOf w
+  unported-vm = word-vm 0 (vmOf w) (guestOf w) (entryOf w) (omega arith) (omega arith) (omega arith)
+
+  pub unported-guest : guestOf (unported w) ≡ guestOf w
+  unported-guest = word-guest 0 (vmOf w) (guestOf w) (entryOf w) (omega arith) (omega arith) (omega arith)
+
+  pub unported-filled : filledOf (unported w) ≡ filledOf w
+  unported-filled = omega arith
+
+  pub unported-page : pageOf (unported w) ≡ pageOf w
+  unported-page = omega arith
+
+  pub unported-key : keyOf (unported w) ≡ addressOf w
+  unported-key =
+      let a : w / 2147483648 / 33554432 ≡ portOf w = omega arith in
+      let b : unported w + portOf w * 72057594037927936 ≡ w = omega arith in
+      omega arith
+
 -- ---- keys
 -- a map's key says its VM and guest page
 pub key-same : (vm guest vm′ guest′ : ℕ) → guest < 65536 → guest′ < 65536 → key vm guest ≡ key vm′ guest′ → (vm ≡ vm′) × (guest ≡ guest′)
@@ -98,6 +121,13 @@ key-same vm guest vm′ guest′ h h′ e =
     let c : (vm′ * 65536 + guest′) / 65536 ≡ vm′ = omega arith in
     let d : vm ≡ vm′ = sym b ∙ rw a c in
     (d, omega arith)
+
+-- a word's key says all but its entry
+pub key-whole : (port vm guest w : ℕ) → keyOf w ≡ slotKey port vm guest → slotWord port vm guest (entryOf w) ≡ w
+key-whole port vm guest w e = omega arith
+
+pub key-vm : (port vm guest w : ℕ) → vm < 256 → guest < 65536 → keyOf w ≡ slotKey port vm guest → vmOf w ≡ vm
+key-vm port vm guest w v g e = ap vmOf (sym (key-whole port vm guest w e)) ∙ word-vm port vm guest (entryOf w) v g (omega arith)
 
 -- a filled word's key is never that of an empty one
 pub key-filled : (w : ℕ) → filledOf w ≡ 1 → 0 < keyOf w

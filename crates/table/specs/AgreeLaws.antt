@@ -1,10 +1,10 @@
 -- Two tables that are equal as maps, in whatever order their words stand: one has room where the other has, and the same
 -- edit of both keeps them equal.
 use Prim.Native.Nat.{ℕ, suc, _+_, _≤_, _<_}
-use mathlib.Core.Bool.{Bool, true, false, true≢false}
+use mathlib.Core.Bool.{Bool, false}
 use mathlib.Core.List.{List, [], _∷_}
 use mathlib.Core.Path.{_≡_, refl, sym, ap, _∙_}
-use mathlib.Core.Logic.{_⊎_, inl, inr, ⊎-elim}
+use mathlib.Core.Logic.{inl, ⊎-elim}
 use native.Mathlib.Omega.{arith}
 use lib.ListN.{length, getD, set, length-set}
 use borrow.Author.Tests.{eq-eqb, ne-eqb}
@@ -72,15 +72,15 @@ module _ (keyOf : ℕ → ℕ) where
 
   -- ---- where the empty word has key 0
   module _ (empty : keyOf 0 ≡ 0) where
-    agree-has : (ws vs : List ℕ) → Keyed vs → Distinct keyOf vs → Agree ws vs → (w : ℕ) → Has vs w → Has ws w
-    agree-has ws vs k d same w r =
-        let e = same (keyOf w) (k w r) ∙ has-lookup keyOf vs w d r (k w r) in
-        let n : lookup keyOf ws (keyOf w) ≡ 0 → ⊥ = λ z. r .filled (sym e ∙ z) in
-        rw e at (lookup-has keyOf ws (keyOf w) n .0)
+    -- a word of the second table stands in the first
+    pub agree-has : (ws vs : List ℕ) (w : ℕ) → Distinct keyOf vs → Agree ws vs → Has vs w → 0 < keyOf w → Has ws w
+    agree-has ws vs w d same r o =
+        let e = same (keyOf w) o ∙ has-lookup keyOf vs w d r o in
+        rw e at (lookup-has keyOf ws (keyOf w) (λ z. r .filled (sym e ∙ z)) .0)
 
     -- of two tables of one length, the second has as much room as the first
     pub agree-free : (ws vs : List ℕ) → length vs ≡ length ws → Keyed vs → Distinct keyOf vs → Agree ws vs → freeEntries ws ≤ freeEntries vs
-    agree-free ws vs l k d same = omega (arith, fewer-words vs ws k d (agree-has ws vs k d same))
+    agree-free ws vs l k d same = omega (arith, fewer-words vs ws k d (λ w r. agree-has ws vs w d same r (k w r)))
 
     pub agree-none : (ws vs : List ℕ) (k : ℕ) → 0 < k → Agree ws vs → find keyOf vs k ≡ Nothing → find keyOf ws k ≡ Nothing
     unfolding lookup

@@ -12,7 +12,7 @@ use borrow.Author.Tests.{eq-eqb, ne-eqb, eqb-true, eqb-false, ltb-true, ltb-fals
 use Rattle.numbers.specs.Choice.{if_then_else_}
 use Rattle.table.specs.Scan.{first, cleared, wipe}
 use Rattle.table.specs.ScanLaws.{cases, equal, IsFirst, first-at, first-none, first-is, first-lacks, first-set, first-map, length-wipe, wipe-at, count-set, count-found, found-count, count-wipe, at-most-one}
-use Rattle.table.specs.Table.{isEmpty, lowestFree, freeEntries, orElse, setAt, wordAt, Has, hasKey, find, lookup, place, put, erase, Distinct}
+use Rattle.table.specs.Table.{isEmpty, lowestFree, freeEntries, orElse, isFound, setAt, wordAt, Has, hasKey, find, lookup, place, put, erase, Distinct}
 use Rattle.table.specs.declared.Found.{Found}
 use Rattle.table.specs.declared.Found.the-variants.{At, Nothing}
 
@@ -31,6 +31,11 @@ has-set-inv ws i w u r = ⊎-elim (λ t. inl (new t)) (λ f. inr (old f)) (equal
 
     old : (r .spot ≡ i → ⊥) → Has ws u
     old n = record { spot = r .spot; within = h; holds = sym (getD-set-other ws i (r .spot) w 0 n) ∙ r .holds; filled = r .filled }
+
+-- ---- what was found
+pub found-at : (f : Found) → isFound f ≡ true → (i : ℕ) × (f ≡ At i)
+found-at (At i) t = (i, refl)
+found-at Nothing t = absurd (true≢false (sym t))
 
 -- ---- empty places
 pub free-at : (ws : List ℕ) (i : ℕ) → lowestFree ws ≡ At i → IsFirst isEmpty ws i
@@ -124,6 +129,14 @@ module _ (keyOf : ℕ → ℕ) where
       go : (f : Found) → find keyOf ws k ≡ f → orElse f (lowestFree ws) ≡ At i → (find keyOf ws k ≡ At i) ⊎ ((find keyOf ws k ≡ Nothing) × (lowestFree ws ≡ At i))
       go (At j) q e′ = inl (q ∙ e′)
       go Nothing q e′ = inr (q, e′)
+
+  pub place-none : (ws : List ℕ) (k : ℕ) → place keyOf ws k ≡ Nothing → find keyOf ws k ≡ Nothing
+  unfolding place
+  place-none ws k e = go (find keyOf ws k) refl e
+    where
+      go : (f : Found) → find keyOf ws k ≡ f → orElse f (lowestFree ws) ≡ Nothing → find keyOf ws k ≡ Nothing
+      go (At j) q e′ = q ∙ e′
+      go Nothing q e′ = q
 
   pub place-within : (ws : List ℕ) (k i : ℕ) → place keyOf ws k ≡ At i → i < length ws
   place-within ws k i e = ⊎-elim (λ q. find-at ws k i q .within) (λ q. free-at ws i (q .1) .within) (place-at ws k i e)

@@ -1,0 +1,141 @@
+-- Operations 21 to 26 owe what a step owes: a read or a write reaches only a page that the VM on the port may reach, and a
+-- barrier does nothing.
+use Prim.Native.Nat.{ℕ, _<_}
+use mathlib.Core.Bool.{true, not, _&&_, true≢false, or-true}
+use mathlib.Core.List.{List}
+use mathlib.Core.Logic.{_⊎_, inl, ⊎-elim}
+use mathlib.Core.Path.{_≡_, refl, sym, _∙_}
+use native.Mathlib.Omega.{arith}
+use lib.Dec.{eqb}
+use borrow.Author.Tests.{ltb-true, eqb-false, not-false}
+use Rattle.numbers.specs.Limits.{VMS, GUEST-PAGES, READ, WRITE}
+use Rattle.numbers.specs.Packing.{vmOf, pageOf, keyOf, addressOf, key, slotKey}
+use Rattle.numbers.specs.PackingLaws.{key-vm, unported, unported-vm, unported-page}
+use Rattle.numbers.specs.declared.Answer.{Answer}
+use Rattle.numbers.specs.declared.Answer.the-variants.{Accepted}
+use Rattle.numbers.specs.declared.Operation.{Operation}
+use Rattle.numbers.specs.declared.Side.{Side}
+use Rattle.numbers.specs.declared.Side.the-variants.{Cpu, Dma}
+use Rattle.table.specs.ScanLaws.{cases}
+use Rattle.table.specs.Table.{Has, lookup}
+use Rattle.table.specs.TableLaws.{lookup-has}
+use Rattle.model.specs.State.{Tables, Route, route}
+use Rattle.model.specs.Views.{isPort, isGuest, isWord, isIdle, owns, mayMap}
+use Rattle.model.specs.Effect.{Effect, quiet, accepted}
+use Rattle.model.specs.Ports.{vmOn}
+use Rattle.model.specs.Access.{translate, accessAnswer}
+use Rattle.model.specs.Step.{readControl, writeControl, barrierControl}
+use Rattle.model.specs.EarlyLaws.{past, both, hold}
+use Rattle.model.specs.Valid.{EntryGood, ValidTables}
+use Rattle.model.specs.Good.{Way, own, lent, span, Reaches, Touches, Cleared, Good}
+use Rattle.model.proofs.ViewLaws.{may-either}
+use Rattle.model.proofs.Refused.{decided-good}
+use Rattle.model.proofs.RoutesKept.{slot-walks}
+use Rattle.model.proofs.OneRoute.{GoodRoute, route-of}
+
+-- ---- what an accepted access tells
+record AccessAgreed (ports cache walker : List ℕ) (port guest : ℕ) : Type 0 where
+  guest-ok : guest < GUEST-PAGES
+  vm-ok : vmOn ports port < VMS
+  translates : translate cache walker port (vmOn ports port) guest ≡ 0 → ⊥
+
+access-agreed : (ports cache walker : List ℕ) (bit port guest word : ℕ) {dropped read : ℕ} → accessAnswer ports cache walker bit port guest word ≡ Accepted dropped read → AccessAgreed ports cache walker port guest
+unfolding accessAnswer
+access-agreed ports cache walker bit port guest word e =
+    let (a, b) = past (not (isPort port && isGuest guest && isWord word)) _ _ _ e in
+    let (c, d) = past (isIdle (vmOn ports port)) _ _ _ b in
+    let (f, h) = past (eqb (translate cache walker port (vmOn ports port) guest) 0) _ _ _ d in
+    let (r, w) = hold (isPort port && isGuest guest) (isWord word) a in
+    record {
+      guest-ok = ltb-true guest GUEST-PAGES (both (isPort port) (isGuest guest) r .1);
+      vm-ok = ltb-true _ VMS (not-false _ c);
+      translates = eqb-false _ 0 f;
+    }
+
+-- ---- the entry behind a translation: the walker's own, or the one that the slot holds
+record Behind (side : Side) (t : Tables) (vm w : ℕ) : Type 0 where
+  entry : ℕ
+  good : EntryGood side (t .setup .pages) (t .known) (t .sets) (t .pairs) entry
+  vm-is : vmOf entry ≡ vm
+  page-is : pageOf entry ≡ pageOf w
+
+module _ (side : Side) (t : Tables) (r : Route) (g : GoodRoute side t r) (port vm guest : ℕ) (v : vm < VMS) (b : guest < GUEST-PAGES) where
+  behind-walker : (lookup keyOf (r .walker) (key vm guest) ≡ 0 → ⊥) → Behind side t vm (lookup keyOf (r .walker) (key vm guest))
+  behind-walker n =
+      let (h, e) = lookup-has keyOf (r .walker) (key vm guest) n in
+      record { entry = _; good = g .walker .each _ h; vm-is = key-vm 0 vm guest _ (omega arith) b (omega arith); page-is = refl }
+
+  behind-slot : (w : ℕ) → Has (r .cache) w → keyOf w ≡ slotKey port vm guest → Behind side t vm w
+  behind-slot w h e =
+      let s = g .cache .each w h in
+      let (m, q) = lookup-has keyOf (r .walker) (addressOf w) (slot-walks (r .walker) (r .cache) (g .cache) w h) in
+      record {
+        entry = unported w;
+        good = g .walker .each (unported w) (rw (s .entry) at m);
+        vm-is = unported-vm w ∙ key-vm port vm guest w (omega arith) b e;
+        page-is = unported-page w;
+      }
+
+  behind : (translate (r .cache) (r .walker) port vm guest ≡ 0 → ⊥) → Behind side t vm (translate (r .cache) (r .walker) port vm guest)
+  unfolding translate
+  behind n =
+      ⊎-elim (λ t. rw t (behind-walker (rw t at n)))
+      (λ f. rw f (let (h, e) = lookup-has keyOf (r .cache) (slotKey port vm guest) (eqb-false _ 0 f) in behind-slot _ h e))
+      (cases (eqb (lookup keyOf (r .cache) (slotKey port vm guest)) 0))
+
+-- ---- a page that a VM may map is one that it may reach
+way : (side : Side) (t : Tables) (vm page : ℕ) → mayMap side (t .sets) (t .pairs) vm page ≡ true → Way t vm page
+way Cpu t vm page m = ⊎-elim (λ c. own (rw c)) (λ l. lent l) (may-either Cpu (t .sets) (t .pairs) vm page m)
+way Dma t vm page m = ⊎-elim (λ c. own (rw c (or-true (owns (t .sets) vm page)))) (λ l. span l) (may-either Dma (t .sets) (t .pairs) vm page m)
+
+behind-reaches : (side : Side) (t : Tables) (vm w : ℕ) → vm < VMS → Behind side t vm w → Reaches t vm (pageOf w)
+behind-reaches side t vm w v e =
+    record { vm-ok = v; page-ok = rw (← e .page-is) (e .good .page); way = way side t vm (pageOf w) (rw (← e .page-is, ← e .vm-is) (e .good .may)) }
+
+-- the VM on the port, and the page that it gets to
+reached : (side : Side) (t : Tables) (r : Route) → GoodRoute side t r → (port guest : ℕ) → AccessAgreed (r .ports) (r .cache) (r .walker) port guest →
+    Reaches t (vmOn (r .ports) port) (pageOf (translate (r .cache) (r .walker) port (vmOn (r .ports) port) guest))
+reached side t r g port guest a =
+    let vm = vmOn (r .ports) port in
+    behind-reaches side t vm _ (a .vm-ok) (behind side t r g port vm guest (a .vm-ok) (a .guest-ok) (a .translates))
+
+-- ---- an operation that changes no table
+still-good : (t : Tables) → ValidTables t → (operation : Operation) (answer : Answer) (effect : Effect) → ((vm page : ℕ) → Touches effect vm page → Reaches t vm page) → ((page : ℕ) → Cleared effect page → ⊥) →
+    Good t operation (record { answer = answer; tables = t; effect = effect })
+still-good t v operation answer effect reach none =
+    record {
+      valid = v;
+      reach = reach;
+      still = λ h. refl;
+      wiped = λ vm page l b h n. absurd (true≢false (sym h ∙ n));
+      free = λ vm page l b h c. none page h;
+      edges = λ w h. inl h;
+    }
+
+-- an access to one word
+one-word : (t : Tables) (vm page : ℕ) → Reaches t vm page → (vm′ page′ : ℕ) → (vm ≡ vm′) × ((page ≡ page′) ⊎ ⊥) → Reaches t vm′ page′
+one-word t vm page r vm′ page′ h = ⊎-elim (λ e. rw (← h .0, ← e) r) (λ z. absurd z) (h .1)
+
+-- ---- each
+pub read-good : (side : Side) (t : Tables) → ValidTables t → (operation : Operation) (port guest word : ℕ) → Good t operation (readControl side t port guest word)
+unfolding readControl
+read-good side t v operation port guest word =
+    let r = route side t in
+    decided-good t v operation _ _ _
+    (λ dropped read e.
+    still-good t v operation _ _
+    (one-word t _ _ (reached side t r (route-of side t v) port guest (access-agreed (r .ports) (r .cache) (r .walker) READ port guest word e)))
+    (λ page h. h))
+
+pub write-good : (side : Side) (t : Tables) → ValidTables t → (operation : Operation) (port guest word value : ℕ) → Good t operation (writeControl side t port guest word value)
+unfolding writeControl
+write-good side t v operation port guest word value =
+    let r = route side t in
+    decided-good t v operation _ _ _
+    (λ dropped read e.
+    still-good t v operation _ _
+    (one-word t _ _ (reached side t r (route-of side t v) port guest (access-agreed (r .ports) (r .cache) (r .walker) WRITE port guest word e)))
+    (λ page h. h))
+
+pub barrier-good : (t : Tables) → ValidTables t → (operation : Operation) → Good t operation (barrierControl t)
+barrier-good t v operation = decided-good t v operation accepted t quiet (λ dropped word e. still-good t v operation accepted quiet (λ vm page h. absurd h) (λ page h. h))
