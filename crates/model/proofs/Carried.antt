@@ -1,18 +1,20 @@
 -- What is valid stays so where the known VMs, the page sets and the pairs change, as long as each entry and each pair
 -- keeps its ground.
-use Prim.Native.Nat.{ℕ}
+use Prim.Native.Nat.{ℕ, _<_}
 use mathlib.Core.Bool.{true}
 use mathlib.Core.List.{List}
 use mathlib.Core.Logic.{_⊎_}
 use mathlib.Core.Path.{_≡_, refl}
+use Rattle.numbers.specs.Limits.{VMS}
 use Rattle.numbers.specs.Packing.{filledOf, pageOf, vmOf, leftOf, rightOf, keyOf}
 use Rattle.numbers.specs.PackingLaws.{key-filled}
 use Rattle.numbers.specs.declared.Side.{Side}
+use Rattle.numbers.specs.declared.Side.the-variants.{Cpu, Dma}
 use Rattle.table.specs.Table.{Has, Distinct}
 use Rattle.table.specs.AgreeLaws.{agree-has}
 use Rattle.model.specs.State.{Route}
-use Rattle.model.specs.Views.{knows, owns, mayMap}
-use Rattle.model.specs.Valid.{PairGood, PairsGood, EntryGood, MapGood, SameMap, PortsGood, RouteGood}
+use Rattle.model.specs.Views.{knows, owns, claims, mayMap}
+use Rattle.model.specs.Valid.{PagesGood, PairGood, PairsGood, EntryGood, MapGood, SameMap, PortsGood, RouteGood}
 
 -- ---- what an entry rests on: its VM is known and may map the page
 pub record Ground (side : Side) (known : ℕ) (sets pairs : List ℕ) (w : ℕ) : Type 0 where
@@ -73,3 +75,17 @@ pairs-carried pages known known′ sets sets′ pairs g keeps = record { each = 
           right = new .right;
           owned = new .owned;
         }
+
+-- ---- the page sets rest on the known VMs alone
+pub pages-carried : (pages base count known known′ : ℕ) (sets : List ℕ) → PagesGood pages base count known sets → ((side : Side) (vm page : ℕ) → vm < VMS → page < pages → claims side sets vm page ≡ true → knows known vm ≡ true → knows known′ vm ≡ true) → PagesGood pages base count known′ sets
+pages-carried pages base count known known′ sets g keeps =
+    record {
+      inside = g .inside;
+      span = g .span;
+      some-home = g .some-home;
+      one-home = g .one-home;
+      one-dma = g .one-dma;
+      dma-home = g .dma-home;
+      cpu-known = λ vm page v l e. keeps Cpu vm page v l e (g .cpu-known vm page v l e);
+      dma-known = λ vm page v l e. keeps Dma vm page v l e (g .dma-known vm page v l e);
+    }

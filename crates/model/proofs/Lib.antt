@@ -10,6 +10,8 @@ pub mod Repeats
 pub mod StartKept
 pub mod RegionLaws
 pub mod RegionSets
+pub mod RegionKept
+pub mod RegionTables
 pub mod Worked
 pub mod ViewLaws
 pub mod Refused
@@ -20,3 +22,4 @@ pub mod OneRoute
 pub mod GoodMaps
 pub mod GoodPorts
 pub mod GoodAccess
+pub mod GoodLedger

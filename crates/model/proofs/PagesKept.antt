@@ -13,8 +13,9 @@ use Rattle.pages.specs.Rows.{holds, add, remove, poolRow, sharedRow, cpuRow, dm
 use Rattle.pages.specs.RowLaws.{holds-add-same, holds-add-other, holds-remove-same, holds-remove-other, length-remove}
 use Rattle.model.specs.Views.{knows, inPool, inShared, owns, holdsDma, claimedElsewhere}
 use Rattle.model.specs.Ledger.{assignSets, reclaimSets}
+use Rattle.model.specs.Good.{holdsPage}
 use Rattle.model.specs.Valid.{Home, pool, shared, cpu, PagesGood}
-use Rattle.model.proofs.ViewLaws.{not-elsewhere}
+use Rattle.model.proofs.ViewLaws.{either, not-elsewhere}
 
 -- ---- a page moved from one row to another
 pub record Moved (sets sets′ : List ℕ) (from to page : ℕ) : Type 0 where
@@ -269,3 +270,28 @@ module _ (pages base count known : ℕ) (sets : List ℕ) (vm page : ℕ) (most 
 
         there : (vm′ page′ : ℕ) → vm′ < VMS → page′ < pages → (page′ ≡ page → ⊥) → holdsDma (add sets (dmaRow vm) page) vm′ page′ ≡ true → DmaGood known sets (add sets (dmaRow vm) page) vm′ page′
         there vm′ page′ v′ l d e = dma-stays pages base count known sets (add sets (dmaRow vm) page) vm′ page′ v′ l g (λ vm″ s. sym (unchanged vm″ page′ l (λ q. d)) ∙ s) e
+
+-- ---- a page is held by one VM, for CPU, for DMA or for both
+module _ (pages base count known : ℕ) (sets : List ℕ) (g : PagesGood pages base count known sets) (vm vm′ page : ℕ) (v : vm < VMS) (v′ : vm′ < VMS) (l : page < pages) where
+  owner-holder : owns sets vm page ≡ true → holdsDma sets vm′ page ≡ true → vm ≡ vm′
+  owner-holder o d = ⊎-elim owned free (g .dma-home vm′ page v′ l d)
+    where
+      owned : owns sets vm′ page ≡ true → vm ≡ vm′
+      owned o′ = let q = g .one-home (cpuRow vm) (cpuRow vm′) page (cpu vm v) (cpu vm′ v′) l o o′ in omega arith
+
+      free : inPool sets page ≡ true → vm ≡ vm′
+      free p = let q = g .one-home (cpuRow vm) poolRow page (cpu vm v) pool l o p in absurd (omega arith)
+
+pub one-holder : (pages base count known : ℕ) (sets : List ℕ) → PagesGood pages base count known sets → (vm vm′ page : ℕ) → vm < VMS → vm′ < VMS → page < pages → holdsPage sets vm page ≡ true → holdsPage sets vm′ page ≡ true → vm ≡ vm′
+one-holder pages base count known sets g vm vm′ page v v′ l e e′ = ⊎-elim owned held (either (owns sets vm page) (holdsDma sets vm page) e)
+  where
+    other : (owns sets vm′ page ≡ true) ⊎ (holdsDma sets vm′ page ≡ true)
+    other = either (owns sets vm′ page) (holdsDma sets vm′ page) e′
+
+    owned : owns sets vm page ≡ true → vm ≡ vm′
+    owned o =
+        ⊎-elim (λ o′. let q = g .one-home (cpuRow vm) (cpuRow vm′) page (cpu vm v) (cpu vm′ v′) l o o′ in omega arith)
+        (owner-holder pages base count known sets g vm vm′ page v v′ l o) other
+
+    held : holdsDma sets vm page ≡ true → vm ≡ vm′
+    held d = ⊎-elim (λ o′. sym (owner-holder pages base count known sets g vm′ vm page v′ v l o′ d)) (g .one-dma vm vm′ page v v′ l d) other

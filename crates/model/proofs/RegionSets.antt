@@ -2,7 +2,7 @@
 use Prim.Native.Nat.{ℕ, suc, _+_, _*_, _≤_, _<_}
 use mathlib.Core.Bool.{Bool, true, false, _||_}
 use mathlib.Core.List.{List}
-use mathlib.Core.Logic.{⊎-elim}
+use mathlib.Core.Logic.{_⊎_, inl, inr, ⊎-elim}
 use mathlib.Core.Path.{_≡_, refl, sym, _∙_}
 use native.Mathlib.Omega.{arith}
 use lib.ListN.{length}
@@ -16,7 +16,7 @@ use Rattle.pages.specs.BitLaws.{below-or}
 use Rattle.pages.specs.Rows.{holds, poolRow, sharedRow, cpuRow, dmaRow}
 use Rattle.pages.specs.RowLaws.{holds-add-same, holds-add-other, holds-remove-same, holds-remove-other, length-remove, length-add}
 use Rattle.units.specs.declared.Region.{Region}
-use Rattle.model.specs.Views.{claims, claimedElsewhere, inPool, inShared}
+use Rattle.model.specs.Views.{claims, otherSide, claimedElsewhere, inPool, inShared}
 use Rattle.model.specs.Regions.{pageIn, notFree, claimed, notHeld, insertPage, removePage, insertSets, removeSets}
 use Rattle.model.specs.ShapeLaws.{length-assign, length-reclaim}
 use Rattle.model.specs.EarlyLaws.{RegionPassed}
@@ -57,6 +57,41 @@ module _ (side : Side) (vm : ℕ) (now : Bool) (first : ℕ) (sets : List ℕ) w
           ⊎-elim (λ c. q .outside side vm page (omega arith) (λ e f g. absurd (omega arith)) ∙ r .inside page l c)
           (λ c. q .inside page (omega arith) (omega arith))
           (below-or page (first + k))
+
+-- ---- a claim is one of those that changed, or as it was
+pub record Changed (side : Side) (vm first count : ℕ) (s : Side) (other page : ℕ) : Type 0 where
+  pub of-side : s ≡ side
+  pub of-vm : other ≡ vm
+  pub low : first ≤ page
+  pub high : page < first + count
+
+side-differs : {X : Type 0} → Cpu ≡ Dma → X
+side-differs e = absurd (let z : _≡_ {A = ℕ} 0 1 = cc in omega arith)
+
+same-side : (s side : Side) → (s ≡ side) ⊎ (s ≡ side → ⊥)
+same-side Cpu Cpu = inl refl
+same-side Cpu Dma = inr side-differs
+same-side Dma Cpu = inr (λ e. side-differs (sym e))
+same-side Dma Dma = inl refl
+
+pub other-differs : (side : Side) → otherSide side ≡ side → ⊥
+other-differs Cpu e = side-differs (sym e)
+other-differs Dma e = side-differs e
+
+span-or : (first count page : ℕ) → ((first ≤ page) × (page < first + count)) ⊎ Outside first count page
+span-or first count page =
+    ⊎-elim (λ l. inr (λ g. absurd (omega arith))) (λ g. ⊎-elim (λ h. inl (g, h)) (λ h. inr (λ l. h)) (below-or page (first + count))) (below-or page first)
+
+pub changed-or : (side : Side) (vm : ℕ) (now : Bool) (first count : ℕ) (sets sets′ : List ℕ) → Edited side vm now first count sets sets′ → (s : Side) (other page : ℕ) → page < PAGES →
+    Changed side vm first count s other page ⊎ (claims s sets′ other page ≡ claims s sets other page)
+changed-or side vm now first count sets sets′ r s other page h =
+    ⊎-elim (λ a. ⊎-elim (here a) (λ n. same (λ e f. absurd (n f))) (equal other vm)) (λ n. same (λ e. absurd (n e))) (same-side s side)
+  where
+    same : (s ≡ side → other ≡ vm → Outside first count page) → Changed side vm first count s other page ⊎ (claims s sets′ other page ≡ claims s sets other page)
+    same n = inr (r .outside s other page h n)
+
+    here : s ≡ side → other ≡ vm → Changed side vm first count s other page ⊎ (claims s sets′ other page ≡ claims s sets other page)
+    here a b = ⊎-elim (λ c. inl (record { of-side = a; of-vm = b; low = c .0; high = c .1 })) (λ o. same (λ e f. o)) (span-or first count page)
 
 -- ---- one page
 abbrev sideRow : Side → ℕ → ℕ

@@ -160,3 +160,9 @@ module _ (left right page : ℕ) (l : left < 256) (r : right < 65536) (p : page 
 -- the order of the ends does not matter
 pub pair-either : (left right page : ℕ) → pairKey left right page ≡ pairKey right left page
 pair-either left right page = omega arith
+
+-- a pair's key says its page, and its ends but for their order
+pub pair-same : (left right page left′ right′ page′ : ℕ) → left < 65536 → right < 65536 → page < 4096 → left′ < 65536 → right′ < 65536 → page′ < 4096 → pairKey left right page ≡ pairKey left′ right′ page′ → (page ≡ page′) × (min left right ≡ min left′ right′) × (max left right ≡ max left′ right′)
+pair-same left right page left′ right′ page′ l r p l′ r′ p′ e =
+    let a : (min left right * 65536 + max left right) * 4096 + page ≡ (min left′ right′ * 65536 + max left′ right′) * 4096 + page′ = omega arith in
+    (omega arith, omega arith, omega arith)

@@ -1,0 +1,142 @@
+-- The maps and the cache that inserting and removing a region leave.
+use Prim.Native.Nat.{ℕ, suc, _+_, _-_, _≤_, _<_}
+use mathlib.Core.Bool.{Bool, true, false, not, true≢false}
+use mathlib.Core.List.{List}
+use mathlib.Core.Logic.{⊎-elim}
+use mathlib.Core.Path.{_≡_, refl, sym, ap, _∙_}
+use native.Mathlib.Omega.{arith}
+use borrow.Author.Tests.{eq-eqb, ne-eqb, le-leb, lt-ltb}
+use lib.Dec.{eqb}
+use lib.ListN.{length}
+use Rattle.numbers.specs.Limits.{PAGES, GUEST-PAGES, ENTRIES}
+use Rattle.numbers.specs.Packing.{entry, mapWord, key, keyOf, vmOf, guestOf, filledOf, pageOf, portOf, entryOf}
+use Rattle.numbers.specs.PackingLaws.{entry-fits, entry-filled, entry-page, word-port, word-vm, word-guest, word-filled, word-page, word-key, key-same, key-whole}
+use Rattle.numbers.specs.declared.Side.{Side}
+use Rattle.numbers.specs.declared.Side.the-variants.{Cpu, Dma}
+use Rattle.table.specs.Scan.{wipe}
+use Rattle.table.specs.ScanLaws.{equal, length-wipe, has-wipe-inv}
+use Rattle.table.specs.Table.{Has, isFound, wordAt, freeEntries, find, lookup, put}
+use Rattle.table.specs.TableLaws.{lookup-nothing, lookup-put-other, place-room, free-put-new, length-put}
+use Rattle.table.specs.declared.Found.{Found}
+use Rattle.table.specs.declared.Found.the-variants.{At, Nothing}
+use Rattle.units.specs.declared.Region.{Region}
+use Rattle.model.specs.State.{Route}
+use Rattle.model.specs.Views.{knows, claims, targeted, butKey}
+use Rattle.model.specs.EarlyLaws.{RegionPassed}
+use Rattle.model.specs.Regions.{guestIn, pageIn, keyIn, regionEntry, inRegion, present, insertTable, removeTable}
+use Rattle.model.specs.Valid.{RouteLengths, EntryGood, MapGood, SameMap, CacheGood, RouteGood}
+use Rattle.model.specs.Step.{insertRoute, removeRoute}
+use Rattle.model.proofs.ViewLaws.{may-own, not-targeted}
+use Rattle.model.proofs.RoutesKept.{MapsGood, entry-key, entry-made, maps-put, maps-wipe, cache-put-new, cache-wipe-both, region-unported}
+use Rattle.model.proofs.Repeats.{repeat-both}
+use Rattle.model.proofs.RegionLaws.{NoneFails}
+
+-- a key that is not found looks up as empty
+missing : (ws : List ℕ) (k : ℕ) → isFound (find keyOf ws k) ≡ false → lookup keyOf ws k ≡ 0
+unfolding lookup
+missing ws k e = go (find keyOf ws k) e
+  where
+    go : (f : Found) → isFound f ≡ false → wordAt ws f ≡ 0
+    go (At i) e = absurd (true≢false e)
+    go Nothing e = refl
+
+-- ---- insert: the first k entries are in, and the places for the others are kept
+record Filling (side : Side) (pages known : ℕ) (sets pairs cache : List ℕ) (region : Region) (k : ℕ) (map walker : List ℕ) : Type 0 where
+  maps : MapsGood side pages known sets pairs map walker
+  slots : CacheGood walker cache
+  long : length map ≡ ENTRIES
+  room : region .count ≤ freeEntries map + k
+  absent : (j : ℕ) → k ≤ j → j < region .count → lookup keyOf map (keyIn region j) ≡ 0
+
+abbrev fillIn : Region → ℕ → List ℕ → List ℕ
+fillIn region k ws = put keyOf ws (keyIn region k) (regionEntry region k)
+
+module _ (side : Side) (pages known : ℕ) (sets pairs cache : List ℕ) (region : Region) (most : pages ≤ PAGES) (early : RegionPassed known pages region)
+    (held : (k : ℕ) → k < region .count → claims side sets (region .vm .0) (pageIn region k) ≡ true) where
+  module _ (k : ℕ) (h : k < region .count) where
+    fits : pageIn region k < pages
+    fits = omega (arith, early .page-ok)
+
+    guest-fits : guestIn region k < GUEST-PAGES
+    guest-fits = omega (arith, early .guest-ok)
+
+    made-key : keyOf (regionEntry region k) ≡ keyIn region k
+    made-key = entry-key (region .vm .0) (guestIn region k) (pageIn region k) (region .access) 0 (early .vm-ok) guest-fits (omega (arith, fits)) (early .access-ok) (omega arith)
+
+    made : EntryGood side pages known sets pairs (regionEntry region k)
+    made =
+        entry-made (region .vm .0) (guestIn region k) (pageIn region k) (region .access) 0 (early .vm-ok) guest-fits (omega (arith, fits)) (early .access-ok) (omega arith) side pages known sets pairs fits (early .knows-vm)
+        (may-own side sets pairs (region .vm .0) (pageIn region k) (held k h))
+
+  -- the keys of two pages of the region differ
+  keys-differ : (k j : ℕ) → k < j → j < region .count → keyIn region k ≡ keyIn region j → ⊥
+  keys-differ k j l h e =
+      let q = key-same (region .vm .0) (guestIn region k) (region .vm .0) (guestIn region j) (omega (arith, early .guest-ok)) (omega (arith, early .guest-ok)) e in
+      omega (arith, q .1)
+
+  fill-next : (k : ℕ) (map walker : List ℕ) → k < region .count → Filling side pages known sets pairs cache region k map walker → Filling side pages known sets pairs cache region (suc k) (fillIn region k map) (fillIn region k walker)
+  unfolding SameMap
+  fill-next k map walker h r =
+      let z : 0 < keyIn region k = omega arith in
+      let lacks = r .absent k (omega arith) h in
+      let none = lookup-nothing keyOf refl map (keyIn region k) z lacks in
+      let some : 0 < freeEntries map = omega (arith, r .room) in
+      let (i, p) = place-room keyOf map (keyIn region k) (λ e. some) in
+      let n : regionEntry region k ≡ 0 → ⊥ = λ e. omega arith in
+      record {
+        maps = maps-put side pages known sets pairs map walker (r .maps) (keyIn region k) (regionEntry region k) i (made k h) (made-key k h) p;
+        slots = cache-put-new walker cache (r .slots) (keyIn region k) (regionEntry region k) (made-key k h) (sym (r .maps .same (keyIn region k) z) ∙ lacks);
+        long = length-put keyOf map (keyIn region k) (regionEntry region k) ∙ r .long;
+        room = omega (arith, r .room, free-put-new keyOf map (keyIn region k) (regionEntry region k) none some n);
+        absent = λ j l b. lookup-put-other keyOf refl map (keyIn region k) (regionEntry region k) (keyIn region j) (made-key k h) (omega arith) (keys-differ k j l b) ∙ r .absent j (omega arith) b;
+      }
+
+  filled : (map walker : List ℕ) → Filling side pages known sets pairs cache region 0 map walker → Filling side pages known sets pairs cache region (region .count) (insertTable map region) (insertTable walker region)
+  unfolding insertTable
+  filled map walker r = repeat-both (fillIn region) (Filling side pages known sets pairs cache region) (region .count) fill-next map walker r
+
+pub insert-route : (side : Side) (pages known : ℕ) (sets pairs : List ℕ) (region : Region) → pages ≤ PAGES → RegionPassed known pages region → ((k : ℕ) → k < region .count → claims side sets (region .vm .0) (pageIn region k) ≡ true) →
+    (r : Route) → RouteLengths r → RouteGood side pages known sets pairs r → NoneFails (present (r .map) region) region → region .count ≤ freeEntries (r .map) →
+    RouteGood side pages known sets pairs (insertRoute r region) × RouteLengths (insertRoute r region)
+insert-route side pages known sets pairs region most early held r l g absent room =
+    let maps : MapsGood side pages known sets pairs (r .map) (r .walker) = record { map = g .map; walker = g .walker; same = g .same; as-long = l .walker ∙ sym (l .map) } in
+    let done =
+    filled side pages known sets pairs (r .cache) region most early held (r .map) (r .walker)
+    (record { maps = maps; slots = g .cache; long = l .map; room = omega arith; absent = λ j a h. missing (r .map) (keyIn region j) (absent j h) }) in
+    let m = done .maps in
+    (record { map = m .map; walker = m .walker; same = m .same; cache = done .slots; ports = g .ports; hand = g .hand }, record { map = done .long; walker = m .as-long ∙ done .long; cache = l .cache; ports = l .ports })
+
+-- ---- remove
+-- a word of one of the region's keys is one that goes
+in-region : (region : Region) (k w : ℕ) → region .vm .0 < 256 → guestIn region k < 65536 → k < region .count → keyOf w ≡ keyIn region k → inRegion region w ≡ true
+in-region region k w v g h e =
+    let whole : mapWord (region .vm .0) (guestIn region k) (entryOf w) ≡ w = key-whole 0 (region .vm .0) (guestIn region k) w (omega arith) in
+    let l : entryOf w < 4294967296 = omega arith in
+    let vm : vmOf w ≡ region .vm .0 = sym (ap vmOf whole) ∙ word-vm 0 (region .vm .0) (guestIn region k) (entryOf w) v g l in
+    let guest : guestOf w ≡ guestIn region k = sym (ap guestOf whole) ∙ word-guest 0 (region .vm .0) (guestIn region k) (entryOf w) v g l in
+    let f : filledOf w ≡ 1 = omega arith in
+    rw (eq-eqb (filledOf w) 1 f, eq-eqb (vmOf w) (region .vm .0) vm, le-leb (region .guest .0) (guestOf w) (omega arith))
+    (lt-ltb (guestOf w) (region .guest .0 + region .count) (omega arith))
+
+-- no entry that stays targets a page of the region, where none but the region's own did
+pub none-stays : (known pages : ℕ) (region : Region) → RegionPassed known pages region → (map : List ℕ) → ((k : ℕ) → k < region .count → targeted (butKey (keyIn region k)) map (pageIn region k) ≡ false) →
+    (w : ℕ) → Has (removeTable map region) w → filledOf w ≡ 1 → region .page .0 ≤ pageOf w → pageOf w < region .page .0 + region .count → ⊥
+unfolding removeTable
+none-stays known pages region early map unused w h f low high =
+    let k = pageOf w - region .page .0 in
+    let b : k < region .count = omega arith in
+    let (r, out) = has-wipe-inv (inRegion region) map w h in
+    ⊎-elim (λ e. true≢false (sym (in-region region k w (omega (arith, early .vm-ok)) (omega (arith, early .guest-ok)) b e) ∙ out))
+    (λ n. not-targeted (butKey (keyIn region k)) map (pageIn region k) w (unused k b) r (rw (ne-eqb (keyOf w) (keyIn region k) n)) f (omega arith))
+    (equal (keyOf w) (keyIn region k))
+
+pub remove-route : (side : Side) (pages known : ℕ) (sets pairs : List ℕ) (region : Region) (r : Route) → RouteLengths r → RouteGood side pages known sets pairs r →
+    RouteGood side pages known sets pairs (removeRoute r region) × RouteLengths (removeRoute r region)
+unfolding removeTable
+remove-route side pages known sets pairs region r l g =
+    let p = inRegion region in
+    let maps : MapsGood side pages known sets pairs (r .map) (r .walker) = record { map = g .map; walker = g .walker; same = g .same; as-long = l .walker ∙ sym (l .map) } in
+    let m = maps-wipe side pages known sets pairs (r .map) (r .walker) maps p in (
+      record { map = m .map; walker = m .walker; same = m .same; cache = cache-wipe-both (r .walker) (r .cache) (g .cache) p p (region-unported region) (g .walker .once); ports = g .ports; hand = g .hand },
+      record { map = length-wipe p (r .map) ∙ l .map; walker = length-wipe p (r .walker) ∙ l .walker; cache = length-wipe p (r .cache) ∙ l .cache; ports = l .ports },
+    )
