@@ -28,13 +28,13 @@ use Rattle.model.proofs.OneRoute.{GoodRoute, route-of, maps-of, maps-ro
 
 -- ---- map
 -- what an accepted map tells
-record MapAgreed (side : Side) (known pages : ℕ) (sets pairs map : List ℕ) (vm guest page access generation : ℕ) : Type 0 where
-  early : MapPassed known pages vm guest page access generation
-  may : mayMap side sets pairs vm page ≡ true
-  spot : ℕ
-  placed : place keyOf map (key vm guest) ≡ At spot
+pub record MapAgreed (side : Side) (known pages : ℕ) (sets pairs map : List ℕ) (vm guest page access generation : ℕ) : Type 0 where
+  pub early : MapPassed known pages vm guest page access generation
+  pub may : mayMap side sets pairs vm page ≡ true
+  pub spot : ℕ
+  pub placed : place keyOf map (key vm guest) ≡ At spot
 
-map-agreed : (side : Side) (known pages : ℕ) (sets pairs map cache : List ℕ) (vm guest page access generation : ℕ) {dropped word : ℕ} →
+pub map-agreed : (side : Side) (known pages : ℕ) (sets pairs map cache : List ℕ) (vm guest page access generation : ℕ) {dropped word : ℕ} →
     mapAnswer side known pages sets pairs map cache vm guest page access generation ≡ Accepted dropped word → MapAgreed side known pages sets pairs map vm guest page access generation
 unfolding mapAnswer
 map-agreed side known pages sets pairs map cache vm guest page access generation e =
@@ -49,7 +49,7 @@ unfolding mapTable withoutSlots erase
 map-same r vm guest page access generation =
     record { map = length-put keyOf (r .map) _ _; walker = length-put keyOf (r .walker) _ _; cache = length-wipe (hasKey addressOf (key vm guest)) (r .cache); ports = refl }
 
-map-kept : (side : Side) (t : Tables) → ValidTables t → (vm guest page access generation : ℕ) →
+pub map-kept : (side : Side) (t : Tables) → ValidTables t → (vm guest page access generation : ℕ) →
     MapAgreed side (t .known) (t .setup .pages) (t .sets) (t .pairs) (route side t .map) vm guest page access generation → GoodRoute side t (mapRoute (route side t) vm guest page access generation)
 unfolding mapTable withoutSlots
 map-kept side t v vm guest page access generation a =

@@ -37,11 +37,11 @@ target-good known Idle e = inl refl
 target-good known (Vm vm) e = inr e
 
 -- what an accepted switch or binding tells
-record PortAgreed (known port : ℕ) (target : Target) : Type 0 where
-  port-ok : port < PORTS
-  target-ok : (targetNumber target ≡ IDLE) ⊎ (knows known (targetNumber target) ≡ true)
+pub record PortAgreed (known port : ℕ) (target : Target) : Type 0 where
+  pub port-ok : port < PORTS
+  pub target-ok : (targetNumber target ≡ IDLE) ⊎ (knows known (targetNumber target) ≡ true)
 
-port-agreed : (known port : ℕ) (target : Target) {dropped word : ℕ} → portAnswer known port target ≡ Accepted dropped word → PortAgreed known port target
+pub port-agreed : (known port : ℕ) (target : Target) {dropped word : ℕ} → portAnswer known port target ≡ Accepted dropped word → PortAgreed known port target
 unfolding portAnswer
 port-agreed known port target e =
     let (a, b) = past (not (isPort port && isTarget target)) _ _ _ e in
@@ -63,13 +63,13 @@ port-good side t v operation port target =
     (port-kept side t v port target (port-agreed (t .known) port target e)))
 
 -- ---- a slot filled
-record FillAgreed (ports walker : List ℕ) (port guest : ℕ) : Type 0 where
-  port-ok : port < PORTS
-  guest-ok : guest < GUEST-PAGES
-  vm-ok : vmOn ports port < VMS
-  walks : lookup keyOf walker (key (vmOn ports port) guest) ≡ 0 → ⊥
+pub record FillAgreed (ports walker : List ℕ) (port guest : ℕ) : Type 0 where
+  pub port-ok : port < PORTS
+  pub guest-ok : guest < GUEST-PAGES
+  pub vm-ok : vmOn ports port < VMS
+  pub walks : lookup keyOf walker (key (vmOn ports port) guest) ≡ 0 → ⊥
 
-fill-agreed : (ports walker : List ℕ) (port guest : ℕ) {dropped word : ℕ} → fillAnswer ports walker port guest ≡ Accepted dropped word → FillAgreed ports walker port guest
+pub fill-agreed : (ports walker : List ℕ) (port guest : ℕ) {dropped word : ℕ} → fillAnswer ports walker port guest ≡ Accepted dropped word → FillAgreed ports walker port guest
 unfolding fillAnswer
 fill-agreed ports walker port guest e =
     let (a, b) = past (not (isPort port && isGuest guest)) _ _ _ e in

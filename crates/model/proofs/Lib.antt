@@ -5,6 +5,8 @@ pub mod UpstreamWf
 pub mod UpstreamFollows
 pub mod UpstreamMemory
 pub mod UpstreamLedger
+pub mod UpstreamRoutes
+pub mod UpstreamMaps
 pub mod Rows
 pub mod Repeats
 pub mod StartKept

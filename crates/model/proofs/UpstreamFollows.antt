@@ -1,14 +1,14 @@
 -- A view is equal to itself; a refused operation takes no step; and which edits of our tables a view does not see.
 use Prim.Native.Nat.{ℕ}
-use mathlib.Core.List.{List, []}
+use mathlib.Core.List.{List, [], _∷_}
 use mathlib.Core.Path.{_≡_, refl}
 use Rattle.numbers.specs.declared.Answer.{Answer}
 use Rattle.numbers.specs.declared.Answer.the-variants.{Accepted, Refused}
-use Rattle.model.specs.State.{Tables, State}
+use Rattle.model.specs.State.{Tables, Setup, State}
 use Rattle.model.specs.Effect.{Effect, kept, decided, apply, clearedPages}
 use Rattle.model.specs.Step.{carriedOut}
 use Rattle.model.specs.Upstream.{PageSets, SameSets, SoftwareView, HardwareView, SameSoftware, SameHardware}
-use Rattle.model.specs.UpstreamRun.{SoftwareCall, HardwareCall, Follows, stop}
+use Rattle.model.specs.UpstreamRun.{SoftwareCall, HardwareCall, SoftwareStep, HardwareStep, SoftwareRun, HardwareRun, stop, go, Follows}
 
 pub same-sets : (a : PageSets) → SameSets a a
 same-sets a = record { vms = λ vm v. refl; pages = λ vm page v h e. refl }
@@ -36,6 +36,13 @@ same-hardware h =
       memory = λ address. refl;
       active-vm = λ cpu c. refl;
     }
+
+-- runs of one step
+pub software-once : {setup : Setup} {call : SoftwareCall} {a b : SoftwareView} → SoftwareStep setup call a b → SoftwareRun setup (call ∷ []) a b
+software-once x = go x (stop (same-software _))
+
+pub hardware-once : {call : HardwareCall} {a b : HardwareView} → HardwareStep call a b → HardwareRun (call ∷ []) a b
+hardware-once x = go x (stop (same-hardware _))
 
 -- what an accepted operation leaves is all that is asked for
 pub decided-follows : (s : State) (answer : Answer) (new : Tables) (effect : Effect) (software : List SoftwareCall) (hardware : List HardwareCall) →

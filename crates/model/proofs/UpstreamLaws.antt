@@ -13,7 +13,7 @@ use lib.Pow.{pow-mono}
 use borrow.Author.Tests.{eqb-true, eqb-false, eq-eqb, ne-eqb, ltb-true, ltb-false, not-true}
 use Rattle.numbers.specs.Limits.{VMS, GUEST-PAGES, PAGES}
 use Rattle.numbers.specs.Packing.{key, keyOf, slotKey, addressOf, pairKey, pairKeyOf, portOf, vmOf, guestOf, entryOf, filledOf, leftOf, rightOf, pageOf, accessOf, generationOf}
-use Rattle.numbers.specs.PackingLaws.{pair-either}
+use Rattle.numbers.specs.PackingLaws.{pair-either, key-same}
 use Rattle.table.specs.ScanLaws.{cases, equal, found-never}
 use Rattle.table.specs.Table.{find, lookup, place, put, erase, isFound, wordAt, Has}
 use Rattle.table.specs.TableLaws.{find-none, lookup-has, lookup-nothing, lookup-put-same, lookup-put-other, lookup-erase-same, lookup-erase-other}
@@ -176,3 +176,47 @@ edge-key left right page l r p a b c a′ b′ c′ = ⊎-elim same other (equal
         ⊎-elim (λ e. let q = edge-parts left right page l r p e in n (rw (q .0, q .1, q .2)))
         (λ e. let q = edge-parts right left page l r p e in n (rw (q .0, q .1, q .2) (pair-either left right page)))
         (either _ _ t)))
+
+-- ---- keys compared
+-- a map's two keys are one where VM and guest page are; a slot's where the port is too
+pub key-test : (vm gpa v g : ℕ) → gpa < GUEST-PAGES → g < GUEST-PAGES → (eqb v vm && eqb g gpa) ≡ eqb (key vm gpa) (key v g)
+key-test vm gpa v g h h′ = ⊎-elim same other (equal (key vm gpa) (key v g))
+  where
+    goal : Type 0
+    goal = (eqb v vm && eqb g gpa) ≡ eqb (key vm gpa) (key v g)
+
+    same : key vm gpa ≡ key v g → goal
+    same e = let q = key-same vm gpa v g h h′ e in rw (eq-eqb (key vm gpa) (key v g) e, eq-eqb v vm (sym (q .0)), eq-eqb g gpa (sym (q .1)))
+
+    other : (key vm gpa ≡ key v g → ⊥) → goal
+    other n =
+        rw (ne-eqb (key vm gpa) (key v g) n)
+        (not-so _ (λ t. let q = both (eqb v vm) (eqb g gpa) t in n (rw (eqb-true v vm (q .0), eqb-true g gpa (q .1)))))
+
+pub slot-key-test : (port vm gpa p v g : ℕ) → vm < VMS → v < VMS → gpa < GUEST-PAGES → g < GUEST-PAGES → (eqb p port && (eqb v vm && eqb g gpa)) ≡ eqb (slotKey port vm gpa) (slotKey p v g)
+slot-key-test port vm gpa p v g l l′ h h′ = ⊎-elim same other (equal (slotKey port vm gpa) (slotKey p v g))
+  where
+    goal : Type 0
+    goal = (eqb p port && (eqb v vm && eqb g gpa)) ≡ eqb (slotKey port vm gpa) (slotKey p v g)
+
+    same : slotKey port vm gpa ≡ slotKey p v g → goal
+    same e =
+        let q = slot-key-same port vm gpa p v g l l′ h h′ e in
+        rw (eq-eqb (slotKey port vm gpa) (slotKey p v g) e, eq-eqb p port (sym (q .0)), eq-eqb v vm (sym (q .1)), eq-eqb g gpa (sym (q .2)))
+
+    other : (slotKey port vm gpa ≡ slotKey p v g → ⊥) → goal
+    other n =
+        rw (ne-eqb (slotKey port vm gpa) (slotKey p v g) n)
+        (not-so _
+        (λ t.
+        let a = both (eqb p port) (eqb v vm && eqb g gpa) t in
+        let q = both (eqb v vm) (eqb g gpa) (a .1) in
+        n (rw (eqb-true p port (a .0), eqb-true v vm (q .0), eqb-true g gpa (q .1)))))
+
+-- a map shows a key where a search finds it
+pub map-found : (table : List ℕ) (vm gpa : ℕ) → isSome (mapSeen table vm gpa) ≡ isFound (find keyOf table (key vm gpa))
+map-found table vm gpa = seen-filled _ ∙ sym (found-looked keyOf refl table (key vm gpa) (omega arith))
+
+pub not-some : (o : Option S2Entry) → isSome o ≡ false → o ≡ none
+not-some none e = refl
+not-some (some x) e = absurd (true≢false e)
