@@ -7,6 +7,7 @@ pub mod UpstreamMemory
 pub mod UpstreamLedger
 pub mod UpstreamRoutes
 pub mod UpstreamMaps
+pub mod UpstreamPorts
 pub mod Rows
 pub mod Repeats
 pub mod StartKept

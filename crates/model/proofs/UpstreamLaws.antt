@@ -93,8 +93,16 @@ of-slot-key w port vm gpa v g e =
 pub of-key : (w vm gpa : ℕ) → vm < VMS → gpa < GUEST-PAGES → keyOf w ≡ key vm gpa → OfKey w 0 vm gpa
 of-key w vm gpa v g e = of-slot-key w 0 vm gpa v g (e ∙ omega arith)
 
+-- a filled word's key is made of its parts
+pub key-parts : (w : ℕ) → filledOf w ≡ 1 → keyOf w ≡ slotKey (portOf w) (vmOf w) (guestOf w)
+key-parts w f =
+    let a : w / 2147483648 / 2 ≡ w / 4294967296 = omega arith in
+    let b : w / 4294967296 / 65536 ≡ w / 281474976710656 = omega arith in
+    let c : w / 281474976710656 / 256 ≡ portOf w = omega arith in
+    omega arith
+
 -- two slot keys are one where their three parts are
-pub slot-key-same : (port vm gpa port′ vm′ gpa′ : ℕ) → vm < VMS → vm′ < VMS → gpa < GUEST-PAGES → gpa′ < GUEST-PAGES → slotKey port vm gpa ≡ slotKey port′ vm′ gpa′ → (port ≡ port′) × (vm ≡ vm′) × (gpa ≡ gpa′)
+pub slot-key-same : (port vm gpa port′ vm′ gpa′ : ℕ) → vm < 256 → vm′ < 256 → gpa < GUEST-PAGES → gpa′ < GUEST-PAGES → slotKey port vm gpa ≡ slotKey port′ vm′ gpa′ → (port ≡ port′) × (vm ≡ vm′) × (gpa ≡ gpa′)
 slot-key-same port vm gpa port′ vm′ gpa′ v v′ g g′ e =
     let a : (port * 256 + vm) * 65536 + gpa ≡ (port′ * 256 + vm′) * 65536 + gpa′ = omega arith in
     let b : port * 256 + vm ≡ port′ * 256 + vm′ = omega arith in
@@ -193,7 +201,7 @@ key-test vm gpa v g h h′ = ⊎-elim same other (equal (key vm gpa) (key v g))
         rw (ne-eqb (key vm gpa) (key v g) n)
         (not-so _ (λ t. let q = both (eqb v vm) (eqb g gpa) t in n (rw (eqb-true v vm (q .0), eqb-true g gpa (q .1)))))
 
-pub slot-key-test : (port vm gpa p v g : ℕ) → vm < VMS → v < VMS → gpa < GUEST-PAGES → g < GUEST-PAGES → (eqb p port && (eqb v vm && eqb g gpa)) ≡ eqb (slotKey port vm gpa) (slotKey p v g)
+pub slot-key-test : (port vm gpa p v g : ℕ) → vm < 256 → v < 256 → gpa < GUEST-PAGES → g < GUEST-PAGES → (eqb p port && (eqb v vm && eqb g gpa)) ≡ eqb (slotKey port vm gpa) (slotKey p v g)
 slot-key-test port vm gpa p v g l l′ h h′ = ⊎-elim same other (equal (slotKey port vm gpa) (slotKey p v g))
   where
     goal : Type 0
