@@ -8,6 +8,7 @@ pub mod UpstreamLedger
 pub mod UpstreamRoutes
 pub mod UpstreamMaps
 pub mod UpstreamPorts
+pub mod UpstreamAccess
 pub mod Rows
 pub mod Repeats
 pub mod StartKept

@@ -7,16 +7,18 @@ use mathlib.Core.Option.{none, some}
 use mathlib.Core.Path.{_≡_, refl, sym, ap, _∙_}
 use native.Mathlib.Omega.{arith}
 use lib.Dec.{eqb, ltb}
-use lib.ListN.{length, getD}
-use borrow.Author.Tests.{eqb-true, eqb-false}
+use lib.ListN.{length, getD, set, length-set}
+use lib.Seq.{getD-set-same, getD-set-other}
+use borrow.Author.Tests.{eqb-true, eqb-false, eq-eqb, ne-eqb, lt-ltb}
 use Rattle.numbers.specs.Choice.{if_then_else_}
 use Rattle.numbers.specs.Limits.{PAGE-WORDS}
-use Rattle.table.specs.ScanLaws.{cases}
+use Rattle.table.specs.ScanLaws.{cases, equal}
 use Rattle.pages.specs.BitLaws.{below-or}
 use Rattle.model.specs.State.{Tables}
 use Rattle.model.specs.Effect.{memoryIndex, zeroed, clearPage, clearedPages}
 use Rattle.model.specs.MemoryLaws.{length-zeroed, zeroed-inside, zeroed-before, zeroed-behind}
-use Rattle.model.specs.Upstream.{wordSeen, hardwareView}
+use Rattle.model.specs.Upstream.{isSome, wordSeen, hardwareView}
+use Rattle.model.specs.UpstreamStep.{answerAt}
 use Rattle.model.specs.UpstreamRun.{clearedAt, ClearStep, clearCalls, HardwareRun, stop, go}
 use Rattle.model.proofs.UpstreamFollows.{same-hardware}
 
@@ -66,3 +68,14 @@ clear-run t (page ∷ pages) memory = go (one page) (clear-run t pages (clearPag
           memory = λ address. clear-seen memory page address;
           active-vm = λ cpu c. refl;
         }
+
+-- ---- a word
+pub word-backed : (memory : List ℕ) (address : ℕ) → address < length memory → isSome (wordSeen memory address) ≡ true
+unfolding wordSeen
+word-backed memory address h = rw (lt-ltb address (length memory) h)
+
+pub write-seen : (memory : List ℕ) (at value : ℕ) → at < length memory → (address : ℕ) → wordSeen (set memory at value) address ≡ answerAt (wordSeen memory) at (some value) address
+unfolding wordSeen
+write-seen memory at value h address =
+    rw (length-set memory at value)
+    (⊎-elim (λ q. rw (eq-eqb address at q) (rw (q, lt-ltb at (length memory) h, getD-set-same memory at value 0 h))) (λ d. rw (ne-eqb address at d, getD-set-other memory at address value 0 d)) (equal address at))
