@@ -3,8 +3,8 @@
 use Prim.Native.Nat.{ℕ, _<_}
 use mathlib.Core.Bool.{true}
 use mathlib.Core.List.{List}
-use mathlib.Core.Logic.{_⊎_}
-use mathlib.Core.Path.{_≡_, refl}
+use mathlib.Core.Logic.{_⊎_, ⊎-elim}
+use mathlib.Core.Path.{_≡_}
 use Rattle.numbers.specs.Limits.{VMS}
 use Rattle.numbers.specs.Packing.{filledOf, pageOf, vmOf, leftOf, rightOf, keyOf}
 use Rattle.numbers.specs.PackingLaws.{key-filled}
@@ -13,18 +13,27 @@ use Rattle.numbers.specs.declared.Side.the-variants.{Cpu, Dma}
 use Rattle.table.specs.Table.{Has, Distinct}
 use Rattle.table.specs.AgreeLaws.{agree-has}
 use Rattle.model.specs.State.{Route}
-use Rattle.model.specs.Views.{knows, owns, claims, mayMap}
+use Rattle.model.specs.Views.{knows, owns, claims, lentTo, mayMap}
 use Rattle.model.specs.Valid.{PagesGood, PairGood, PairsGood, EntryGood, MapGood, SameMap, PortsGood, RouteGood}
+use Rattle.model.proofs.ViewLaws.{may-either}
 
 -- ---- what an entry rests on: its VM is known and may map the page
 pub record Ground (side : Side) (known : ℕ) (sets pairs : List ℕ) (w : ℕ) : Type 0 where
   pub vm : knows known (vmOf w) ≡ true
   pub may : mayMap side sets pairs (vmOf w) (pageOf w) ≡ true
 
+-- what the VM claims, or is lent, it may map still
+pub ground-kept : (side : Side) (pages known : ℕ) (sets sets′ pairs pairs′ : List ℕ) (w : ℕ) → EntryGood side pages known sets pairs w →
+    (claims side sets (vmOf w) (pageOf w) ≡ true → mayMap side sets′ pairs′ (vmOf w) (pageOf w) ≡ true) →
+    (lentTo side sets pairs (vmOf w) (pageOf w) ≡ true → mayMap side sets′ pairs′ (vmOf w) (pageOf w) ≡ true) →
+    Ground side known sets′ pairs′ w
+ground-kept side pages known sets sets′ pairs pairs′ w g claimed lent =
+    record { vm = g .vm; may = ⊎-elim claimed lent (may-either side sets pairs (vmOf w) (pageOf w) (g .may)) }
+
 -- tables that are equal as maps have the same words
 pub same-has : (a b : List ℕ) (w : ℕ) → SameMap a b → Distinct keyOf b → Has b w → filledOf w ≡ 1 → Has a w
 unfolding SameMap
-same-has a b w same once h f = agree-has keyOf refl a b w once same h (key-filled w f)
+same-has a b w same once h f = agree-has keyOf a b w once same h (key-filled w f)
 
 module _ (side : Side) (pages known known′ : ℕ) (sets sets′ pairs pairs′ : List ℕ) where
   map-carried : (table : List ℕ) → MapGood side pages known sets pairs table → ((w : ℕ) → Has table w → Ground side known′ sets′ pairs′ w) → MapGood side pages known′ sets′ pairs′ table

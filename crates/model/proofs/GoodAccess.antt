@@ -23,7 +23,7 @@ use Rattle.model.specs.State.{Tables, Route, route}
 use Rattle.model.specs.Views.{isPort, isGuest, isWord, isIdle, owns, mayMap}
 use Rattle.model.specs.Effect.{Effect, quiet, accepted}
 use Rattle.model.specs.Ports.{vmOn}
-use Rattle.model.specs.Access.{translate, accessAnswer}
+use Rattle.model.specs.Access.{translate, accessAnswer, accessPlace}
 use Rattle.model.specs.Step.{readControl, writeControl, barrierControl}
 use Rattle.model.specs.EarlyLaws.{past, both, hold}
 use Rattle.model.specs.Valid.{EntryGood, ValidTables}
@@ -34,14 +34,14 @@ use Rattle.model.proofs.RoutesKept.{slot-walks}
 use Rattle.model.proofs.OneRoute.{GoodRoute, route-of}
 
 -- ---- what an accepted access tells
-pub record AccessAgreed (ports cache walker : List ℕ) (port guest : ℕ) : Type 0 where
+pub record AccessPassed (ports cache walker : List ℕ) (port guest : ℕ) : Type 0 where
   pub guest-ok : guest < GUEST-PAGES
   pub vm-ok : vmOn ports port < VMS
   pub translates : translate cache walker port (vmOn ports port) guest ≡ 0 → ⊥
 
-pub access-agreed : (ports cache walker : List ℕ) (bit port guest word : ℕ) {dropped read : ℕ} → accessAnswer ports cache walker bit port guest word ≡ Accepted dropped read → AccessAgreed ports cache walker port guest
+pub access-passed : (ports cache walker : List ℕ) (bit port guest word : ℕ) {dropped read : ℕ} → accessAnswer ports cache walker bit port guest word ≡ Accepted dropped read → AccessPassed ports cache walker port guest
 unfolding accessAnswer
-access-agreed ports cache walker bit port guest word e =
+access-passed ports cache walker bit port guest word e =
     let (a, b) = past (not (isPort port && isGuest guest && isWord word)) _ _ _ e in
     let (c, d) = past (isIdle (vmOn ports port)) _ _ _ b in
     let (f, h) = past (eqb (translate cache walker port (vmOn ports port) guest) 0) _ _ _ d in
@@ -93,11 +93,20 @@ behind-reaches side t vm w v e =
     record { vm-ok = v; page-ok = rw (← e .page-is) (e .good .page); way = way side t vm (pageOf w) (rw (← e .page-is, ← e .vm-is) (e .good .may)) }
 
 -- the VM on the port, and the page that it gets to
-pub reached : (side : Side) (t : Tables) (r : Route) → GoodRoute side t r → (port guest : ℕ) → AccessAgreed (r .ports) (r .cache) (r .walker) port guest →
+pub reached : (side : Side) (t : Tables) (r : Route) → GoodRoute side t r → (port guest : ℕ) → AccessPassed (r .ports) (r .cache) (r .walker) port guest →
     Reaches t (vmOn (r .ports) port) (pageOf (translate (r .cache) (r .walker) port (vmOn (r .ports) port) guest))
 reached side t r g port guest a =
     let vm = vmOn (r .ports) port in
     behind-reaches side t vm _ (a .vm-ok) (behind side t r g port vm guest (a .vm-ok) (a .guest-ok) (a .translates))
+
+-- an accepted access touches one word
+access-reaches : (side : Side) (t : Tables) → ValidTables t → (bit port guest word : ℕ) {dropped read : ℕ} →
+    accessAnswer (route side t .ports) (route side t .cache) (route side t .walker) bit port guest word ≡ Accepted dropped read →
+    (vm page : ℕ) → (vmOn (route side t .ports) port ≡ vm) × ((accessPlace (route side t .ports) (route side t .cache) (route side t .walker) port guest word .page ≡ page) ⊎ ⊥) → Reaches t vm page
+access-reaches side t v bit port guest word e vm page h =
+    let r = route side t in
+    let there = reached side t r (route-of side t v) port guest (access-passed (r .ports) (r .cache) (r .walker) bit port guest word e) in
+    ⊎-elim (λ q. rw (← h .0, ← q) there) (λ z. absurd z) (h .1)
 
 -- ---- an operation that changes no table
 still-good : (t : Tables) → ValidTables t → (operation : Operation) (answer : Answer) (effect : Effect) → ((vm page : ℕ) → Touches effect vm page → Reaches t vm page) → ((page : ℕ) → Cleared effect page → ⊥) →
@@ -112,30 +121,16 @@ still-good t v operation answer effect reach none =
       edges = λ w h. inl h;
     }
 
--- an access to one word
-one-word : (t : Tables) (vm page : ℕ) → Reaches t vm page → (vm′ page′ : ℕ) → (vm ≡ vm′) × ((page ≡ page′) ⊎ ⊥) → Reaches t vm′ page′
-one-word t vm page r vm′ page′ h = ⊎-elim (λ e. rw (← h .0, ← e) r) (λ z. absurd z) (h .1)
-
 -- ---- each
 pub read-good : (side : Side) (t : Tables) → ValidTables t → (operation : Operation) (port guest word : ℕ) → Good t operation (readControl side t port guest word)
 unfolding readControl
 read-good side t v operation port guest word =
-    let r = route side t in
-    decided-good t v operation _ _ _
-    (λ dropped read e.
-    still-good t v operation _ _
-    (one-word t _ _ (reached side t r (route-of side t v) port guest (access-agreed (r .ports) (r .cache) (r .walker) READ port guest word e)))
-    (λ page h. h))
+    decided-good t v operation _ _ _ (λ dropped read e. still-good t v operation _ _ (access-reaches side t v READ port guest word e) (λ page h. h))
 
 pub write-good : (side : Side) (t : Tables) → ValidTables t → (operation : Operation) (port guest word value : ℕ) → Good t operation (writeControl side t port guest word value)
 unfolding writeControl
 write-good side t v operation port guest word value =
-    let r = route side t in
-    decided-good t v operation _ _ _
-    (λ dropped read e.
-    still-good t v operation _ _
-    (one-word t _ _ (reached side t r (route-of side t v) port guest (access-agreed (r .ports) (r .cache) (r .walker) WRITE port guest word e)))
-    (λ page h. h))
+    decided-good t v operation _ _ _ (λ dropped read e. still-good t v operation _ _ (access-reaches side t v WRITE port guest word e) (λ page h. h))
 
 pub barrier-good : (t : Tables) → ValidTables t → (operation : Operation) → Good t operation (barrierControl t)
 barrier-good t v operation = decided-good t v operation accepted t quiet (λ dropped word e. still-good t v operation accepted quiet (λ vm page h. absurd h) (λ page h. h))

@@ -2,24 +2,23 @@
 use Prim.Native.Nat.{ℕ, _<_}
 use mathlib.Core.Bool.{true, not}
 use mathlib.Core.List.{List}
-use mathlib.Core.Path.{_≡_, refl}
+use mathlib.Core.Path.{_≡_}
 use native.Mathlib.Omega.{arith}
 use borrow.Author.Tests.{not-false}
 use Rattle.numbers.specs.Limits.{PAGES}
-use Rattle.numbers.specs.Packing.{keyOf, addressOf, key}
+use Rattle.numbers.specs.Packing.{keyOf, key}
 use Rattle.numbers.specs.declared.Answer.the-variants.{Accepted}
 use Rattle.numbers.specs.declared.Operation.{Operation}
 use Rattle.numbers.specs.declared.Side.{Side}
-use Rattle.table.specs.ScanLaws.{length-wipe}
 use Rattle.table.specs.Table.{hasKey, isFound, place, erase}
-use Rattle.table.specs.TableLaws.{found-at, length-put}
+use Rattle.table.specs.TableLaws.{found-at}
 use Rattle.table.specs.declared.Found.the-variants.{At}
-use Rattle.model.specs.State.{Tables, Route, route}
+use Rattle.model.specs.State.{Tables, route}
 use Rattle.model.specs.Views.{mayMap}
 use Rattle.model.specs.Maps.{mapEarly, mapAnswer, mapTable, unmapTable, withoutSlots}
 use Rattle.model.specs.Step.{mapRoute, mapControl, unmapRoute, unmapControl}
 use Rattle.model.specs.EarlyLaws.{past, then-passed, MapPassed, map-passed}
-use Rattle.model.specs.ShapeLaws.{SameRoute}
+use Rattle.model.specs.ShapeLaws.{same-mapped, same-unmapped}
 use Rattle.model.specs.Valid.{ValidTables}
 use Rattle.model.specs.Good.{Good}
 use Rattle.model.proofs.Refused.{decided-good}
@@ -28,29 +27,24 @@ use Rattle.model.proofs.OneRoute.{GoodRoute, route-of, maps-of, maps-ro
 
 -- ---- map
 -- what an accepted map tells
-pub record MapAgreed (side : Side) (known pages : ℕ) (sets pairs map : List ℕ) (vm guest page access generation : ℕ) : Type 0 where
+pub record MapAllPassed (side : Side) (known pages : ℕ) (sets pairs map : List ℕ) (vm guest page access generation : ℕ) : Type 0 where
   pub early : MapPassed known pages vm guest page access generation
   pub may : mayMap side sets pairs vm page ≡ true
   pub spot : ℕ
   pub placed : place keyOf map (key vm guest) ≡ At spot
 
-pub map-agreed : (side : Side) (known pages : ℕ) (sets pairs map cache : List ℕ) (vm guest page access generation : ℕ) {dropped word : ℕ} →
-    mapAnswer side known pages sets pairs map cache vm guest page access generation ≡ Accepted dropped word → MapAgreed side known pages sets pairs map vm guest page access generation
+pub map-all-passed : (side : Side) (known pages : ℕ) (sets pairs map cache : List ℕ) (vm guest page access generation : ℕ) {dropped word : ℕ} →
+    mapAnswer side known pages sets pairs map cache vm guest page access generation ≡ Accepted dropped word → MapAllPassed side known pages sets pairs map vm guest page access generation
 unfolding mapAnswer
-map-agreed side known pages sets pairs map cache vm guest page access generation e =
+map-all-passed side known pages sets pairs map cache vm guest page access generation e =
     let (d, w, early, a) = then-passed (mapEarly known pages vm guest page access generation) _ e in
     let (may, b) = past (not (mayMap side sets pairs vm page)) _ _ _ a in
     let (found, c) = past (not (isFound (place keyOf map (key vm guest)))) _ _ _ b in
     let (i, p) = found-at _ (not-false _ found) in
     record { early = map-passed known pages vm guest page access generation early; may = not-false _ may; spot = i; placed = p }
 
-map-same : (r : Route) (vm guest page access generation : ℕ) → SameRoute r (mapRoute r vm guest page access generation)
-unfolding mapTable withoutSlots erase
-map-same r vm guest page access generation =
-    record { map = length-put keyOf (r .map) _ _; walker = length-put keyOf (r .walker) _ _; cache = length-wipe (hasKey addressOf (key vm guest)) (r .cache); ports = refl }
-
-pub map-kept : (side : Side) (t : Tables) → ValidTables t → (vm guest page access generation : ℕ) →
-    MapAgreed side (t .known) (t .setup .pages) (t .sets) (t .pairs) (route side t .map) vm guest page access generation → GoodRoute side t (mapRoute (route side t) vm guest page access generation)
+map-kept : (side : Side) (t : Tables) → ValidTables t → (vm guest page access generation : ℕ) →
+    MapAllPassed side (t .known) (t .setup .pages) (t .sets) (t .pairs) (route side t .map) vm guest page access generation → GoodRoute side t (mapRoute (route side t) vm guest page access generation)
 unfolding mapTable withoutSlots
 map-kept side t v vm guest page access generation a =
     let g = route-of side t v in
@@ -67,20 +61,10 @@ unfolding mapControl
 map-good side t v operation vm guest page access generation =
     decided-good t v operation _ _ _
     (λ dropped word e.
-    route-good side t v operation _ _ (map-same (route side t) vm guest page access generation)
-    (map-kept side t v vm guest page access generation (map-agreed side (t .known) (t .setup .pages) (t .sets) (t .pairs) (route side t .map) (route side t .cache) vm guest page access generation e)))
+    route-good side t v operation _ _ (same-mapped (route side t) vm guest page access generation)
+    (map-kept side t v vm guest page access generation (map-all-passed side (t .known) (t .setup .pages) (t .sets) (t .pairs) (route side t .map) (route side t .cache) vm guest page access generation e)))
 
 -- ---- unmap, which takes an entry and its slots whatever they are
-unmap-same : (r : Route) (vm guest : ℕ) → SameRoute r (unmapRoute r vm guest)
-unfolding unmapTable withoutSlots erase
-unmap-same r vm guest =
-    record {
-      map = length-wipe (hasKey keyOf (key vm guest)) (r .map);
-      walker = length-wipe (hasKey keyOf (key vm guest)) (r .walker);
-      cache = length-wipe (hasKey addressOf (key vm guest)) (r .cache);
-      ports = refl;
-    }
-
 unmap-kept : (side : Side) (t : Tables) → ValidTables t → (vm guest : ℕ) → GoodRoute side t (unmapRoute (route side t) vm guest)
 unfolding unmapTable withoutSlots erase
 unmap-kept side t v vm guest =
@@ -92,4 +76,4 @@ unmap-kept side t v vm guest =
 pub unmap-good : (side : Side) (t : Tables) → ValidTables t → (operation : Operation) (vm guest : ℕ) → Good t operation (unmapControl side t vm guest)
 unfolding unmapControl
 unmap-good side t v operation vm guest =
-    decided-good t v operation _ _ _ (λ dropped word e. route-good side t v operation _ _ (unmap-same (route side t) vm guest) (unmap-kept side t v vm guest))
+    decided-good t v operation _ _ _ (λ dropped word e. route-good side t v operation _ _ (same-unmapped (route side t) vm guest) (unmap-kept side t v vm guest))

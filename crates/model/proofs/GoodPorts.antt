@@ -5,7 +5,6 @@ use mathlib.Core.List.{List}
 use mathlib.Core.Logic.{_⊎_, inl, inr, ⊎-elim}
 use mathlib.Core.Path.{_≡_, refl, sym, _∙_}
 use native.Mathlib.Omega.{arith}
-use lib.ListN.{length-set}
 use borrow.Author.Tests.{ltb-true, not-false}
 use Rattle.numbers.specs.Limits.{VMS, GUEST-PAGES, PORTS, SLOTS, IDLE}
 use Rattle.numbers.specs.Meaning.{targetNumber}
@@ -19,12 +18,12 @@ use Rattle.numbers.specs.declared.Target.the-variants.{Idle, Vm}
 use Rattle.table.specs.ScanLaws.{cases, found-never}
 use Rattle.table.specs.Table.{find, lookup, place, isFound}
 use Rattle.table.specs.TableLaws.{found-at, lookup-nothing}
-use Rattle.model.specs.State.{Tables, Route, route, withPorts}
+use Rattle.model.specs.State.{Tables, route, withPorts}
 use Rattle.model.specs.Views.{isPort, isGuest, isIdle, knows}
-use Rattle.model.specs.Ports.{isTarget, knowsTarget, portAnswer, portPorts, vmOn, fillAnswer, fillPlace, fillCache, fillHand}
+use Rattle.model.specs.Ports.{isTarget, knowsTarget, portAnswer, portPorts, vmOn, fillAnswer, fillCache, fillHand}
 use Rattle.model.specs.Step.{portControl, fillRoute, fillControl, emptyControl}
 use Rattle.model.specs.EarlyLaws.{past, hold}
-use Rattle.model.specs.ShapeLaws.{SameRoute, length-setAt}
+use Rattle.model.specs.ShapeLaws.{same-switched, same-filled, same-emptied}
 use Rattle.model.specs.Valid.{CacheGood, ValidTables}
 use Rattle.model.specs.Good.{Good}
 use Rattle.model.proofs.Refused.{decided-good}
@@ -37,18 +36,18 @@ target-good known Idle e = inl refl
 target-good known (Vm vm) e = inr e
 
 -- what an accepted switch or binding tells
-pub record PortAgreed (known port : ℕ) (target : Target) : Type 0 where
-  pub port-ok : port < PORTS
-  pub target-ok : (targetNumber target ≡ IDLE) ⊎ (knows known (targetNumber target) ≡ true)
+record PortPassed (known port : ℕ) (target : Target) : Type 0 where
+  port-ok : port < PORTS
+  target-ok : (targetNumber target ≡ IDLE) ⊎ (knows known (targetNumber target) ≡ true)
 
-pub port-agreed : (known port : ℕ) (target : Target) {dropped word : ℕ} → portAnswer known port target ≡ Accepted dropped word → PortAgreed known port target
+port-passed : (known port : ℕ) (target : Target) {dropped word : ℕ} → portAnswer known port target ≡ Accepted dropped word → PortPassed known port target
 unfolding portAnswer
-port-agreed known port target e =
+port-passed known port target e =
     let (a, b) = past (not (isPort port && isTarget target)) _ _ _ e in
     let (c, d) = past (not (knowsTarget known target)) _ _ _ b in
     record { port-ok = ltb-true port PORTS (hold (isPort port) (isTarget target) a .0); target-ok = target-good known target (not-false _ c) }
 
-port-kept : (side : Side) (t : Tables) → ValidTables t → (port : ℕ) (target : Target) → PortAgreed (t .known) port target → GoodRoute side t (withPorts (route side t) (portPorts (route side t .ports) port target))
+port-kept : (side : Side) (t : Tables) → ValidTables t → (port : ℕ) (target : Target) → PortPassed (t .known) port target → GoodRoute side t (withPorts (route side t) (portPorts (route side t .ports) port target))
 port-kept side t v port target a =
     let g = route-of side t v in
     ports-route side t (route side t) _ g (ports-set (t .known) (route side t .ports) port (targetNumber target) (lengths-of side t v .ports) (a .port-ok) (a .target-ok) (g .ports))
@@ -59,19 +58,19 @@ port-good side t v operation port target =
     decided-good t v operation _ _ _
     (λ dropped word e.
     route-good side t v operation _ _
-    (record { map = refl; walker = refl; cache = refl; ports = length-set (route side t .ports) port _ })
-    (port-kept side t v port target (port-agreed (t .known) port target e)))
+    (same-switched (route side t) port target)
+    (port-kept side t v port target (port-passed (t .known) port target e)))
 
 -- ---- a slot filled
-pub record FillAgreed (ports walker : List ℕ) (port guest : ℕ) : Type 0 where
+pub record FillPassed (ports walker : List ℕ) (port guest : ℕ) : Type 0 where
   pub port-ok : port < PORTS
   pub guest-ok : guest < GUEST-PAGES
   pub vm-ok : vmOn ports port < VMS
   pub walks : lookup keyOf walker (key (vmOn ports port) guest) ≡ 0 → ⊥
 
-pub fill-agreed : (ports walker : List ℕ) (port guest : ℕ) {dropped word : ℕ} → fillAnswer ports walker port guest ≡ Accepted dropped word → FillAgreed ports walker port guest
+pub fill-passed : (ports walker : List ℕ) (port guest : ℕ) {dropped word : ℕ} → fillAnswer ports walker port guest ≡ Accepted dropped word → FillPassed ports walker port guest
 unfolding fillAnswer
-fill-agreed ports walker port guest e =
+fill-passed ports walker port guest e =
     let (a, b) = past (not (isPort port && isGuest guest)) _ _ _ e in
     let (c, d) = past (isIdle (vmOn ports port)) _ _ _ b in
     let (f, h) = past (not (isFound (find keyOf walker (key (vmOn ports port) guest)))) _ _ _ d in
@@ -84,7 +83,7 @@ fill-agreed ports walker port guest e =
       walks = λ z. found-never i (sym q ∙ lookup-nothing keyOf refl walker (key (vmOn ports port) guest) (omega arith) z);
     }
 
-fill-cache : (cache : List ℕ) (hand : ℕ) (ports walker : List ℕ) (port guest : ℕ) → FillAgreed ports walker port guest → CacheGood walker cache → CacheGood walker (fillCache cache hand ports walker port guest)
+fill-cache : (cache : List ℕ) (hand : ℕ) (ports walker : List ℕ) (port guest : ℕ) → FillPassed ports walker port guest → CacheGood walker cache → CacheGood walker (fillCache cache hand ports walker port guest)
 unfolding fillCache
 fill-cache cache hand ports walker port guest a g =
     let vm = vmOn ports port in
@@ -98,11 +97,7 @@ fill-hand : (cache : List ℕ) (hand : ℕ) (ports : List ℕ) (port guest : ℕ
 unfolding fillHand
 fill-hand cache hand ports port guest h = ⊎-elim (λ t. rw t h) (λ f. rw f (next-hand hand)) (cases (isFound (place keyOf cache (slotKey port (vmOn ports port) guest))))
 
-fill-same : (r : Route) (port guest : ℕ) → SameRoute r (fillRoute r port guest)
-unfolding fillCache
-fill-same r port guest = record { map = refl; walker = refl; cache = length-setAt (r .cache) (fillPlace (r .cache) (r .hand) (slotKey port (vmOn (r .ports) port) guest)) _; ports = refl }
-
-fill-kept : (side : Side) (t : Tables) → ValidTables t → (port guest : ℕ) → FillAgreed (route side t .ports) (route side t .walker) port guest → GoodRoute side t (fillRoute (route side t) port guest)
+fill-kept : (side : Side) (t : Tables) → ValidTables t → (port guest : ℕ) → FillPassed (route side t .ports) (route side t .walker) port guest → GoodRoute side t (fillRoute (route side t) port guest)
 fill-kept side t v port guest a =
     let g = route-of side t v in
     let r = route side t in
@@ -113,8 +108,8 @@ unfolding fillControl
 fill-good side t v operation port guest =
     decided-good t v operation _ _ _
     (λ dropped word e.
-    route-good side t v operation _ _ (fill-same (route side t) port guest)
-    (fill-kept side t v port guest (fill-agreed (route side t .ports) (route side t .walker) port guest e)))
+    route-good side t v operation _ _ (same-filled (route side t) port guest)
+    (fill-kept side t v port guest (fill-passed (route side t .ports) (route side t .walker) port guest e)))
 
 -- ---- a slot emptied, whichever it is
 pub empty-good : (side : Side) (t : Tables) → ValidTables t → (operation : Operation) (slot : ℕ) → Good t operation (emptyControl side t slot)
@@ -124,5 +119,5 @@ empty-good side t v operation slot =
     decided-good t v operation _ _ _
     (λ dropped word e.
     route-good side t v operation _ _
-    (record { map = refl; walker = refl; cache = length-set (route side t .cache) slot 0; ports = refl })
+    (same-emptied (route side t) slot)
     (cache-route side t (route side t) _ _ g (cache-empty (route side t .walker) (route side t .cache) (g .cache) slot) (g .hand)))

@@ -53,7 +53,7 @@ lengths-with : (side : Side) (t : Tables) (r : Route) → SameRoute (route side 
 lengths-with Cpu t r s l = record { units = l .units; sets = l .sets; pairs = l .pairs; cpu = same-lengths (t .cpu) r s (l .cpu); dma = l .dma }
 lengths-with Dma t r s l = record { units = l .units; sets = l .sets; pairs = l .pairs; cpu = l .cpu; dma = same-lengths (t .dma) r s (l .dma) }
 
-route-valid : (side : Side) (t : Tables) (r : Route) → ValidTables t → SameRoute (route side t) r → GoodRoute side t r → ValidTables (withRoute side t r)
+pub route-valid : (side : Side) (t : Tables) (r : Route) → ValidTables t → SameRoute (route side t) r → GoodRoute side t r → ValidTables (withRoute side t r)
 route-valid Cpu t r v s g = record { lengths = lengths-with Cpu t r s (v .lengths); setup = v .setup; known = v .known; pages = v .pages; pairs = v .pairs; cpu = g; dma = v .dma }
 route-valid Dma t r v s g = record { lengths = lengths-with Dma t r s (v .lengths); setup = v .setup; known = v .known; pages = v .pages; pairs = v .pairs; cpu = v .cpu; dma = g }
 

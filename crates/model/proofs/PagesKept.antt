@@ -1,6 +1,6 @@
 -- Edits of the page sets: what each changes, and that the sets stay good.
 use Prim.Native.Nat.{ℕ, _*_, _≤_, _<_}
-use mathlib.Core.Bool.{true, false, true≢false}
+use mathlib.Core.Bool.{true, false, true≢false, or-true}
 use mathlib.Core.List.{List}
 use mathlib.Core.Logic.{_⊎_, inl, inr, ⊎-elim}
 use mathlib.Core.Path.{_≡_, refl, sym, _∙_}
@@ -271,7 +271,13 @@ module _ (pages base count known : ℕ) (sets : List ℕ) (vm page : ℕ) (most 
         there : (vm′ page′ : ℕ) → vm′ < VMS → page′ < pages → (page′ ≡ page → ⊥) → holdsDma (add sets (dmaRow vm) page) vm′ page′ ≡ true → DmaGood known sets (add sets (dmaRow vm) page) vm′ page′
         there vm′ page′ v′ l d e = dma-stays pages base count known sets (add sets (dmaRow vm) page) vm′ page′ v′ l g (λ vm″ s. sym (unchanged vm″ page′ l (λ q. d)) ∙ s) e
 
--- ---- a page is held by one VM, for CPU, for DMA or for both
+-- ---- who holds a page, for CPU, for DMA or for both
+-- a VM that keeps its claims keeps the page
+pub page-held : (sets sets′ : List ℕ) (vm page : ℕ) → (owns sets vm page ≡ true → owns sets′ vm page ≡ true) → (holdsDma sets vm page ≡ true → holdsDma sets′ vm page ≡ true) → holdsPage sets vm page ≡ true → holdsPage sets′ vm page ≡ true
+page-held sets sets′ vm page o d e =
+    ⊎-elim (λ a. rw (o a)) (λ b. rw (d b) (or-true (owns sets′ vm page))) (either (owns sets vm page) (holdsDma sets vm page) e)
+
+-- only one VM holds it
 module _ (pages base count known : ℕ) (sets : List ℕ) (g : PagesGood pages base count known sets) (vm vm′ page : ℕ) (v : vm < VMS) (v′ : vm′ < VMS) (l : page < pages) where
   owner-holder : owns sets vm page ≡ true → holdsDma sets vm′ page ≡ true → vm ≡ vm′
   owner-holder o d = ⊎-elim owned free (g .dma-home vm′ page v′ l d)

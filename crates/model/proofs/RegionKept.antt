@@ -1,46 +1,54 @@
--- What a region's edit of the page sets leaves of routes and pairs.
-use Prim.Native.Nat.{ℕ, _≤_, _<_}
+-- Valid tables stay valid under other page sets, where every claim that an entry or a pair rests on stays.
+use Prim.Native.Nat.{ℕ, _*_, _<_}
 use mathlib.Core.Bool.{true}
 use mathlib.Core.List.{List}
 use mathlib.Core.Logic.{inl, inr, ⊎-elim}
 use mathlib.Core.Path.{_≡_, refl, _∙_}
 use native.Mathlib.Omega.{arith}
-use Rattle.numbers.specs.Limits.{PAGES}
+use lib.ListN.{length}
+use Rattle.numbers.specs.Limits.{PAGES, SETS, SET-WORDS}
 use Rattle.numbers.specs.Packing.{pageOf, vmOf, leftOf, rightOf}
 use Rattle.numbers.specs.declared.Side.{Side}
 use Rattle.numbers.specs.declared.Side.the-variants.{Cpu, Dma}
 use Rattle.table.specs.Table.{Has}
-use Rattle.model.specs.State.{Route}
+use Rattle.model.specs.State.{Tables, Route, route, withRoute, withSets}
 use Rattle.model.specs.Views.{inShared, owns, claims, lentTo}
-use Rattle.model.specs.Valid.{EntryGood, PairGood, PairsGood, RouteGood}
+use Rattle.model.specs.Valid.{PagesGood, EntryGood, PairGood, PortsGood, ValidTables}
 use Rattle.model.proofs.ViewLaws.{may-own, may-lent, may-either}
-use Rattle.model.proofs.Carried.{Ground, route-carried, pairs-carried}
+use Rattle.model.proofs.Carried.{Ground, pairs-carried}
+use Rattle.model.proofs.LedgerKept.{each-side, ledger-valid}
 
 -- what is lent stays lent where the shared span stays
 lent-same : (side : Side) (sets sets′ pairs : List ℕ) (vm page : ℕ) → inShared sets′ page ≡ inShared sets page → lentTo side sets′ pairs vm page ≡ lentTo side sets pairs vm page
 lent-same Cpu sets sets′ pairs vm page e = refl
 lent-same Dma sets sets′ pairs vm page e = e
 
-module _ (pages known : ℕ) (sets sets′ pairs : List ℕ) (most : pages ≤ PAGES) (shared : (page : ℕ) → page < PAGES → inShared sets′ page ≡ inShared sets page) where
-  -- a route stays good where every claim that an entry rests on stays
-  pub route-over : (side : Side) (r : Route) → RouteGood side pages known sets pairs r →
-      ((w : ℕ) → Has (r .map) w → EntryGood side pages known sets pairs w → claims side sets (vmOf w) (pageOf w) ≡ true → claims side sets′ (vmOf w) (pageOf w) ≡ true) →
-      RouteGood side pages known sets′ pairs r
-  route-over side r g keeps = route-carried side pages known known sets sets′ pairs pairs r g ground (g .ports)
-    where
-      ground : (w : ℕ) → Has (r .map) w → EntryGood side pages known sets pairs w → Ground side known sets′ pairs w
-      ground w h e =
-          let lent = lent-same side sets sets′ pairs (vmOf w) (pageOf w) (shared (pageOf w) (omega (arith, e .page))) in
-          record {
-            vm = e .vm;
-            may =
-                ⊎-elim (λ c. may-own side sets′ pairs (vmOf w) (pageOf w) (keeps w h e c)) (λ l. may-lent side sets′ pairs (vmOf w) (pageOf w) (lent ∙ l))
-                (may-either side sets pairs (vmOf w) (pageOf w) (e .may));
-          }
+-- what is asked of the new sets: good in themselves, the shared span as it was, and the claims of entries and pairs kept
+pub record SetsKept (t : Tables) (sets : List ℕ) (entries : Side → List ℕ) : Type 0 where
+  pub long : length sets ≡ SETS * SET-WORDS
+  pub good : PagesGood (t .setup .pages) (t .setup .sharedBase) (t .setup .sharedCount) (t .known) sets
+  pub shared : (page : ℕ) → page < PAGES → inShared sets page ≡ inShared (t .sets) page
+  pub entry : (side : Side) (w : ℕ) → Has (entries side) w → EntryGood side (t .setup .pages) (t .known) (t .sets) (t .pairs) w → claims side (t .sets) (vmOf w) (pageOf w) ≡ true → claims side sets (vmOf w) (pageOf w) ≡ true
+  pub pair : (w vm : ℕ) → Has (t .pairs) w → PairGood (t .setup .pages) (t .known) (t .sets) w → owns (t .sets) vm (pageOf w) ≡ true → owns sets vm (pageOf w) ≡ true
 
-  -- so do the pairs
-  pub pairs-over : PairsGood pages known sets pairs →
-      ((w vm : ℕ) → Has pairs w → PairGood pages known sets w → owns sets vm (pageOf w) ≡ true → owns sets′ vm (pageOf w) ≡ true) → PairsGood pages known sets′ pairs
-  pairs-over g keeps =
-      pairs-carried pages known known sets sets′ pairs g
-      (λ w h e. record { left = e .left; right = e .right; owned = ⊎-elim (λ o. inl (keeps w (leftOf w) h e o)) (λ o. inr (keeps w (rightOf w) h e o)) (e .owned) })
+pub sets-valid : (t : Tables) → ValidTables t → (sets : List ℕ) → SetsKept t sets (λ side. route side t .map) → ValidTables (withSets t sets)
+sets-valid t v sets k =
+    ledger-valid t v (t .known) sets (t .pairs) (k .long) (v .lengths .pairs) (v .known) (k .good)
+    (pairs-carried (t .setup .pages) (t .known) (t .known) (t .sets) sets (t .pairs) (v .pairs)
+    (λ w h e. record { left = e .left; right = e .right; owned = ⊎-elim (λ o. inl (k .pair w (leftOf w) h e o)) (λ o. inr (k .pair w (rightOf w) h e o)) (e .owned) }))
+    ground (each-side (λ side. PortsGood (t .known) (route side t .ports)) (v .cpu .ports) (v .dma .ports))
+  where
+    ground : (side : Side) (w : ℕ) → Has (route side t .map) w → EntryGood side (t .setup .pages) (t .known) (t .sets) (t .pairs) w → Ground side (t .known) sets (t .pairs) w
+    ground side w h e =
+        let lent = lent-same side (t .sets) sets (t .pairs) (vmOf w) (pageOf w) (k .shared (pageOf w) (omega (arith, e .page, v .setup .most-pages))) in
+        record {
+          vm = e .vm;
+          may =
+              ⊎-elim (λ c. may-own side sets (t .pairs) (vmOf w) (pageOf w) (k .entry side w h e c)) (λ l. may-lent side sets (t .pairs) (vmOf w) (pageOf w) (lent ∙ l))
+              (may-either side (t .sets) (t .pairs) (vmOf w) (pageOf w) (e .may));
+        }
+
+-- after an edit of a route
+pub both-valid : (side : Side) (t : Tables) (r : Route) (sets : List ℕ) → ValidTables (withRoute side t r) → SetsKept t sets (λ s. route s (withRoute side t r) .map) → ValidTables (withSets (withRoute side t r) sets)
+both-valid Cpu t r sets v k = sets-valid (withRoute Cpu t r) v sets (record { long = k .long; good = k .good; shared = k .shared; entry = k .entry; pair = k .pair })
+both-valid Dma t r sets v k = sets-valid (withRoute Dma t r) v sets (record { long = k .long; good = k .good; shared = k .shared; entry = k .entry; pair = k .pair })

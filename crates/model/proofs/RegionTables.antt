@@ -1,33 +1,31 @@
 -- The maps and the cache that inserting and removing a region leave.
 use Prim.Native.Nat.{ℕ, suc, _+_, _-_, _≤_, _<_}
-use mathlib.Core.Bool.{Bool, true, false, not, true≢false}
+use mathlib.Core.Bool.{true, false, true≢false}
 use mathlib.Core.List.{List}
 use mathlib.Core.Logic.{⊎-elim}
 use mathlib.Core.Path.{_≡_, refl, sym, ap, _∙_}
 use native.Mathlib.Omega.{arith}
 use borrow.Author.Tests.{eq-eqb, ne-eqb, le-leb, lt-ltb}
-use lib.Dec.{eqb}
 use lib.ListN.{length}
-use Rattle.numbers.specs.Limits.{PAGES, GUEST-PAGES, ENTRIES}
-use Rattle.numbers.specs.Packing.{entry, mapWord, key, keyOf, vmOf, guestOf, filledOf, pageOf, portOf, entryOf}
-use Rattle.numbers.specs.PackingLaws.{entry-fits, entry-filled, entry-page, word-port, word-vm, word-guest, word-filled, word-page, word-key, key-same, key-whole}
+use Rattle.numbers.specs.Limits.{PAGES, GUEST-PAGES}
+use Rattle.numbers.specs.Packing.{mapWord, keyOf, vmOf, guestOf, filledOf, pageOf, entryOf}
+use Rattle.numbers.specs.PackingLaws.{word-vm, word-guest, key-same, key-whole}
 use Rattle.numbers.specs.declared.Side.{Side}
-use Rattle.numbers.specs.declared.Side.the-variants.{Cpu, Dma}
-use Rattle.table.specs.Scan.{wipe}
 use Rattle.table.specs.ScanLaws.{equal, length-wipe, has-wipe-inv}
 use Rattle.table.specs.Table.{Has, isFound, wordAt, freeEntries, find, lookup, put}
 use Rattle.table.specs.TableLaws.{lookup-nothing, lookup-put-other, place-room, free-put-new, length-put}
 use Rattle.table.specs.declared.Found.{Found}
 use Rattle.table.specs.declared.Found.the-variants.{At, Nothing}
 use Rattle.units.specs.declared.Region.{Region}
-use Rattle.model.specs.State.{Route}
-use Rattle.model.specs.Views.{knows, claims, targeted, butKey}
+use Rattle.model.specs.State.{Tables, route, withRoute}
+use Rattle.model.specs.Views.{claims, targeted, butKey}
 use Rattle.model.specs.EarlyLaws.{RegionPassed}
 use Rattle.model.specs.Regions.{guestIn, pageIn, keyIn, regionEntry, inRegion, present, insertTable, removeTable}
-use Rattle.model.specs.Valid.{RouteLengths, EntryGood, MapGood, SameMap, CacheGood, RouteGood}
+use Rattle.model.specs.Valid.{EntryGood, SameMap, CacheGood, ValidTables}
 use Rattle.model.specs.Step.{insertRoute, removeRoute}
 use Rattle.model.proofs.ViewLaws.{may-own, not-targeted}
 use Rattle.model.proofs.RoutesKept.{MapsGood, entry-key, entry-made, maps-put, maps-wipe, cache-put-new, cache-wipe-both, region-unported}
+use Rattle.model.proofs.OneRoute.{route-of, maps-of, maps-route, route-valid}
 use Rattle.model.proofs.Repeats.{repeat-both}
 use Rattle.model.proofs.RegionLaws.{NoneFails}
 
@@ -41,40 +39,42 @@ missing ws k e = go (find keyOf ws k) e
     go Nothing e = refl
 
 -- ---- insert: the first k entries are in, and the places for the others are kept
-record Filling (side : Side) (pages known : ℕ) (sets pairs cache : List ℕ) (region : Region) (k : ℕ) (map walker : List ℕ) : Type 0 where
-  maps : MapsGood side pages known sets pairs map walker
-  slots : CacheGood walker cache
-  long : length map ≡ ENTRIES
+record Filling (side : Side) (t : Tables) (region : Region) (k : ℕ) (map walker : List ℕ) : Type 0 where
+  maps : MapsGood side (t .setup .pages) (t .known) (t .sets) (t .pairs) map walker
+  slots : CacheGood walker (route side t .cache)
+  long : length map ≡ length (route side t .map)
   room : region .count ≤ freeEntries map + k
   absent : (j : ℕ) → k ≤ j → j < region .count → lookup keyOf map (keyIn region j) ≡ 0
 
 abbrev fillIn : Region → ℕ → List ℕ → List ℕ
 fillIn region k ws = put keyOf ws (keyIn region k) (regionEntry region k)
 
-module _ (side : Side) (pages known : ℕ) (sets pairs cache : List ℕ) (region : Region) (most : pages ≤ PAGES) (early : RegionPassed known pages region)
-    (held : (k : ℕ) → k < region .count → claims side sets (region .vm .0) (pageIn region k) ≡ true) where
+module _ (side : Side) (t : Tables) (v : ValidTables t) (region : Region) (early : RegionPassed (t .known) (t .setup .pages) region)
+    (held : (k : ℕ) → k < region .count → claims side (t .sets) (region .vm .0) (pageIn region k) ≡ true) where
+  -- an entry of the region packs what it says, and the VM may map it
   module _ (k : ℕ) (h : k < region .count) where
-    fits : pageIn region k < pages
-    fits = omega (arith, early .page-ok)
+    page-fits : pageIn region k < t .setup .pages
+    page-fits = omega (arith, early .page-ok)
 
     guest-fits : guestIn region k < GUEST-PAGES
     guest-fits = omega (arith, early .guest-ok)
 
+    in-pages : pageIn region k < PAGES
+    in-pages = omega (arith, page-fits, v .setup .most-pages)
+
     made-key : keyOf (regionEntry region k) ≡ keyIn region k
-    made-key = entry-key (region .vm .0) (guestIn region k) (pageIn region k) (region .access) 0 (early .vm-ok) guest-fits (omega (arith, fits)) (early .access-ok) (omega arith)
+    made-key = entry-key (region .vm .0) (guestIn region k) (pageIn region k) (region .access) 0 (early .vm-ok) guest-fits in-pages (early .access-ok) (omega arith)
 
-    made : EntryGood side pages known sets pairs (regionEntry region k)
+    made : EntryGood side (t .setup .pages) (t .known) (t .sets) (t .pairs) (regionEntry region k)
     made =
-        entry-made (region .vm .0) (guestIn region k) (pageIn region k) (region .access) 0 (early .vm-ok) guest-fits (omega (arith, fits)) (early .access-ok) (omega arith) side pages known sets pairs fits (early .knows-vm)
-        (may-own side sets pairs (region .vm .0) (pageIn region k) (held k h))
+        entry-made (region .vm .0) (guestIn region k) (pageIn region k) (region .access) 0 (early .vm-ok) guest-fits in-pages (early .access-ok) (omega arith) side (t .setup .pages) (t .known) (t .sets) (t .pairs) page-fits (early .knows-vm)
+        (may-own side (t .sets) (t .pairs) (region .vm .0) (pageIn region k) (held k h))
 
-  -- the keys of two pages of the region differ
+  -- no two pages of the region have one key
   keys-differ : (k j : ℕ) → k < j → j < region .count → keyIn region k ≡ keyIn region j → ⊥
-  keys-differ k j l h e =
-      let q = key-same (region .vm .0) (guestIn region k) (region .vm .0) (guestIn region j) (omega (arith, early .guest-ok)) (omega (arith, early .guest-ok)) e in
-      omega (arith, q .1)
+  keys-differ k j l h e = let q = key-same (region .vm .0) (guestIn region k) (region .vm .0) (guestIn region j) (guest-fits k (omega arith)) (guest-fits j h) e in omega (arith, q .1)
 
-  fill-next : (k : ℕ) (map walker : List ℕ) → k < region .count → Filling side pages known sets pairs cache region k map walker → Filling side pages known sets pairs cache region (suc k) (fillIn region k map) (fillIn region k walker)
+  fill-next : (k : ℕ) (map walker : List ℕ) → k < region .count → Filling side t region k map walker → Filling side t region (suc k) (fillIn region k map) (fillIn region k walker)
   unfolding SameMap
   fill-next k map walker h r =
       let z : 0 < keyIn region k = omega arith in
@@ -84,27 +84,25 @@ module _ (side : Side) (pages known : ℕ) (sets pairs cache : List ℕ) (region
       let (i, p) = place-room keyOf map (keyIn region k) (λ e. some) in
       let n : regionEntry region k ≡ 0 → ⊥ = λ e. omega arith in
       record {
-        maps = maps-put side pages known sets pairs map walker (r .maps) (keyIn region k) (regionEntry region k) i (made k h) (made-key k h) p;
-        slots = cache-put-new walker cache (r .slots) (keyIn region k) (regionEntry region k) (made-key k h) (sym (r .maps .same (keyIn region k) z) ∙ lacks);
+        maps = maps-put side (t .setup .pages) (t .known) (t .sets) (t .pairs) map walker (r .maps) (keyIn region k) (regionEntry region k) i (made k h) (made-key k h) p;
+        slots = cache-put-new walker (route side t .cache) (r .slots) (keyIn region k) (regionEntry region k) (made-key k h) (sym (r .maps .same (keyIn region k) z) ∙ lacks);
         long = length-put keyOf map (keyIn region k) (regionEntry region k) ∙ r .long;
         room = omega (arith, r .room, free-put-new keyOf map (keyIn region k) (regionEntry region k) none some n);
         absent = λ j l b. lookup-put-other keyOf refl map (keyIn region k) (regionEntry region k) (keyIn region j) (made-key k h) (omega arith) (keys-differ k j l b) ∙ r .absent j (omega arith) b;
       }
 
-  filled : (map walker : List ℕ) → Filling side pages known sets pairs cache region 0 map walker → Filling side pages known sets pairs cache region (region .count) (insertTable map region) (insertTable walker region)
-  unfolding insertTable
-  filled map walker r = repeat-both (fillIn region) (Filling side pages known sets pairs cache region) (region .count) fill-next map walker r
+  module _ (absent : NoneFails (present (route side t .map) region) region) (room : region .count ≤ freeEntries (route side t .map)) where
+    filled : Filling side t region (region .count) (insertTable (route side t .map) region) (insertTable (route side t .walker) region)
+    unfolding insertTable
+    filled =
+        repeat-both (fillIn region) (Filling side t region) (region .count) fill-next (route side t .map) (route side t .walker)
+        (record { maps = maps-of side t v; slots = route-of side t v .cache; long = refl; room = omega arith; absent = λ j a h. missing (route side t .map) (keyIn region j) (absent j h) })
 
-pub insert-route : (side : Side) (pages known : ℕ) (sets pairs : List ℕ) (region : Region) → pages ≤ PAGES → RegionPassed known pages region → ((k : ℕ) → k < region .count → claims side sets (region .vm .0) (pageIn region k) ≡ true) →
-    (r : Route) → RouteLengths r → RouteGood side pages known sets pairs r → NoneFails (present (r .map) region) region → region .count ≤ freeEntries (r .map) →
-    RouteGood side pages known sets pairs (insertRoute r region) × RouteLengths (insertRoute r region)
-insert-route side pages known sets pairs region most early held r l g absent room =
-    let maps : MapsGood side pages known sets pairs (r .map) (r .walker) = record { map = g .map; walker = g .walker; same = g .same; as-long = l .walker ∙ sym (l .map) } in
-    let done =
-    filled side pages known sets pairs (r .cache) region most early held (r .map) (r .walker)
-    (record { maps = maps; slots = g .cache; long = l .map; room = omega arith; absent = λ j a h. missing (r .map) (keyIn region j) (absent j h) }) in
-    let m = done .maps in
-    (record { map = m .map; walker = m .walker; same = m .same; cache = done .slots; ports = g .ports; hand = g .hand }, record { map = done .long; walker = m .as-long ∙ done .long; cache = l .cache; ports = l .ports })
+    pub insert-route : ValidTables (withRoute side t (insertRoute (route side t) region))
+    insert-route =
+        route-valid side t (insertRoute (route side t) region) v
+        (record { map = filled .long; walker = filled .maps .as-long ∙ filled .long ∙ sym (maps-of side t v .as-long); cache = refl; ports = refl })
+        (maps-route side t (route side t) _ _ _ (route-of side t v) (filled .maps) (filled .slots))
 
 -- ---- remove
 -- a word of one of the region's keys is one that goes
@@ -130,13 +128,11 @@ none-stays known pages region early map unused w h f low high =
     (λ n. not-targeted (butKey (keyIn region k)) map (pageIn region k) w (unused k b) r (rw (ne-eqb (keyOf w) (keyIn region k) n)) f (omega arith))
     (equal (keyOf w) (keyIn region k))
 
-pub remove-route : (side : Side) (pages known : ℕ) (sets pairs : List ℕ) (region : Region) (r : Route) → RouteLengths r → RouteGood side pages known sets pairs r →
-    RouteGood side pages known sets pairs (removeRoute r region) × RouteLengths (removeRoute r region)
+pub remove-route : (side : Side) (t : Tables) → ValidTables t → (region : Region) → ValidTables (withRoute side t (removeRoute (route side t) region))
 unfolding removeTable
-remove-route side pages known sets pairs region r l g =
+remove-route side t v region =
+    let r = route side t in
+    let g = route-of side t v in
     let p = inRegion region in
-    let maps : MapsGood side pages known sets pairs (r .map) (r .walker) = record { map = g .map; walker = g .walker; same = g .same; as-long = l .walker ∙ sym (l .map) } in
-    let m = maps-wipe side pages known sets pairs (r .map) (r .walker) maps p in (
-      record { map = m .map; walker = m .walker; same = m .same; cache = cache-wipe-both (r .walker) (r .cache) (g .cache) p p (region-unported region) (g .walker .once); ports = g .ports; hand = g .hand },
-      record { map = length-wipe p (r .map) ∙ l .map; walker = length-wipe p (r .walker) ∙ l .walker; cache = length-wipe p (r .cache) ∙ l .cache; ports = l .ports },
-    )
+    route-valid side t (removeRoute r region) v (record { map = length-wipe p (r .map); walker = length-wipe p (r .walker); cache = length-wipe p (r .cache); ports = refl })
+    (maps-route side t r _ _ _ g (maps-wipe side (t .setup .pages) (t .known) (t .sets) (t .pairs) (r .map) (r .walker) (maps-of side t v) p) (cache-wipe-both (r .walker) (r .cache) (g .cache) p p (region-unported region) (g .walker .once)))

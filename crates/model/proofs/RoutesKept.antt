@@ -73,7 +73,7 @@ module _ (side : Side) (pages known : ℕ) (sets pairs : List ℕ) where
     -- the walker has as much room as the map
     pub maps-free : freeEntries map ≤ freeEntries walker
     unfolding SameMap
-    maps-free = agree-free keyOf refl map walker (g .as-long) (map-keyed walker (g .walker)) (g .walker .once) (g .same)
+    maps-free = agree-free keyOf map walker (g .as-long) (map-keyed walker (g .walker)) (g .walker .once) (g .same)
 
     -- one entry into both, where the map has a place for it
     pub maps-put : (k w i : ℕ) → EntryGood side pages known sets pairs w → keyOf w ≡ k → place keyOf map k ≡ At i → MapsGood (put keyOf map k w) (put keyOf walker k w)

@@ -23,7 +23,7 @@ use Rattle.model.specs.Upstream.{hardwareView}
 use Rattle.model.specs.UpstreamStep.{MemReadStep, MemWriteStep}
 use Rattle.model.specs.UpstreamRun.{addressIn, FollowsUpstream, stop}
 use Rattle.model.proofs.OneRoute.{route-of}
-use Rattle.model.proofs.GoodAccess.{access-agreed, reached}
+use Rattle.model.proofs.GoodAccess.{access-passed, reached}
 use Rattle.model.proofs.UpstreamFollows.{same-software, same-hardware, hardware-once, decided-follows}
 use Rattle.model.proofs.UpstreamMemory.{word-backed, write-seen}
 
@@ -39,7 +39,7 @@ module _ (s : State) (valid : Valid s) where
       addressIn (route side (s .tables)) port guest word < length (s .memory)
   backed side bit port guest word e =
       let r = route side (s .tables) in
-      let p = reached side (s .tables) r (route-of side (s .tables) (valid .tables)) port guest (access-agreed (r .ports) (r .cache) (r .walker) bit port guest word e) .page-ok in
+      let p = reached side (s .tables) r (route-of side (s .tables) (valid .tables)) port guest (access-passed (r .ports) (r .cache) (r .walker) bit port guest word e) .page-ok in
       let w = word-below (r .ports) (r .cache) (r .walker) bit port guest word e in
       omega (arith, valid .memory)
 

@@ -37,7 +37,7 @@ use Rattle.model.specs.UpstreamRun.{map, unmap, unmap-invalidate, entryO
 use Rattle.model.proofs.ViewLaws.{not-so}
 use Rattle.model.proofs.RoutesKept.{entry-key}
 use Rattle.model.proofs.OneRoute.{route-of, maps-of}
-use Rattle.model.proofs.GoodMaps.{MapAgreed, map-agreed}
+use Rattle.model.proofs.GoodMaps.{MapAllPassed, map-all-passed}
 use Rattle.model.proofs.UpstreamLaws.{seen-is, key-test, OfKey, of-slot-key, map-found, not-some, found-erase-same}
 use Rattle.model.proofs.UpstreamWf.{slot-seen}
 use Rattle.model.proofs.UpstreamFollows.{same-hardware, software-once, hardware-once, decided-follows}
@@ -160,7 +160,7 @@ module _ (side : Side) (s : State) (valid : ValidTables (s .tables)) where
   below-pages : (page : ℕ) → page < s .tables .setup .pages → page < PAGES
   below-pages page h = omega (arith, valid .setup .most-pages)
 
-  map-software : (vm gpa page access generation : ℕ) → MapAgreed side (s .tables .known) (s .tables .setup .pages) (s .tables .sets) (s .tables .pairs) (route side (s .tables) .map) vm gpa page access generation →
+  map-software : (vm gpa page access generation : ℕ) → MapAllPassed side (s .tables .known) (s .tables .setup .pages) (s .tables .sets) (s .tables .pairs) (route side (s .tables) .map) vm gpa page access generation →
       MapStep side vm gpa (entryOf page access generation) (softwareView (s .tables)) (softwareView (withRoute side (s .tables) (mapRoute (route side (s .tables)) vm gpa page access generation)))
   map-software vm gpa page access generation a =
       let r = route side (s .tables) in
@@ -174,7 +174,7 @@ module _ (side : Side) (s : State) (valid : ValidTables (s .tables)) where
             (put-seen (r .map) vm gpa page access generation (a .spot) (f .vm-ok) (f .guest-ok) (below-pages page (f .page-ok)) (f .access-ok) (f .generation-ok) (a .placed)));
       }
 
-  map-follows : (vm gpa page access generation : ℕ) → MapAgreed side (s .tables .known) (s .tables .setup .pages) (s .tables .sets) (s .tables .pairs) (route side (s .tables) .map) vm gpa page access generation →
+  map-follows : (vm gpa page access generation : ℕ) → MapAllPassed side (s .tables .known) (s .tables .setup .pages) (s .tables .sets) (s .tables .pairs) (route side (s .tables) .map) vm gpa page access generation →
       Follows s (record { tables = withRoute side (s .tables) (mapRoute (route side (s .tables)) vm gpa page access generation); memory = s .memory }) (map side vm gpa (entryOf page access generation) ∷ []) (mapCalls side (route side (s .tables)) vm gpa (entryOf page access generation))
   map-follows vm gpa page access generation a =
       let f = a .early in
@@ -214,7 +214,7 @@ module _ (s : State) (valid : ValidTables (s .tables)) where
       decided-follows s _ _ quiet _ _
       (λ dropped word e.
       map-follows Cpu s valid (vm .0) (guest .0) (page .0) access generation
-      (map-agreed Cpu (s .tables .known) (s .tables .setup .pages) (s .tables .sets) (s .tables .pairs) (s .tables .cpu .map) (s .tables .cpu .cache) (vm .0) (guest .0) (page .0) access generation e))
+      (map-all-passed Cpu (s .tables .known) (s .tables .setup .pages) (s .tables .sets) (s .tables .pairs) (s .tables .cpu .map) (s .tables .cpu .cache) (vm .0) (guest .0) (page .0) access generation e))
 
   pub dma-map-follows : (vm : VmId) (guest : GuestPage) (page : PhysPage) (access generation : ℕ) → FollowsUpstream s (DmaMap vm guest page access generation)
   unfolding control mapControl step decided apply clearedPages
@@ -222,7 +222,7 @@ module _ (s : State) (valid : ValidTables (s .tables)) where
       decided-follows s _ _ quiet _ _
       (λ dropped word e.
       map-follows Dma s valid (vm .0) (guest .0) (page .0) access generation
-      (map-agreed Dma (s .tables .known) (s .tables .setup .pages) (s .tables .sets) (s .tables .pairs) (s .tables .dma .map) (s .tables .dma .cache) (vm .0) (guest .0) (page .0) access generation e))
+      (map-all-passed Dma (s .tables .known) (s .tables .setup .pages) (s .tables .sets) (s .tables .pairs) (s .tables .dma .map) (s .tables .dma .cache) (vm .0) (guest .0) (page .0) access generation e))
 
   pub cpu-unmap-follows : (vm : VmId) (guest : GuestPage) → FollowsUpstream s (CpuUnmap vm guest)
   unfolding control unmapControl step decided apply clearedPages

@@ -37,7 +37,7 @@ use Rattle.model.specs.Upstream.{S2Entry, tlbAt, seen, mapSeen, tlbSeen,
 use Rattle.model.specs.UpstreamRun.{HardwareStep, HardwareRun, stop, go, fillCall, forgetCall, portCalls, fillCalls, emptyCalls, FollowsUpstream}
 use Rattle.model.specs.UpstreamStep.{withActive, answerAt}
 use Rattle.model.proofs.RoutesKept.{slot-made}
-use Rattle.model.proofs.GoodPorts.{FillAgreed, fill-agreed}
+use Rattle.model.proofs.GoodPorts.{FillPassed, fill-passed}
 use Rattle.model.proofs.UpstreamFollows.{same-software, same-hardware, hardware-once, decided-follows}
 use Rattle.model.proofs.UpstreamRoutes.{shown, with-own, walk-of, tlb-of, route-hardware}
 use Rattle.model.proofs.UpstreamLaws.{seen-same, seen-filled, slot-key-test, key-parts}
@@ -149,7 +149,7 @@ given-up ws k i e h =
     }
 
 module _ (side : Side) (t : Tables) (memory : List ℕ) (r : Route) (good : CacheGood (r .walker) (r .cache)) (long : length (r .cache) ≡ SLOTS) (low : r .hand < SLOTS)
-    (port gpa : ℕ) (a : FillAgreed (r .ports) (r .walker) port gpa) where
+    (port gpa : ℕ) (a : FillPassed (r .ports) (r .walker) port gpa) where
   filled-at : (cache : List ℕ) (i hand : ℕ) → IsPlace keyOf cache (slotKey port (vmOn (r .ports) port) gpa) i →
       HardwareStep (fillCall side port (vmOn (r .ports) port) gpa) (shown side t memory (withCache r cache (r .hand))) (shown side t memory (withCache r (set cache i (slotWord port (vmOn (r .ports) port) gpa (entryOf (lookup keyOf (r .walker) (key (vmOn (r .ports) port) gpa))))) hand))
   filled-at cache i hand at =
@@ -238,7 +238,7 @@ module _ (s : State) (valid : ValidTables (s .tables)) where
       (λ dropped word e.
       record {
         software = stop (same-software _);
-        hardware = fill-run Cpu (s .tables) (s .memory) (s .tables .cpu) (valid .cpu .cache) (valid .lengths .cpu .cache) (valid .cpu .hand) port (guest .0) (fill-agreed (s .tables .cpu .ports) (s .tables .cpu .walker) port (guest .0) e);
+        hardware = fill-run Cpu (s .tables) (s .memory) (s .tables .cpu) (valid .cpu .cache) (valid .lengths .cpu .cache) (valid .cpu .hand) port (guest .0) (fill-passed (s .tables .cpu .ports) (s .tables .cpu .walker) port (guest .0) e);
       })
 
   pub dma-fill-follows : (port : ℕ) (guest : GuestPage) → FollowsUpstream s (DmaFill port guest)
@@ -248,7 +248,7 @@ module _ (s : State) (valid : ValidTables (s .tables)) where
       (λ dropped word e.
       record {
         software = stop (same-software _);
-        hardware = fill-run Dma (s .tables) (s .memory) (s .tables .dma) (valid .dma .cache) (valid .lengths .dma .cache) (valid .dma .hand) port (guest .0) (fill-agreed (s .tables .dma .ports) (s .tables .dma .walker) port (guest .0) e);
+        hardware = fill-run Dma (s .tables) (s .memory) (s .tables .dma) (valid .dma .cache) (valid .lengths .dma .cache) (valid .dma .hand) port (guest .0) (fill-passed (s .tables .dma .ports) (s .tables .dma .walker) port (guest .0) e);
       })
 
   -- ---- 19, 20

@@ -49,15 +49,20 @@ use Rattle.table.specs.declared.Found.the-variants.{At, Nothing}
 use Rattle.pages.specs.RowLaws.{length-add, length-remove}
 use Rattle.pages.specs.Rows.{remove, poolRow, cpuRow, dmaRow}
 use Rattle.units.specs.declared.Region.{Region}
-use Rattle.model.specs.State.{Tables, Route, State, route, withRoute, withKnown, withSets, withPairs}
+use Rattle.model.specs.State.{Tables, Route, State, route, withRoute, withKnown, withSets, withPairs, withCache, withPorts}
 use Rattle.model.specs.Views.{paired}
 use Rattle.model.specs.Effect.{Effect, decided}
 use Rattle.model.specs.MemoryLaws.{length-applied}
 use Rattle.model.specs.Ledger.{assignSets, reclaimSets, sharePairs, unsharePairs}
 use Rattle.model.specs.Maps.{mapTable, unmapTable, withoutSlots}
 use Rattle.model.specs.Regions.{insertPage, insertSets, insertTable, removePage, removeSets, removeTable, inRegion, keyIn, regionEntry, pageIn}
-use Rattle.model.specs.Ports.{fillCache, fillPlace, vmOn}
+use Rattle.model.specs.Ports.{portPorts, emptyCache, fillCache, fillPlace, vmOn}
 use Rattle.model.specs.Step.{
+  mapRoute,
+  unmapRoute,
+  insertRoute,
+  removeRoute,
+  fillRoute,
   addVmControl,
   removeVmControl,
   assignControl,
@@ -160,24 +165,51 @@ unfolding fillCache
 length-fill cache hand ports walker port guest =
     length-setAt cache (fillPlace cache hand (slotKey port (vmOn ports port) guest)) (slotWord port (vmOn ports port) guest (entryOf (lookup keyOf walker (key (vmOn ports port) guest))))
 
+-- ---- the routes that operations leave
+module _ (r : Route) where
+  pub same-mapped : (vm guest page access generation : ℕ) → SameRoute r (mapRoute r vm guest page access generation)
+  unfolding mapTable withoutSlots
+  same-mapped vm guest page access generation =
+      record { map = length-put keyOf (r .map) _ _; walker = length-put keyOf (r .walker) _ _; cache = length-erase addressOf (r .cache) _; ports = refl }
+
+  pub same-unmapped : (vm guest : ℕ) → SameRoute r (unmapRoute r vm guest)
+  unfolding unmapTable withoutSlots
+  same-unmapped vm guest = record { map = length-erase keyOf (r .map) _; walker = length-erase keyOf (r .walker) _; cache = length-erase addressOf (r .cache) _; ports = refl }
+
+  pub same-inserted : (region : Region) → SameRoute r (insertRoute r region)
+  unfolding insertTable
+  same-inserted region = record { map = table (r .map); walker = table (r .walker); cache = refl; ports = refl }
+    where
+      table : (ws : List ℕ) → length (repeat (λ k us. put keyOf us (keyIn region k) (regionEntry region k)) 0 (region .count) ws) ≡ length ws
+      table ws = length-repeat _ (λ k us. length-put keyOf us (keyIn region k) (regionEntry region k)) 0 (region .count) ws
+
+  pub same-removed : (region : Region) → SameRoute r (removeRoute r region)
+  unfolding removeTable
+  same-removed region =
+      record { map = length-wipe (inRegion region) (r .map); walker = length-wipe (inRegion region) (r .walker); cache = length-wipe (inRegion region) (r .cache); ports = refl }
+
+  pub same-switched : (port : ℕ) (target : Target) → SameRoute r (withPorts r (portPorts (r .ports) port target))
+  same-switched port target = record { map = refl; walker = refl; cache = refl; ports = length-set (r .ports) port _ }
+
+  pub same-filled : (port guest : ℕ) → SameRoute r (fillRoute r port guest)
+  same-filled port guest = record { map = refl; walker = refl; cache = length-fill (r .cache) (r .hand) (r .ports) (r .walker) port guest; ports = refl }
+
+  pub same-emptied : (slot : ℕ) → SameRoute r (withCache r (emptyCache (r .cache) slot) (r .hand))
+  same-emptied slot = record { map = refl; walker = refl; cache = length-set (r .cache) slot 0; ports = refl }
+
 -- ---- each operation
 module _ (t : Tables) where
   port-shape : (side : Side) (port : ℕ) (target : Target) → SameShape t (portControl side t port target .tables)
   unfolding portControl
-  port-shape side port target =
-      decided-shape t _ _ _ (route-shape side t _ (record { map = refl; walker = refl; cache = refl; ports = length-set (route side t .ports) port _ }))
+  port-shape side port target = decided-shape t _ _ _ (route-shape side t _ (same-switched (route side t) port target))
 
   fill-shape : (side : Side) (port guest : ℕ) → SameShape t (fillControl side t port guest .tables)
   unfolding fillControl
-  fill-shape side port guest =
-      decided-shape t _ _ _
-      (route-shape side t _
-      (record { map = refl; walker = refl; cache = length-fill (route side t .cache) (route side t .hand) (route side t .ports) (route side t .walker) port guest; ports = refl }))
+  fill-shape side port guest = decided-shape t _ _ _ (route-shape side t _ (same-filled (route side t) port guest))
 
   empty-shape : (side : Side) (slot : ℕ) → SameShape t (emptyControl side t slot .tables)
   unfolding emptyControl
-  empty-shape side slot =
-      decided-shape t _ _ _ (route-shape side t _ (record { map = refl; walker = refl; cache = length-set (route side t .cache) slot 0; ports = refl }))
+  empty-shape side slot = decided-shape t _ _ _ (route-shape side t _ (same-emptied (route side t) slot))
 
   share-shape : (left right page : ℕ) → SameShape t (shareControl t left right page .tables)
   unfolding shareControl sharePairs
@@ -188,36 +220,25 @@ module _ (t : Tables) where
   unshare-shape left right page = decided-shape t _ _ _ (pairs-shape t _ (length-erase pairKeyOf (t .pairs) _))
 
   map-shape : (side : Side) (vm guest page access generation : ℕ) → SameShape t (mapControl side t vm guest page access generation .tables)
-  unfolding mapControl mapTable withoutSlots
-  map-shape side vm guest page access generation =
-      decided-shape t _ _ _
-      (route-shape side t _
-      (record { map = length-put keyOf (route side t .map) _ _; walker = length-put keyOf (route side t .walker) _ _; cache = length-erase addressOf (route side t .cache) _; ports = refl }))
+  unfolding mapControl
+  map-shape side vm guest page access generation = decided-shape t _ _ _ (route-shape side t _ (same-mapped (route side t) vm guest page access generation))
 
   unmap-shape : (side : Side) (vm guest : ℕ) → SameShape t (unmapControl side t vm guest .tables)
-  unfolding unmapControl unmapTable withoutSlots
-  unmap-shape side vm guest =
-      decided-shape t _ _ _
-      (route-shape side t _
-      (record { map = length-erase keyOf (route side t .map) _; walker = length-erase keyOf (route side t .walker) _; cache = length-erase addressOf (route side t .cache) _; ports = refl }))
+  unfolding unmapControl
+  unmap-shape side vm guest = decided-shape t _ _ _ (route-shape side t _ (same-unmapped (route side t) vm guest))
 
   insert-shape : (side : Side) (region : Region) → SameShape t (insertControl side t region .tables)
-  unfolding insertControl insertTable insertSets
+  unfolding insertControl insertSets
   insert-shape side region =
       decided-shape t _ _ _
-      (both-shape side t _ _
-      (record { map = table (route side t .map); walker = table (route side t .walker); cache = refl; ports = refl })
+      (both-shape side t _ _ (same-inserted (route side t) region)
       (length-repeat _ (λ k ws. length-insertPage side (region .vm .0) (pageIn region k) ws) 0 (region .count) (t .sets)))
-    where
-      table : (ws : List ℕ) → length (repeat (λ k us. put keyOf us (keyIn region k) (regionEntry region k)) 0 (region .count) ws) ≡ length ws
-      table ws = length-repeat _ (λ k us. length-put keyOf us (keyIn region k) (regionEntry region k)) 0 (region .count) ws
 
   remove-shape : (side : Side) (region : Region) → SameShape t (removeControl side t region .tables)
-  unfolding removeControl removeTable removeSets
+  unfolding removeControl removeSets
   remove-shape side region =
       decided-shape t _ _ _
-      (both-shape side t _ _
-      (record { map = length-wipe (inRegion region) (route side t .map); walker = length-wipe (inRegion region) (route side t .walker); cache = length-wipe (inRegion region) (route side t .cache); ports = refl })
+      (both-shape side t _ _ (same-removed (route side t) region)
       (length-repeat _ (λ k ws. length-removePage side (region .vm .0) (pageIn region k) ws) 0 (region .count) (t .sets)))
 
   pub control-shape : (operation : Operation) → SameShape t (control t operation .tables)

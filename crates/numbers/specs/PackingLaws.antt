@@ -151,11 +151,21 @@ module _ (left right page : ℕ) (l : left < 256) (r : right < 65536) (p : page 
   pub pair-page : pageOf (pairWord left right page) ≡ page
   pair-page = omega arith
 
+  -- it is filled, and the rest of it is 0
+  pub pair-filled : filledOf (pairWord left right page) ≡ 1
+  pair-filled = omega arith
+
+  pub pair-port : portOf (pairWord left right page) ≡ 0
+  pair-port = omega arith
+
+  pub pair-access : accessOf (pairWord left right page) ≡ 0
+  pair-access = omega arith
+
+  pub pair-generation : generationOf (pairWord left right page) ≡ 0
+  pair-generation = omega arith
+
   pub pair-key : pairKeyOf (pairWord left right page) ≡ pairKey left right page
-  pair-key = rw (pair-left, pair-right, pair-page, filled)
-    where
-      filled : filledOf (pairWord left right page) ≡ 1
-      filled = omega arith
+  pair-key = rw (pair-left, pair-right, pair-page, pair-filled)
 
 -- the order of the ends does not matter
 pub pair-either : (left right page : ℕ) → pairKey left right page ≡ pairKey right left page

@@ -22,14 +22,16 @@ has-later : (w : ℕ) (ws : List ℕ) (u : ℕ) → Has ws u → Has (w ∷ ws) 
 has-later w ws u r = record { spot = suc (r .spot); within = omega arith; holds = r .holds; filled = r .filled }
 
 module _ (keyOf : ℕ → ℕ) where
-  -- every word has a key above 0, as that of an empty one
+  -- every word that stands in the table has a key above 0
   abbrev pub Keyed : List ℕ → Type 0
   Keyed ws = (w : ℕ) → Has ws w → 0 < keyOf w
 
+  -- equal as maps
   abbrev pub Agree : List ℕ → List ℕ → Type 0
   Agree ws vs = (k : ℕ) → 0 < k → lookup keyOf ws k ≡ lookup keyOf vs k
 
   -- ---- room
+  -- where no key stands twice, no later word has the first one's
   later-differs : (w : ℕ) (ws : List ℕ) (u : ℕ) → Distinct keyOf (w ∷ ws) → Has ws u → 0 < keyOf u → keyOf u ≡ keyOf w → ⊥
   unfolding Distinct
   later-differs w ws u d r o e =
@@ -41,7 +43,7 @@ module _ (keyOf : ℕ → ℕ) where
   unfolding Distinct
   distinct-later w ws d i j l h = d (suc i) (suc j) (omega arith) (omega arith)
 
-  -- the words of one all stand in another, which therefore has no fewer of them
+  -- where the words of one table all stand in another, the other has no fewer of them
   abbrev Fewer : List ℕ → List ℕ → Type 0
   Fewer ws vs = ((w : ℕ) → Has ws w → Has vs w) → length ws + freeEntries vs ≤ length vs + freeEntries ws
 
@@ -63,6 +65,7 @@ module _ (keyOf : ℕ → ℕ) where
           let later = has-later w ws u r in
           has-set-keep keyOf vs (keyOf w) (s .spot) 0 u (inl (ap keyOf (s .holds))) (part u later) (later-differs w ws u d r (k u later))
 
+  -- so it is for any table with no key twice
   pub fewer-words : (ws vs : List ℕ) → Keyed ws → Distinct keyOf ws → ((w : ℕ) → Has ws w → Has vs w) → length ws + freeEntries vs ≤ length vs + freeEntries ws
   unfolding freeEntries
   fewer-words [] vs k d part = omega (arith, count-most isEmpty vs)
@@ -70,23 +73,24 @@ module _ (keyOf : ℕ → ℕ) where
       let ih : (us : List ℕ) → Fewer ws us = λ us. fewer-words ws us (λ u r. k u (has-later w ws u r)) (distinct-later w ws d) in
       ⊎-elim (λ e. first-empty w ws vs e (ih vs) part) (λ n. first-word w ws vs n k d (λ i. ih (set vs i 0)) part) (equal w 0)
 
+  -- a word of the second table stands in the first
+  pub agree-has : (ws vs : List ℕ) (w : ℕ) → Distinct keyOf vs → Agree ws vs → Has vs w → 0 < keyOf w → Has ws w
+  agree-has ws vs w d same r o =
+      let e = same (keyOf w) o ∙ has-lookup keyOf vs w d r o in
+      rw e at (lookup-has keyOf ws (keyOf w) (λ z. r .filled (sym e ∙ z)) .0)
+
+  -- of two tables of one length, the second has as much room as the first
+  pub agree-free : (ws vs : List ℕ) → length vs ≡ length ws → Keyed vs → Distinct keyOf vs → Agree ws vs → freeEntries ws ≤ freeEntries vs
+  agree-free ws vs l k d same = omega (arith, fewer-words vs ws k d (λ w r. agree-has ws vs w d same r (k w r)))
+
   -- ---- where the empty word has key 0
   module _ (empty : keyOf 0 ≡ 0) where
-    -- a word of the second table stands in the first
-    pub agree-has : (ws vs : List ℕ) (w : ℕ) → Distinct keyOf vs → Agree ws vs → Has vs w → 0 < keyOf w → Has ws w
-    agree-has ws vs w d same r o =
-        let e = same (keyOf w) o ∙ has-lookup keyOf vs w d r o in
-        rw e at (lookup-has keyOf ws (keyOf w) (λ z. r .filled (sym e ∙ z)) .0)
-
-    -- of two tables of one length, the second has as much room as the first
-    pub agree-free : (ws vs : List ℕ) → length vs ≡ length ws → Keyed vs → Distinct keyOf vs → Agree ws vs → freeEntries ws ≤ freeEntries vs
-    agree-free ws vs l k d same = omega (arith, fewer-words vs ws k d (λ w r. agree-has ws vs w d same r (k w r)))
-
+    -- a key that the second lacks the first lacks
     pub agree-none : (ws vs : List ℕ) (k : ℕ) → 0 < k → Agree ws vs → find keyOf vs k ≡ Nothing → find keyOf ws k ≡ Nothing
     unfolding lookup
     agree-none ws vs k o same e = lookup-nothing keyOf empty ws k o (same k o ∙ rw e)
 
-    -- and a place for a key where the first has one
+    -- the second has a place for a key where the first has one
     pub agree-place : (ws vs : List ℕ) (k i : ℕ) → 0 < k → length vs ≡ length ws → Keyed vs → Distinct keyOf vs → Agree ws vs → place keyOf ws k ≡ At i → (j : ℕ) × (place keyOf vs k ≡ At j)
     agree-place ws vs k i o l keys d same p =
         place-room keyOf vs k
