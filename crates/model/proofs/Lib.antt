@@ -9,6 +9,9 @@ pub mod UpstreamRoutes
 pub mod UpstreamMaps
 pub mod UpstreamPorts
 pub mod UpstreamAccess
+pub mod UpstreamRegionViews
+pub mod UpstreamRegionSets
+pub mod UpstreamRegions
 pub mod Rows
 pub mod Worked
 pub mod Repeats

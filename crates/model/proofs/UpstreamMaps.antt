@@ -45,7 +45,7 @@ use Rattle.model.proofs.UpstreamRoutes.{shown, with-own, map-of, walk-o
 
 -- ---- what the views show after an edit
 -- the entry of a word just made
-entry-shown : (vm gpa page access generation : ℕ) → vm < VMS → gpa < GUEST-PAGES → page < PAGES → access < ACCESSES → generation < GENERATIONS → seen (mapWord vm gpa (entry page access generation)) ≡ some (entryOf page access generation)
+pub entry-shown : (vm gpa page access generation : ℕ) → vm < VMS → gpa < GUEST-PAGES → page < PAGES → access < ACCESSES → generation < GENERATIONS → seen (mapWord vm gpa (entry page access generation)) ≡ some (entryOf page access generation)
 entry-shown vm gpa page access generation v g p a n =
     let v′ : vm < 256 = omega arith in
     let p′ : page < 4096 = omega arith in

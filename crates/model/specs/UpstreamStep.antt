@@ -172,20 +172,16 @@ module _ (assignable : Region → Bool) where
     pub installed : (vm gpa : ℕ) → vm < VMS → gpa < GUEST-PAGES → isSome (entriesOf region vm gpa) ≡ true → s .iommu-s2-map vm gpa ≡ entriesOf region vm gpa
     pub no-other : (vm gpa : ℕ) (e : S2Entry) → vm < VMS → gpa < GUEST-PAGES → s .iommu-s2-map vm gpa ≡ some e → isSome (entriesOf region vm gpa) ≡ false → pagesOf region (e .page) ≡ false
 
--- a VM's set with the region's pages, and without them; for CPU they leave the pool and come back to it
+-- a set with the region's pages, and without them; a DMA region leaves the pool alone
 abbrev pub withPages : (ℕ → Bool) → Region → ℕ → Bool
 withPages set region page = pagesOf region page || set page
 
 abbrev pub withoutPages : (ℕ → Bool) → Region → ℕ → Bool
 withoutPages set region page = not (pagesOf region page) && set page
 
-abbrev pub poolAfterInsert : Side → SoftwareView → Region → SoftwareView
-poolAfterInsert Cpu s region = withPool s (withoutPages (s .hypervisor-owned) region)
-poolAfterInsert Dma s region = s
-
-abbrev pub poolAfterRemove : Side → SoftwareView → Region → SoftwareView
-poolAfterRemove Cpu s region = withPool s (withPages (s .hypervisor-owned) region)
-poolAfterRemove Dma s region = s
+abbrev pub withPoolOf : Side → SoftwareView → (ℕ → Bool) → SoftwareView
+withPoolOf Cpu s pool = withPool s pool
+withPoolOf Dma s pool = s
 
 abbrev pub InsertEnabled : (Region → Bool) → Side → Region → SoftwareView → Type 0
 InsertEnabled assignable Cpu region s = InsertRegionEnabled assignable region s
@@ -197,11 +193,11 @@ RemoveEnabled assignable Dma region s = IommuRemoveRegionEnabled assignable regi
 
 pub record InsertRegionStep (assignable : Region → Bool) (side : Side) (region : Region) (s s′ : SoftwareView) : Type 0 where
   pub enabled : InsertEnabled assignable side region s
-  pub next : SameSoftware s′ (withMapOf side (withSetsOf side (poolAfterInsert side s region) (withSet (setsOf side s) (region .vm .0) (withPages (setsOf side s .pages (region .vm .0)) region))) (unionRight (mapOf side s) (entriesOf region)))
+  pub next : SameSoftware s′ (withMapOf side (withSetsOf side (withPoolOf side s (withoutPages (s .hypervisor-owned) region)) (withSet (setsOf side s) (region .vm .0) (withPages (setsOf side s .pages (region .vm .0)) region))) (unionRight (mapOf side s) (entriesOf region)))
 
 pub record RemoveRegionStep (assignable : Region → Bool) (side : Side) (region : Region) (s s′ : SoftwareView) : Type 0 where
   pub enabled : RemoveEnabled assignable side region s
-  pub next : SameSoftware s′ (withMapOf side (withSetsOf side (poolAfterRemove side s region) (withSet (setsOf side s) (region .vm .0) (withoutPages (setsOf side s .pages (region .vm .0)) region))) (withoutKeys (mapOf side s) (entriesOf region)))
+  pub next : SameSoftware s′ (withMapOf side (withSetsOf side (withPoolOf side s (withPages (s .hypervisor-owned) region)) (withSet (setsOf side s) (region .vm .0) (withoutPages (setsOf side s .pages (region .vm .0)) region))) (withoutKeys (mapOf side s) (entriesOf region)))
 
 -- ---- hardware: tlb and s2map for CPU, iommu_tlb and iommu_s2map for DMA
 abbrev pub walkOf : Side → HardwareView → S2Map
