@@ -12,6 +12,7 @@ pub mod UpstreamAccess
 pub mod UpstreamRegionViews
 pub mod UpstreamRegionSets
 pub mod UpstreamRegions
+pub mod UpstreamSteps
 pub mod Rows
 pub mod Worked
 pub mod Repeats

@@ -1,6 +1,6 @@
 -- What the views show after a region's edits: of tables and caches, and of the page sets.
 use Prim.Native.Nat.{ℕ, zero, suc, _+_, _-_, _≤_, _<_}
-use mathlib.Core.Bool.{Bool, true, false, not, _&&_, _||_, true≢false, and-assoc}
+use mathlib.Core.Bool.{Bool, true, false, not, _&&_, _||_, true≢false, and-assoc, and-or-distrib-left}
 use mathlib.Core.List.{List, [], _∷_}
 use mathlib.Core.Logic.{_⊎_, inl, inr, ⊎-elim}
 use mathlib.Core.Option.{Option, none, some}
@@ -21,10 +21,12 @@ use Rattle.table.specs.Table.{freeEntries, lookup, put, Distinct}
 use Rattle.table.specs.TableLaws.{lookup-has, lookup-put-same, lookup-put-other, place-room, free-put}
 use Rattle.table.specs.AgreeLaws.{lookup-wipe}
 use Rattle.units.specs.declared.Region.{Region}
+use Rattle.model.specs.Views.{isFilled}
 use Rattle.model.specs.EarlyLaws.{both, RegionPassed}
 use Rattle.model.specs.Regions.{guestIn, pageIn, keyIn, regionEntry, inRegion, insertTable, removeTable}
 use Rattle.model.specs.Start.{inSpan}
-use Rattle.model.specs.Upstream.{isSome, entriesOf, pagesOf, unionRight, withoutKeys, seen, mapSeen, tlbSeen, SameS2Map}
+use Rattle.model.specs.Upstream.{isSome, mapAt, flushed, entriesOf, pagesOf, unionRight, withoutKeys, seen, mapSeen, tlbSeen, SameS2Map}
+use Rattle.model.proofs.ViewLaws.{not-so}
 use Rattle.model.proofs.Repeats.{repeat-keeps}
 use Rattle.model.proofs.RoutesKept.{entry-key}
 use Rattle.model.proofs.UpstreamMaps.{entry-shown}
@@ -156,3 +158,57 @@ module _ (known pages : ℕ) (region : Region) (early : RegionPassed known pages
           none-here j l e =
               let q = key-same (region .vm .0) (guestIn region j) vm gpa (guest-below j l) g e in
               true≢false (sym (rw (eq-eqb vm (region .vm .0) (sym (q .0))) (span-in (region .guest .0) (region .count) gpa (omega (arith, q .1)) (omega (arith, q .1)))) ∙ f)
+
+-- ---- the first k pages of a region, and one more
+abbrev pub upTo : Region → ℕ → Region
+upTo region k = record { vm = region .vm; guest = region .guest; page = region .page; count = k; access = region .access }
+
+wipe-none : (p : ℕ → Bool) → ((w : ℕ) → p w ≡ false) → (ws : List ℕ) → wipe p ws ≡ ws
+wipe-none p none-passes [] = refl
+wipe-none p none-passes (w ∷ ws) = rw (none-passes w, wipe-none p none-passes ws)
+
+-- no pages, no words
+outside-none : (region : Region) (w : ℕ) → inRegion (upTo region 0) w ≡ false
+outside-none region w =
+    let low = leb (region .guest .0) (guestOf w) in
+    let high = ltb (guestOf w) (region .guest .0 + 0) in
+    let mine = isFilled w && eqb (vmOf w) (region .vm .0) in
+    not-so (mine && low && high)
+    (λ t.
+    let (a, b) = both (mine && low) high t in
+    let (c, d) = both mine low a in
+    let l = leb-true (region .guest .0) (guestOf w) d in
+    let h = ltb-true (guestOf w) (region .guest .0 + 0) b in
+    omega arith)
+
+pub removed-none : (region : Region) (ws : List ℕ) → removeTable ws (upTo region 0) ≡ ws
+unfolding removeTable
+removed-none region ws = wipe-none (inRegion (upTo region 0)) (outside-none region) ws
+
+span-more : (base k n : ℕ) → inSpan base (suc k) n ≡ (eqb n (base + k) || inSpan base k n)
+span-more base k n = ⊎-elim (λ q. rw (eq-eqb n (base + k) q) (span-in base (suc k) n (omega arith) (omega arith))) other (equal n (base + k))
+  where
+    other : (n ≡ base + k → ⊥) → inSpan base (suc k) n ≡ (eqb n (base + k) || inSpan base k n)
+    other d = rw (ne-eqb n (base + k) d) (⊎-elim (λ t. rw t (span-in base (suc k) n (in-span base k n t .0) (omega (arith, in-span base k n t .1)))) less (cases (inSpan base k n)))
+      where
+        less : inSpan base k n ≡ false → inSpan base (suc k) n ≡ inSpan base k n
+        less f = rw f (not-so _ (λ t. let (l, h) = in-span base (suc k) n t in true≢false (sym (span-in base k n l (omega arith)) ∙ f)))
+
+entry-more : (region : Region) (k vm gpa : ℕ) → hasEntry (upTo region (suc k)) vm gpa ≡ ((eqb vm (region .vm .0) && eqb gpa (guestIn region k)) || hasEntry (upTo region k) vm gpa)
+entry-more region k vm gpa = rw (span-more (region .guest .0) k gpa) (and-or-distrib-left (eqb vm (region .vm .0)) _ _)
+
+none-either : {A : Type 0} (a b : Bool) (x : Option A) → (if a || b then none else x) ≡ (if a then none else if b then none else x)
+none-either true b x = refl
+none-either false b x = refl
+
+-- one page more is one key unmapped, in a walker and in a cache
+module _ (region : Region) (k vm gpa : ℕ) (v : vm < VMS) (g : gpa < GUEST-PAGES) where
+  pub map-wiped-more : (table : List ℕ) → Distinct keyOf table → mapSeen (removeTable table (upTo region (suc k))) vm gpa ≡ mapAt (mapSeen (removeTable table (upTo region k))) (region .vm .0) (guestIn region k) none vm gpa
+  map-wiped-more table once =
+      map-wiped (upTo region (suc k)) table vm gpa once v g
+      ∙ rw (entry-more region k vm gpa, map-wiped (upTo region k) table vm gpa once v g) (none-either (eqb vm (region .vm .0) && eqb gpa (guestIn region k)) _ _)
+
+  pub tlb-wiped-more : (cache : List ℕ) (port : ℕ) → Distinct keyOf cache → tlbSeen (removeTable cache (upTo region (suc k))) port vm gpa ≡ flushed (tlbSeen (removeTable cache (upTo region k))) (region .vm .0) (guestIn region k) port vm gpa
+  tlb-wiped-more cache port once =
+      tlb-wiped (upTo region (suc k)) cache port vm gpa once v g
+      ∙ rw (entry-more region k vm gpa, tlb-wiped (upTo region k) cache port vm gpa once v g) (none-either (eqb vm (region .vm .0) && eqb gpa (guestIn region k)) _ _)

@@ -13,10 +13,14 @@ use Rattle.numbers.specs.Limits.{VMS, GUEST-PAGES, PAGES}
 use Rattle.numbers.specs.Packing.{key, keyOf, pageOf, leftOf, rightOf, filledOf}
 use Rattle.numbers.specs.PackingLaws.{key-same}
 use Rattle.numbers.specs.declared.Answer.the-variants.{Accepted}
+use Rattle.numbers.specs.declared.VmId.{VmId}
+use Rattle.numbers.specs.declared.GuestPage.{GuestPage}
+use Rattle.numbers.specs.declared.PhysPage.{PhysPage}
+use Rattle.numbers.specs.declared.Operation.the-variants.{InsertRegion, RemoveRegion, DmaInsertRegion, DmaRemoveRegion}
 use Rattle.numbers.specs.declared.Side.{Side}
 use Rattle.numbers.specs.declared.Side.the-variants.{Cpu, Dma}
 use Rattle.table.specs.ScanLaws.{cases, equal}
-use Rattle.table.specs.Table.{find, lookup, put, isFound, freeEntries, Has}
+use Rattle.table.specs.Table.{find, lookup, put, isFound, freeEntries, Has, Distinct}
 use Rattle.table.specs.TableLaws.{lookup-has, lookup-put-other, place-room, free-put}
 use Rattle.table.specs.Scan.{repeat}
 use Rattle.units.specs.Units.{assignable}
@@ -24,24 +28,27 @@ use Rattle.units.specs.declared.Region.{Region}
 use Rattle.units.specs.declared.Unit.{Unit}
 use Rattle.model.specs.State.{Tables, Route, State, route, withRoute, withSets, withMaps}
 use Rattle.model.specs.Maps.{mapTable}
-use Rattle.model.specs.Views.{knows, inPool, inShared, owns, claims, claimedElsewhere, edgeOn, targeted, butKey}
+use Rattle.model.specs.Views.{knows, inPool, inShared, owns, claims, claimedElsewhere, paired, edgeOn, targeted, butKey}
 use Rattle.model.specs.EarlyLaws.{past, then-passed, RegionPassed}
-use Rattle.model.specs.Regions.{guestIn, pageIn, keyIn, regionEntry, regionEarly, present, claimed, differs, insertAnswer, insertSets, insertTable, removeAnswer, removeSets, removeTable}
-use Rattle.model.specs.Step.{insertRoute, removeRoute}
-use Rattle.model.specs.Valid.{MapGood, ValidTables}
-use Rattle.model.specs.Upstream.{S2Entry, isSome, entriesOf, pagesOf, seen, mapSeen, softwareView}
-use Rattle.model.specs.UpstreamStep.{withPages, withoutPages, InsertRegionEnabled, IommuInsertRegionEnabled, InsertEnabled, InsertRegionStep, HardwareMapStep}
-use Rattle.model.specs.UpstreamRun.{HardwareRun, stop, go, entryOf, insertCalls}
-use Rattle.model.proofs.ViewLaws.{neither, not-so, not-elsewhere, not-targeted}
+use Rattle.model.specs.Regions.{guestIn, pageIn, keyIn, regionEntry, regionEarly, present, claimed, notHeld, differs, insertAnswer, insertSets, insertTable, removeAnswer, removeSets, removeTable, removeClears}
+use Rattle.model.specs.Step.{regionOf, insertRoute, insertControl, removeRoute, removeControl, control, step}
+use Rattle.model.specs.Effect.{quiet, clears, decided, apply, clearedPages}
+use Rattle.model.specs.Valid.{SameMap, MapGood, ValidTables}
+use Rattle.model.specs.Upstream.{S2Entry, isSome, entriesOf, pagesOf, seen, mapSeen, HardwareView, softwareView}
+use Rattle.model.specs.UpstreamStep.{withPages, withoutPages, InsertRegionEnabled, IommuInsertRegionEnabled, InsertEnabled, InsertRegionStep, RemoveEnabled, RemoveRegionStep, HardwareMapStep, UnmapInvalidateStep}
+use Rattle.model.specs.UpstreamRun.{HardwareCall, insert-region, remove-region, HardwareRun, stop, go, entryOf, insertCalls, removeCalls, clearCalls, Follows, FollowsUpstream}
+use Rattle.model.proofs.ViewLaws.{neither, not-so, not-elsewhere, not-targeted, no-edge-on}
 use Rattle.model.proofs.OneRoute.{route-of, maps-of}
-use Rattle.model.proofs.RegionLaws.{NoneFails, InsertPassed, insert-passed}
+use Rattle.model.proofs.RoutesKept.{maps-free}
+use Rattle.model.proofs.RegionLaws.{NoneFails, InsertPassed, insert-passed, RemovePassed, remove-passed}
 use Rattle.model.proofs.RegionSets.{Turned, insert-sets, remove-sets}
 use Rattle.model.proofs.UpstreamLaws.{map-found, seen-some, seen-filled, found-looked}
-use Rattle.model.proofs.UpstreamFollows.{same-software, same-hardware, software-once}
+use Rattle.model.proofs.UpstreamFollows.{same-hardware, software-once, decided-follows}
+use Rattle.model.proofs.UpstreamMemory.{clear-run}
 use Rattle.model.proofs.UpstreamMaps.{put-seen}
-use Rattle.model.proofs.UpstreamWf.{pool-no-span}
+use Rattle.model.proofs.UpstreamWf.{pool-no-span, edge-pair}
 use Rattle.model.proofs.UpstreamRoutes.{shown, with-own, map-of, walk-of, tlb-of, route-hardware}
-use Rattle.model.proofs.UpstreamRegionViews.{span-in, page-place, entry-in, hasEntry, entry-some, key-place, entry-key-in, keys-apart, insert-seen}
+use Rattle.model.proofs.UpstreamRegionViews.{span-in, page-place, entry-in, hasEntry, entry-some, key-place, entry-key-in, keys-apart, insert-seen, map-wiped, upTo, removed-none, map-wiped-more, tlb-wiped-more}
 use Rattle.model.proofs.UpstreamRegionSets.{claims-given, claims-taken, pool-given, pool-taken, pool-left, pool-kept, poolNow, sets-of, region-software}
 
 -- ---- the unit
@@ -203,3 +210,127 @@ module _ (t : Tables) (valid : ValidTables t) (region : Region) (early : RegionP
           let differs : keyOf w ≡ keyIn region k → ⊥ = λ z. let (a, b) = key-same vm gpa (region .vm .0) (guestIn region k) g (omega (arith, early .guest-ok)) (sym key-is ∙ z) in
           true≢false (sym (rw (a, b) (rw (eq-eqb (region .vm .0) (region .vm .0) refl) (span-in (region .guest .0) (region .count) (guestIn region k) (omega arith) (omega arith)))) ∙ sym (entry-some region vm gpa) ∙ f) in
           not-targeted (butKey (keyIn region k)) table (pageIn region k) w (unused k h) there (rw (ne-eqb (keyOf w) (keyIn region k) differs)) (good .each w there .filled) (ap (λ (x : S2Entry). x .page) same ∙ sym i)
+
+  owned-pages : (side : Side) → NoneFails (notHeld side (t .sets) region) region → (page : ℕ) → pagesOf region page ≡ true → claims side (t .sets) (region .vm .0) page ≡ true
+  owned-pages side held page e = let (k, h, q) = page-place region page e in rw q at (not-false (claims side (t .sets) (region .vm .0) (pageIn region k)) (held k h))
+
+  remove-enabled : (side : Side) → RemovePassed side (t .known) (t .setup .pages) (t .sets) (t .pairs) (route side t .map) region → (assign : Region → Bool) → assign region ≡ true → RemoveEnabled assign side region (softwareView t)
+  remove-enabled Cpu p assign unit =
+      let split : (k : ℕ) → k < region .count → (targeted (butKey (keyIn region k)) (t .cpu .map) (pageIn region k) ≡ false) × (edgeOn (t .pairs) (pageIn region k) ≡ false) = λ k h. neither _ _ (p .unused k h) in
+      record {
+        wf = early .some-page;
+        known = early .knows-vm;
+        assign = unit;
+        owned = λ page h e. owned-pages Cpu (p .held) page e;
+        installed = λ vm gpa v g e. has-entries (t .cpu .map) (p .mapped) vm gpa e;
+        no-other = no-others Cpu (t .cpu .map) (valid .cpu .map) (λ k h. split k h .0);
+        no-edge = λ left right page l r h e. not-so _ (λ x. let (k, b, q) = page-place region page x in edge-free left right page k l r h e q (split k b .1));
+      }
+    where
+      edge-free : (left right page k : ℕ) → left < VMS → right < VMS → page < PAGES → paired (t .pairs) left right page ≡ true → pageIn region k ≡ page → edgeOn (t .pairs) (pageIn region k) ≡ false → ⊥
+      edge-free left right page k l r h e q f =
+          let (w, i, good, same) = edge-pair t valid left right page l r h e in
+          let on : pageOf w ≡ page = ⊎-elim (λ x. x .2) (λ x. x .2) same in
+          no-edge-on (t .pairs) (pageIn region k) w f i (good .filled) (on ∙ sym q)
+  remove-enabled Dma p assign unit =
+      record {
+        wf = early .some-page;
+        known = early .knows-vm;
+        assign = unit;
+        owned = λ page h e. owned-pages Dma (p .held) page e;
+        installed = λ vm gpa v g e. has-entries (t .dma .map) (p .mapped) vm gpa e;
+        no-other = no-others Dma (t .dma .map) (valid .dma .map) (p .unused);
+      }
+
+  -- ---- remove: the software step
+  remove-turned : (side : Side) → NoneFails (notHeld side (t .sets) region) region →
+      Turned side false (t .setup .pages) (t .setup .sharedBase) (t .setup .sharedCount) (t .known) region (t .sets) (region .count) (removeSets side (t .sets) region)
+  remove-turned side held =
+      remove-sets (t .setup .pages) (t .setup .sharedBase) (t .setup .sharedCount) (t .known) (t .sets) region (valid .lengths .sets) (valid .setup .most-pages) early (valid .pages) side held
+
+  remove-pool : (side : Side) → NoneFails (notHeld side (t .sets) region) region → (page : ℕ) → page < PAGES → inPool (removeSets side (t .sets) region) page ≡ poolNow side (inPool (t .sets)) (withPages (inPool (t .sets)) region) page
+  remove-pool Cpu held =
+      let r = remove-turned Cpu held in
+      pool-taken (t .setup .pages) (t .setup .sharedBase) (t .setup .sharedCount) (t .known) region (early .vm-ok) (early .page-ok) (t .sets) _ (valid .pages) (r .good) (owned-pages Cpu held) (r .edited)
+  remove-pool Dma held = pool-kept region (omega (arith, early .page-ok, valid .setup .most-pages)) (t .sets)
+
+  remove-step : (side : Side) (assign : Region → Bool) → assign region ≡ true → RemovePassed side (t .known) (t .setup .pages) (t .sets) (t .pairs) (route side t .map) region →
+      RemoveRegionStep assign side region (softwareView t) (softwareView (withSets (withRoute side t (removeRoute (route side t) region)) (removeSets side (t .sets) region)))
+  remove-step side assign unit p =
+      let r = remove-turned side (p .held) .edited in
+      let once = route-of side t valid .map .once in
+      record {
+        enabled = remove-enabled side p assign unit;
+        next =
+            rw (sets-of side t, map-of side t)
+            (region-software t (removeRoute (route side t) region) (removeSets side (t .sets) region) (region .vm .0) (early .knows-vm) _ _ _
+            (λ vm gpa v g. map-wiped region (route side t .map) vm gpa once v g ∙ rw (entry-some region vm gpa)) (r .shared) side (claims-taken side region (t .sets) _ r)
+            (λ s other page h n. r .outside s other page h (λ e q. absurd (n e q))) (remove-pool side (p .held)));
+      }
+
+-- ---- remove: one hardware step for each page, then what follows
+module _ (side : Side) (t : Tables) (memory : List ℕ) (r : Route) (region : Region) (once : Distinct keyOf (r .walker)) (once′ : Distinct keyOf (r .cache)) where
+  unmap-one : (k : ℕ) → UnmapInvalidateStep side (region .vm .0) (guestIn region k) (shown side t memory (removeRoute r (upTo region k))) (shown side t memory (removeRoute r (upTo region (suc k))))
+  unmap-one k =
+      rw (walk-of side t memory (removeRoute r (upTo region k)), tlb-of side t memory (removeRoute r (upTo region k)))
+      (route-hardware side t memory (removeRoute r (upTo region k)) (removeRoute r (upTo region (suc k))) _ _ refl
+      (λ vm gpa v g. map-wiped-more region k vm gpa v g (r .walker) once)
+      (λ port vm gpa c v g. tlb-wiped-more region k vm gpa v g (r .cache) port once′))
+
+  remove-from : (k n : ℕ) → k + n ≡ region .count → (calls : List HardwareCall) (h : HardwareView) → HardwareRun calls (shown side t memory (removeRoute r region)) h →
+      HardwareRun (removeCalls side region k n ++ calls) (shown side t memory (removeRoute r (upTo region k))) h
+  remove-from k zero e calls h rest = let q : k ≡ region .count = omega arith in rw q rest
+  remove-from k (suc n) e calls h rest = go (unmap-one k) (remove-from (suc k) n (omega arith) calls h rest)
+
+  pub remove-run : (calls : List HardwareCall) (h : HardwareView) → HardwareRun calls (shown side t memory (removeRoute r region)) h → HardwareRun (removeCalls side region 0 (region .count) ++ calls) (shown side t memory r) h
+  remove-run calls h rest =
+      rw (removed-none region (r .map), removed-none region (r .walker), removed-none region (r .cache)) at (remove-from 0 (region .count) (omega arith) calls h rest)
+
+-- ---- the operations
+module _ (side : Side) (s : State) (valid : ValidTables (s .tables)) (region : Region) where
+  insert-follows : {dropped word : ℕ} → insertAnswer side (s .tables .known) (s .tables .setup .pages) (s .tables .setup .units) (s .tables .setup .unitCount) (s .tables .sets) (route side (s .tables) .map) region ≡ Accepted dropped word →
+      Follows s (record { tables = withSets (withRoute side (s .tables) (insertRoute (route side (s .tables)) region)) (insertSets side (s .tables .sets) region); memory = s .memory }) (insert-region side region ∷ []) (insertCalls side region 0 (region .count))
+  unfolding SameMap
+  insert-follows e =
+      let t = s .tables in
+      let p = insert-passed side (t .known) (t .setup .pages) (t .setup .units) (t .setup .unitCount) (t .sets) (route side t .map) region e in
+      let m = maps-of side t valid in
+      let unit = insert-unit side (t .known) (t .setup .pages) (t .setup .units) (t .setup .unitCount) (t .sets) (route side t .map) region e in
+      let room : region .count ≤ freeEntries (route side t .walker) = omega (arith, p .room, maps-free side (t .setup .pages) (t .known) (t .sets) (t .pairs) (route side t .map) (route side t .walker) m) in
+      let absent : NoneFails (present (route side t .walker) region) region = λ k h. found-looked keyOf refl (route side t .walker) (keyIn region k) (omega arith) ∙ rw (← m .same (keyIn region k) (omega arith)) (sym (found-looked keyOf refl (route side t .map) (keyIn region k) (omega arith)) ∙ p .absent k h) in
+      record {
+        software = software-once (insert-step t valid region side (assignable (t .setup .units) (t .setup .unitCount) side) unit p);
+        hardware = rw (with-own side t) at (insert-run side t (s .memory) (route side t) (t .known) (t .setup .pages) region (p .early) (valid .setup .most-pages) room absent);
+      }
+
+  remove-follows : {dropped word : ℕ} → removeAnswer side (s .tables .known) (s .tables .setup .pages) (s .tables .setup .units) (s .tables .setup .unitCount) (s .tables .sets) (s .tables .pairs) (route side (s .tables) .map) (route side (s .tables) .cache) region ≡ Accepted dropped word →
+      Follows s (record { tables = withSets (withRoute side (s .tables) (removeRoute (route side (s .tables)) region)) (removeSets side (s .tables .sets) region); memory = clearedPages (removeClears side (s .tables .sets) region) (s .memory) }) (remove-region side region ∷ []) (removeCalls side region 0 (region .count) ++ clearCalls (removeClears side (s .tables .sets) region))
+  remove-follows e =
+      let t = s .tables in
+      let r = route side t in
+      let p = remove-passed side (t .known) (t .setup .pages) (t .setup .units) (t .setup .unitCount) (t .sets) (t .pairs) (r .map) (r .cache) region e in
+      let unit = remove-unit side (t .known) (t .setup .pages) (t .setup .units) (t .setup .unitCount) (t .sets) (t .pairs) (r .map) (r .cache) region e in
+      let good = route-of side t valid in
+      record {
+        software = software-once (remove-step t valid region (p .early) side (assignable (t .setup .units) (t .setup .unitCount) side) unit p);
+        hardware =
+            rw (with-own side t) at
+            (remove-run side t (s .memory) r region (good .walker .once) (good .cache .once) _ _ (clear-run (withRoute side t (removeRoute r region)) (removeClears side (t .sets) region) (s .memory)));
+      }
+
+module _ (s : State) (valid : ValidTables (s .tables)) (vm : VmId) (guest : GuestPage) (page : PhysPage) (count access : ℕ) where
+  pub insert-region-follows : FollowsUpstream s (InsertRegion vm guest page count access)
+  unfolding control insertControl step decided apply clearedPages
+  insert-region-follows = decided-follows s _ _ quiet _ _ (λ dropped word e. insert-follows Cpu s valid (regionOf vm guest page count access) e)
+
+  pub remove-region-follows : FollowsUpstream s (RemoveRegion vm guest page count access)
+  unfolding control removeControl step decided apply
+  remove-region-follows = decided-follows s _ _ (clears (removeClears Cpu (s .tables .sets) (regionOf vm guest page count access))) _ _ (λ dropped word e. remove-follows Cpu s valid (regionOf vm guest page count access) e)
+
+  pub dma-insert-region-follows : FollowsUpstream s (DmaInsertRegion vm guest page count access)
+  unfolding control insertControl step decided apply clearedPages
+  dma-insert-region-follows = decided-follows s _ _ quiet _ _ (λ dropped word e. insert-follows Dma s valid (regionOf vm guest page count access) e)
+
+  pub dma-remove-region-follows : FollowsUpstream s (DmaRemoveRegion vm guest page count access)
+  unfolding control removeControl step decided apply
+  dma-remove-region-follows = decided-follows s _ _ (clears (removeClears Dma (s .tables .sets) (regionOf vm guest page count access))) _ _ (λ dropped word e. remove-follows Dma s valid (regionOf vm guest page count access) e)
