@@ -1,8 +1,8 @@
 -- Operations 21 to 24 are upstream's memory steps, at the one word that the translation gives.
-use Prim.Native.Nat.{ℕ, _+_, _*_, _<_}
-use mathlib.Core.Bool.{true, not, _&&_}
-use mathlib.Core.List.{List, [], _∷_}
-use mathlib.Core.Path.{_≡_, refl, sym, _∙_}
+use Prim.Native.Nat.{ℕ, _<_}
+use mathlib.Core.Bool.{not, _&&_}
+use mathlib.Core.List.{List}
+use mathlib.Core.Path.{_≡_, refl}
 use native.Mathlib.Omega.{arith}
 use lib.ListN.{length, set}
 use borrow.Author.Tests.{ltb-true}
@@ -12,9 +12,9 @@ use Rattle.numbers.specs.declared.GuestPage.{GuestPage}
 use Rattle.numbers.specs.declared.Operation.the-variants.{CpuRead, DmaRead, CpuWrite, DmaWrite}
 use Rattle.numbers.specs.declared.Side.{Side}
 use Rattle.numbers.specs.declared.Side.the-variants.{Cpu, Dma}
-use Rattle.model.specs.State.{Route, State, route}
+use Rattle.model.specs.State.{State, route}
 use Rattle.model.specs.Views.{isPort, isGuest, isWord}
-use Rattle.model.specs.Effect.{reads, writes, decided, apply, stored, clearedPages}
+use Rattle.model.specs.Effect.{decided, apply, stored}
 use Rattle.model.specs.EarlyLaws.{past, hold}
 use Rattle.model.specs.Valid.{Valid}
 use Rattle.model.specs.Access.{accessAnswer}

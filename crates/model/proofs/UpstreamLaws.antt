@@ -1,6 +1,6 @@
 -- What the views show of words, keys and pairs.
-use Prim.Native.Nat.{ℕ, _+_, _*_, _/_, _%_, _^_, _≤_, _<_, min, max}
-use mathlib.Core.Bool.{Bool, true, false, not, _&&_, _||_, true≢false, or-true}
+use Prim.Native.Nat.{ℕ, _+_, _*_, _/_, _^_, _≤_, _<_, min, max, _%_}
+use mathlib.Core.Bool.{true, false, not, _&&_, _||_, true≢false, or-true}
 use mathlib.Core.List.{List}
 use mathlib.Core.Logic.{_⊎_, inl, inr, ⊎-elim}
 use mathlib.Core.Option.{Option, none, some}
@@ -8,12 +8,12 @@ use mathlib.Core.Path.{_≡_, refl, sym, ap, _∙_}
 use native.Mathlib.Nat.{div-eq-of-lt}
 use native.Mathlib.Omega.{arith}
 use lib.Dec.{eqb, ltb}
-use lib.ListN.{length, getD}
+use lib.ListN.{getD}
 use lib.Pow.{pow-mono}
 use borrow.Author.Tests.{eqb-true, eqb-false, eq-eqb, ne-eqb, ltb-true, ltb-false, not-true}
-use Rattle.numbers.specs.Limits.{VMS, GUEST-PAGES, PAGES}
-use Rattle.numbers.specs.Packing.{key, keyOf, slotKey, addressOf, pairKey, pairKeyOf, portOf, vmOf, guestOf, entryOf, filledOf, leftOf, rightOf, pageOf, accessOf, generationOf}
-use Rattle.numbers.specs.PackingLaws.{pair-either, key-same}
+use Rattle.numbers.specs.Limits.{VMS, GUEST-PAGES, PAGES, ACCESSES, READ, WRITE}
+use Rattle.numbers.specs.Packing.{key, keyOf, slotKey, addressOf, pairKey, portOf, vmOf, guestOf, entryOf, filledOf, pageOf, accessOf, generationOf}
+use Rattle.numbers.specs.PackingLaws.{pair-either, pair-same, key-same}
 use Rattle.table.specs.ScanLaws.{cases, equal, found-never}
 use Rattle.table.specs.Table.{find, lookup, place, put, erase, isFound, wordAt, Has}
 use Rattle.table.specs.TableLaws.{find-none, lookup-has, lookup-nothing, lookup-put-same, lookup-put-other, lookup-erase-same, lookup-erase-other}
@@ -21,7 +21,7 @@ use Rattle.table.specs.declared.Found.{Found}
 use Rattle.table.specs.declared.Found.the-variants.{At, Nothing}
 use Rattle.model.specs.EarlyLaws.{both}
 use Rattle.model.specs.Views.{knows}
-use Rattle.model.specs.Upstream.{S2Entry, entryIn, seen, mapSeen, isSome}
+use Rattle.model.specs.Upstream.{AccessPerms, S2Entry, permsOf, entryIn, seen, mapSeen, isSome}
 use Rattle.model.specs.UpstreamStep.{isEdge}
 use Rattle.model.proofs.ViewLaws.{either, not-so}
 
@@ -113,13 +113,10 @@ slot-key-same port vm gpa port′ vm′ gpa′ v v′ g g′ e =
 abbrev pub SamePair : ℕ → ℕ → ℕ → ℕ → ℕ → ℕ → Type 0
 SamePair left right page l r p = ((left ≡ l) × (right ≡ r) × (page ≡ p)) ⊎ ((left ≡ r) × (right ≡ l) × (page ≡ p))
 
-pub pair-same : (left right page l r p : ℕ) → right < 65536 → left < 65536 → r < 65536 → l < 65536 → page < 4096 → p < 4096 → pairKey left right page ≡ pairKey l r p → SamePair left right page l r p
-pair-same left right page l r p a b c d h h′ e =
-    let f : min left right * 65536 + max left right ≡ min l r * 65536 + max l r = omega arith in
-    let g : page ≡ p = omega arith in
-    let i : min left right ≡ min l r = omega arith in
-    let j : max left right ≡ max l r = omega arith in
-    ⊎-elim (λ q. inl (q, omega arith, g)) (λ q. inr (omega arith, omega arith, g)) (equal left l)
+pub pair-ends : (left right page l r p : ℕ) → left < 65536 → right < 65536 → page < 4096 → l < 65536 → r < 65536 → p < 4096 → pairKey left right page ≡ pairKey l r p → SamePair left right page l r p
+pair-ends left right page l r p a b c a′ b′ c′ e =
+    let (same, low, high) = pair-same left right page l r p a b c a′ b′ c′ e in
+    ⊎-elim (λ q. inl (q, omega arith, same)) (λ q. inr (omega arith, omega arith, same)) (equal left l)
 
 -- ---- known VMs
 pub knows-below : (known vm : ℕ) → known < 2 ^ VMS → knows known vm ≡ true → vm < VMS
@@ -132,6 +129,21 @@ knows-below known vm h t = ⊎-elim (λ q. ltb-true vm VMS q) (λ q. absurd (non
         true≢false (sym t ∙ rw z)
 
 -- ---- entries
+-- the three flags tell the access
+flag-same : (c d : ℕ) → c < 2 → d < 2 → eqb c 1 ≡ eqb d 1 → c ≡ d
+flag-same c d h h′ e =
+    ⊎-elim (λ t. eqb-true c 1 t ∙ sym (eqb-true d 1 (sym e ∙ t))) (λ f. let m = eqb-false c 1 f in let n = eqb-false d 1 (sym e ∙ f) in omega arith) (cases (eqb c 1))
+
+flags : (a : ℕ) → a < ACCESSES → a ≡ a / 4 % 2 * 4 + a / WRITE % 2 * 2 + a / READ % 2
+flags a h = omega arith
+
+pub perms-apart : (a b : ℕ) → a < ACCESSES → b < ACCESSES → permsOf a ≡ permsOf b → a ≡ b
+perms-apart a b h h′ e =
+    let r = flag-same (a / READ % 2) (b / READ % 2) (omega arith) (omega arith) (ap (λ (x : AccessPerms). x .read) e) in
+    let w = flag-same (a / WRITE % 2) (b / WRITE % 2) (omega arith) (omega arith) (ap (λ (x : AccessPerms). x .write) e) in
+    let x = flag-same (a / 4 % 2) (b / 4 % 2) (omega arith) (omega arith) (ap (λ (x : AccessPerms). x .execute) e) in
+    flags a h ∙ rw (r, w, x) (sym (flags b h′))
+
 -- what a word shows depends on its low half alone
 entry-low : (w : ℕ) → entryIn w ≡ entryIn (entryOf w)
 entry-low w =
@@ -174,7 +186,7 @@ edge-key left right page l r p a b c a′ b′ c′ = ⊎-elim same other (equal
     same : pairKey left right page ≡ pairKey l r p → goal
     same e =
         rw (eq-eqb _ _ e)
-        (edge-there left right page l r p (pair-same left right page l r p (omega arith) (omega arith) (omega arith) (omega arith) (omega arith) (omega arith) e))
+        (edge-there left right page l r p (pair-ends left right page l r p (omega arith) (omega arith) (omega arith) (omega arith) (omega arith) (omega arith) e))
 
     other : (pairKey left right page ≡ pairKey l r p → ⊥) → goal
     other n =

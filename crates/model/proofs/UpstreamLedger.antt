@@ -1,15 +1,13 @@
 -- Operations 1 to 6 are upstream's steps: VMs, ownership and sharing.
-use Prim.Native.Nat.{ℕ, _+_, _*_, _≤_, _<_}
-use mathlib.Core.Bool.{Bool, true, false, not, _&&_, _||_, true≢false}
-use mathlib.Core.List.{List, [], _∷_}
-use mathlib.Core.Logic.{_⊎_, inl, inr, ⊎-elim}
-use mathlib.Core.Path.{_≡_, refl, sym, ap, _∙_}
+use Prim.Native.Nat.{ℕ, _<_}
+use mathlib.Core.Bool.{Bool, true, false, not, _||_, true≢false}
+use mathlib.Core.List.{List}
+use mathlib.Core.Logic.{inl, inr, ⊎-elim}
+use mathlib.Core.Path.{_≡_, refl, sym, _∙_}
 use native.Mathlib.Omega.{arith}
-use lib.Dec.{eqb, leb}
-use lib.ListN.{length}
-use borrow.Author.Tests.{eq-eqb, ne-eqb, eqb-true, eqb-false, ltb-true, leb-true, not-false}
-use Rattle.numbers.specs.Choice.{if_then_else_}
-use Rattle.numbers.specs.Limits.{VMS, GUEST-PAGES, PAGES, SETS, SET-WORDS}
+use lib.Dec.{eqb}
+use borrow.Author.Tests.{eq-eqb, ne-eqb, eqb-false, ltb-true, leb-true, not-false}
+use Rattle.numbers.specs.Limits.{VMS, GUEST-PAGES, PAGES}
 use Rattle.numbers.specs.Packing.{pairKey, pairKeyOf, pairWord}
 use Rattle.numbers.specs.PackingLaws.{pair-key}
 use Rattle.numbers.specs.declared.Answer.the-variants.{Accepted}
@@ -21,7 +19,7 @@ use Rattle.numbers.specs.declared.Side.the-variants.{Cpu, Dma}
 use Rattle.table.specs.ScanLaws.{cases, equal}
 use Rattle.table.specs.Table.{freeEntries, roomFor}
 use Rattle.table.specs.TableLaws.{place-room}
-use Rattle.pages.specs.Bits.{hasBit, withBit, withoutBit}
+use Rattle.pages.specs.Bits.{withBit, withoutBit}
 use Rattle.pages.specs.BitLaws.{hasBit-with-same, hasBit-with-other, hasBit-without-same, hasBit-without-other}
 use Rattle.pages.specs.Rows.{holds, poolRow, sharedRow, cpuRow, dmaRow}
 use Rattle.model.specs.State.{Tables, State, withKnown, withSets, withPairs}
@@ -31,15 +29,15 @@ use Rattle.model.specs.Effect.{quiet, clears, decided, apply, clearedPag
 use Rattle.model.specs.EarlyLaws.{past, then-passed, vm-passed, PagePassed, page-passed, pair-passed}
 use Rattle.model.specs.Ledger.{vmEarly, pageEarly, pairEarly, addVmAnswer, removeVmAnswer, assignAnswer, assignSets, reclaimAnswer, reclaimSets, reclaimClears, shareAnswer, sharePairs, unshareAnswer, unsharePairs}
 use Rattle.model.specs.Step.{addVmControl, removeVmControl, assignControl, reclaimControl, shareControl, unshareControl, control, step}
-use Rattle.model.specs.Upstream.{PageSets, SameSets, SameSoftware, plus, minus, withSet, withoutSet, mapSeen, isSome, softwareView, hardwareView}
+use Rattle.model.specs.Upstream.{SameSets, SameSoftware, plus, minus, withSet, withoutSet, mapSeen, isSome, softwareView}
 use Rattle.model.specs.UpstreamStep.{withPool, withSetsOf, withEdges, plusEdge, minusEdge, noPages, AddVmStep, RemoveVmEnabled, RemoveVmStep, AssignPageStep, ReclaimPageStep, SharePageStep, UnsharePageStep}
-use Rattle.model.specs.UpstreamRun.{FollowsUpstream, stop, go}
+use Rattle.model.specs.UpstreamRun.{FollowsUpstream, stop}
 use Rattle.model.proofs.ViewLaws.{not-so, neither, no-pages, no-mappings, no-edge-of, not-elsewhere}
 use Rattle.model.proofs.PagesKept.{Moved, assign-moved, reclaim-moved}
 use Rattle.model.proofs.UpstreamLaws.{map-word, edge-key, found-put-same, found-put-other, found-erase-same, found-erase-other}
 use Rattle.model.proofs.UpstreamWf.{held-below, edge-pair, edge-either, pool-no-span}
 use Rattle.model.proofs.UpstreamMemory.{clear-run}
-use Rattle.model.proofs.UpstreamFollows.{same-sets, same-software, same-hardware, decided-follows}
+use Rattle.model.proofs.UpstreamFollows.{same-sets, same-hardware, software-once, decided-follows}
 
 -- ---- known VMs
 knows-plus : (known vm v : ℕ) → knows (withBit known vm) v ≡ plus (knows known) vm v
@@ -151,7 +149,7 @@ module _ (s : State) (valid : ValidTables (s .tables)) where
       let a = past (not (isVm (vm .0))) _ _ _ e in
       let b = past (knows (s .tables .known) (vm .0)) _ _ _ (a .1) in
       let v = ltb-true (vm .0) VMS (not-false _ (a .0)) in
-      record { software = go (added (vm .0) v (b .0)) (stop (same-software _)); hardware = stop (same-hardware _) })
+      record { software = software-once (added (vm .0) v (b .0)); hardware = stop (same-hardware _) })
     where
       added : (vm : ℕ) → vm < VMS → knows (s .tables .known) vm ≡ false → AddVmStep vm (softwareView (s .tables)) (softwareView (withKnown (s .tables) (withBit (s .tables .known) vm)))
       added vm v f =
@@ -204,7 +202,7 @@ module _ (s : State) (valid : ValidTables (s .tables)) where
   unfolding control removeVmControl step decided apply clearedPages
   remove-vm-follows vm =
       decided-follows s (removeVmAnswer (s .tables .known) (s .tables .sets) (s .tables .pairs) (s .tables .cpu .map) (s .tables .dma .map) (s .tables .cpu .ports) (s .tables .dma .ports) (vm .0)) _ quiet _ _
-      (λ dropped word e. record { software = go (dropped-vm (vm .0) (removable (vm .0) e)) (stop (same-software _)); hardware = stop (same-hardware _) })
+      (λ dropped word e. record { software = software-once (dropped-vm (vm .0) (removable (vm .0) e)); hardware = stop (same-hardware _) })
     where
       dropped-vm : (vm : ℕ) → RemoveVmEnabled vm (softwareView (s .tables)) → RemoveVmStep vm (softwareView (s .tables)) (softwareView (withKnown (s .tables) (withoutBit (s .tables .known) vm)))
       dropped-vm vm g =
@@ -233,7 +231,7 @@ module _ (s : State) (valid : ValidTables (s .tables)) where
       let r = page-passed (s .tables .known) (s .tables .setup .pages) (vm .0) (page .0) early in
       let (free, b) = past (not (inPool (s .tables .sets) (page .0))) _ _ _ a in
       let (alone, c) = past (claimedElsewhere Dma (s .tables .sets) (vm .0) (page .0)) _ _ _ b in
-      record { software = go (assigned (vm .0) (page .0) r (not-false _ free) alone) (stop (same-software _)); hardware = stop (same-hardware _) })
+      record { software = software-once (assigned (vm .0) (page .0) r (not-false _ free) alone); hardware = stop (same-hardware _) })
     where
       assigned : (vm page : ℕ) → PagePassed (s .tables .known) (s .tables .setup .pages) vm page → inPool (s .tables .sets) page ≡ true → claimedElsewhere Dma (s .tables .sets) vm page ≡ false →
           AssignPageStep vm page (softwareView (s .tables)) (softwareView (withSets (s .tables) (assignSets (s .tables .sets) vm page)))
@@ -258,7 +256,7 @@ module _ (s : State) (valid : ValidTables (s .tables)) where
       let r = page-passed (s .tables .known) (s .tables .setup .pages) (vm .0) (page .0) early in
       let (own, b) = past (not (owns (s .tables .sets) (vm .0) (page .0))) _ _ _ a in
       record {
-        software = go (reclaimed (vm .0) (page .0) r (not-false _ own)) (stop (same-software _));
+        software = software-once (reclaimed (vm .0) (page .0) r (not-false _ own));
         hardware = clear-run (s .tables) (reclaimClears (s .tables .sets) (vm .0) (page .0)) (s .memory);
       })
     where
@@ -311,7 +309,7 @@ module _ (s : State) (valid : ValidTables (s .tables)) where
   unfolding control shareControl step decided apply clearedPages
   share-follows left right page =
       decided-follows s (shareAnswer (s .tables .known) (s .tables .setup .pages) (s .tables .sets) (s .tables .pairs) (left .0) (right .0) (page .0)) _ quiet _ _
-      (λ dropped word e. record { software = go (shared-step (left .0) (right .0) (page .0) e) (stop (same-software _)); hardware = stop (same-hardware _) })
+      (λ dropped word e. record { software = software-once (shared-step (left .0) (right .0) (page .0) e); hardware = stop (same-hardware _) })
 
   unshared-step : (left right page : ℕ) {dropped word : ℕ} → unshareAnswer (s .tables .known) (s .tables .setup .pages) (s .tables .sets) (s .tables .pairs) (s .tables .cpu .map) left right page ≡ Accepted dropped word →
       UnsharePageStep left right page (softwareView (s .tables)) (softwareView (withPairs (s .tables) (unsharePairs (s .tables .pairs) left right page)))
@@ -330,4 +328,4 @@ module _ (s : State) (valid : ValidTables (s .tables)) where
   unfolding control unshareControl step decided apply clearedPages
   unshare-follows left right page =
       decided-follows s (unshareAnswer (s .tables .known) (s .tables .setup .pages) (s .tables .sets) (s .tables .pairs) (s .tables .cpu .map) (left .0) (right .0) (page .0)) _ quiet _ _
-      (λ dropped word e. record { software = go (unshared-step (left .0) (right .0) (page .0) e) (stop (same-software _)); hardware = stop (same-hardware _) })
+      (λ dropped word e. record { software = software-once (unshared-step (left .0) (right .0) (page .0) e); hardware = stop (same-hardware _) })

@@ -1,16 +1,15 @@
 -- Operations 7 to 10 are upstream's steps: map and unmap, for CPU or DMA.
-use Prim.Native.Nat.{ℕ, _≤_, _<_}
-use mathlib.Core.Bool.{Bool, true, false, not, _&&_, true≢false}
+use Prim.Native.Nat.{ℕ, _<_}
+use mathlib.Core.Bool.{true, false, not, _&&_, true≢false}
 use mathlib.Core.List.{List, [], _∷_}
-use mathlib.Core.Logic.{_⊎_, ⊎-elim}
+use mathlib.Core.Logic.{⊎-elim}
 use mathlib.Core.Option.{Option, none, some}
 use mathlib.Core.Path.{_≡_, refl, sym, ap, _∙_}
 use native.Mathlib.Omega.{arith}
 use lib.Dec.{eqb}
-use lib.ListN.{length}
 use borrow.Author.Tests.{eq-eqb, ne-eqb, eqb-true, not-false}
 use Rattle.numbers.specs.Choice.{if_then_else_}
-use Rattle.numbers.specs.Limits.{VMS, GUEST-PAGES, PAGES, PORTS, ACCESSES, GENERATIONS}
+use Rattle.numbers.specs.Limits.{VMS, GUEST-PAGES, PAGES, ACCESSES, GENERATIONS}
 use Rattle.numbers.specs.Packing.{key, keyOf, slotKey, addressOf, mapWord, entry}
 use Rattle.numbers.specs.PackingLaws.{key-filled, entry-fits, entry-page, entry-access, entry-generation, word-page, word-access, word-generation}
 use Rattle.numbers.specs.declared.Answer.the-variants.{Accepted}
@@ -21,7 +20,7 @@ use Rattle.numbers.specs.declared.Operation.the-variants.{CpuMap, DmaMap, CpuUn
 use Rattle.numbers.specs.declared.Side.{Side}
 use Rattle.numbers.specs.declared.Side.the-variants.{Cpu, Dma}
 use Rattle.table.specs.ScanLaws.{cases, equal}
-use Rattle.table.specs.Table.{hasKey, find, lookup, place, put, erase, isFound}
+use Rattle.table.specs.Table.{hasKey, find, lookup, place, erase, isFound}
 use Rattle.table.specs.TableLaws.{lookup-put-same, lookup-put-other, lookup-erase-same, lookup-erase-other, lookup-wipe-same, lookup-wipe-other}
 use Rattle.table.specs.AgreeLaws.{agree-place}
 use Rattle.table.specs.declared.Found.the-variants.{At}
@@ -31,14 +30,14 @@ use Rattle.model.specs.EarlyLaws.{past, both, then-passed, unmap-passed}
 use Rattle.model.specs.Step.{mapRoute, mapControl, unmapRoute, unmapControl, control, step}
 use Rattle.model.specs.Effect.{quiet, decided, apply, clearedPages}
 use Rattle.model.specs.Maps.{mapTable, unmapEarly, unmapAnswer, unmapTable, withoutSlots}
-use Rattle.model.specs.Upstream.{S2Entry, S2Map, Tlb, isSome, mapAt, tlbAt, flushed, entryIn, seen, mapSeen, tlbSeen, softwareView, SameS2Map, SameTlb}
+use Rattle.model.specs.Upstream.{S2Entry, isSome, mapAt, flushed, seen, mapSeen, tlbSeen, softwareView, SameS2Map, SameTlb}
 use Rattle.model.specs.UpstreamStep.{MapStep, UnmapStep, UnmapInvalidateStep, HardwareMapStep}
 use Rattle.model.specs.UpstreamRun.{map, unmap, unmap-invalidate, entryOf, mapCalls, HardwareRun, stop, go, Follows, FollowsUpstream}
 use Rattle.model.proofs.ViewLaws.{not-so}
 use Rattle.model.proofs.RoutesKept.{entry-key}
 use Rattle.model.proofs.OneRoute.{route-of, maps-of}
 use Rattle.model.proofs.GoodMaps.{MapAllPassed, map-all-passed}
-use Rattle.model.proofs.UpstreamLaws.{seen-is, key-test, OfKey, of-slot-key, map-found, not-some, found-erase-same}
+use Rattle.model.proofs.UpstreamLaws.{seen-is, key-test, of-slot-key, map-found, not-some, found-erase-same}
 use Rattle.model.proofs.UpstreamWf.{slot-seen}
 use Rattle.model.proofs.UpstreamFollows.{same-hardware, software-once, hardware-once, decided-follows}
 use Rattle.model.proofs.UpstreamRoutes.{shown, with-own, map-of, walk-of, tlb-of, may-target, route-software, route-hardware}

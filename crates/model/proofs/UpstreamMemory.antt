@@ -1,10 +1,10 @@
 -- Memory as upstream's hardware view shows it: cleared pages and written words.
-use Prim.Native.Nat.{ℕ, _+_, _*_, _/_, _≤_, _<_}
+use Prim.Native.Nat.{ℕ, _/_, _<_}
 use mathlib.Core.Bool.{true, false}
 use mathlib.Core.List.{List, [], _∷_}
 use mathlib.Core.Logic.{⊎-elim}
 use mathlib.Core.Option.{none, some}
-use mathlib.Core.Path.{_≡_, refl, sym, ap, _∙_}
+use mathlib.Core.Path.{_≡_, refl}
 use native.Mathlib.Omega.{arith}
 use lib.Dec.{eqb, ltb}
 use lib.ListN.{length, getD, set, length-set}
@@ -15,7 +15,7 @@ use Rattle.numbers.specs.Limits.{PAGE-WORDS}
 use Rattle.table.specs.ScanLaws.{cases, equal}
 use Rattle.pages.specs.BitLaws.{below-or}
 use Rattle.model.specs.State.{Tables}
-use Rattle.model.specs.Effect.{memoryIndex, zeroed, clearPage, clearedPages}
+use Rattle.model.specs.Effect.{memoryIndex, clearPage, clearedPages}
 use Rattle.model.specs.MemoryLaws.{length-zeroed, zeroed-inside, zeroed-before, zeroed-behind}
 use Rattle.model.specs.Upstream.{isSome, wordSeen, hardwareView}
 use Rattle.model.specs.UpstreamStep.{answerAt}

@@ -1,15 +1,14 @@
 -- Operations 15 to 20, 25 and 26 are upstream's steps, or ours where it has none: ports, fills, emptied slots, barriers.
-use Prim.Native.Nat.{ℕ, _≤_, _<_}
-use mathlib.Core.Bool.{Bool, true, false, not, _&&_, true≢false}
-use mathlib.Core.List.{List, [], _∷_}
+use Prim.Native.Nat.{ℕ, _<_}
+use mathlib.Core.Bool.{true, not, _&&_}
+use mathlib.Core.List.{List}
 use mathlib.Core.Logic.{_⊎_, inl, inr, ⊎-elim}
 use mathlib.Core.Option.{Option, none, some}
 use mathlib.Core.Path.{_≡_, refl, sym, ap, _∙_}
 use native.Mathlib.Omega.{arith}
-use lib.Dec.{eqb}
 use lib.ListN.{length, getD, set, length-set}
 use lib.Seq.{getD-set-same, getD-set-other, set-getD, set-set}
-use borrow.Author.Tests.{eq-eqb, ne-eqb, eqb-true, eqb-false, ltb-true, lt-ltb, not-false}
+use borrow.Author.Tests.{eq-eqb, ne-eqb, ltb-true, lt-ltb, not-false}
 use Rattle.numbers.specs.Choice.{if_then_else_}
 use Rattle.numbers.specs.Limits.{VMS, GUEST-PAGES, PORTS, SLOTS, IDLE}
 use Rattle.numbers.specs.Packing.{key, keyOf, slotKey, slotWord, entryOf, portOf, vmOf, guestOf, filledOf}
@@ -21,12 +20,12 @@ use Rattle.numbers.specs.declared.Target.the-variants.{Idle, Vm}
 use Rattle.numbers.specs.declared.Operation.the-variants.{SwitchCpu, BindDevice, CpuFill, DmaFill, EmptyCpuSlot, EmptyDmaSlot, DataBarrier, InstructionBarrier}
 use Rattle.numbers.specs.declared.Side.{Side}
 use Rattle.numbers.specs.declared.Side.the-variants.{Cpu, Dma}
-use Rattle.table.specs.ScanLaws.{cases, equal, found-never, found-count}
-use Rattle.table.specs.Table.{isEmpty, freeEntries, find, lookup, place, isFound, setAt, Has, Distinct}
-use Rattle.table.specs.TableLaws.{Alone, IsPlace, find-none, place-is, place-none, place-room, distinct-alone, lookup-has, lookup-none, has-lookup, has-set-inv, has-set-keep, lookup-set-same, lookup-set-other}
+use Rattle.table.specs.ScanLaws.{equal, found-never, found-count}
+use Rattle.table.specs.Table.{isEmpty, freeEntries, lookup, place, Has, Distinct}
+use Rattle.table.specs.TableLaws.{IsPlace, find-none, place-is, place-none, place-room, distinct-alone, lookup-has, lookup-none, has-lookup, has-set-inv, has-set-keep, lookup-set-same, lookup-set-other}
 use Rattle.table.specs.declared.Found.{Found}
 use Rattle.table.specs.declared.Found.the-variants.{At, Nothing}
-use Rattle.model.specs.State.{Tables, Route, State, route, withRoute, withCache, withPorts}
+use Rattle.model.specs.State.{Tables, Route, State, withRoute, withCache, withPorts}
 use Rattle.model.specs.Ports.{isTarget, portAnswer, portPorts, vmOn, fillPlace, fillCache, emptyAnswer, emptyCache}
 use Rattle.model.specs.Views.{isPort, isSlot, isIdle}
 use Rattle.model.specs.Step.{portControl, fillRoute, fillControl, emptyControl, control, step}
@@ -39,7 +38,7 @@ use Rattle.model.specs.UpstreamStep.{withActive, answerAt}
 use Rattle.model.proofs.RoutesKept.{slot-made}
 use Rattle.model.proofs.GoodPorts.{FillPassed, fill-passed}
 use Rattle.model.proofs.UpstreamFollows.{same-software, same-hardware, hardware-once, decided-follows}
-use Rattle.model.proofs.UpstreamRoutes.{shown, with-own, walk-of, tlb-of, route-hardware}
+use Rattle.model.proofs.UpstreamRoutes.{shown, walk-of, tlb-of, route-hardware}
 use Rattle.model.proofs.UpstreamLaws.{seen-same, seen-filled, slot-key-test, key-parts}
 
 -- ---- a place of a table emptied

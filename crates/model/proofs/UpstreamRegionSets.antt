@@ -1,25 +1,23 @@
 -- The page sets that a region's edits leave, as upstream's software view shows them.
-use Prim.Native.Nat.{ℕ, suc, _+_, _*_, _≤_, _<_}
-use mathlib.Core.Bool.{Bool, true, false, not, _&&_, _||_, true≢false}
+use Prim.Native.Nat.{ℕ, _+_, _≤_, _<_}
+use mathlib.Core.Bool.{Bool, true, false, true≢false}
 use mathlib.Core.List.{List}
-use mathlib.Core.Logic.{_⊎_, inl, inr, ⊎-elim}
-use mathlib.Core.Path.{_≡_, refl, sym, ap, _∙_}
+use mathlib.Core.Logic.{⊎-elim}
+use mathlib.Core.Path.{_≡_, refl, sym, _∙_}
 use native.Mathlib.Omega.{arith}
-use lib.ListN.{length}
-use Rattle.numbers.specs.Limits.{VMS, PAGES, SETS, SET-WORDS}
+use Rattle.numbers.specs.Limits.{VMS, PAGES}
 use Rattle.numbers.specs.declared.Side.{Side}
 use Rattle.numbers.specs.declared.Side.the-variants.{Cpu, Dma}
-use Rattle.table.specs.Scan.{repeat}
 use Rattle.table.specs.ScanLaws.{cases, equal}
 use Rattle.pages.specs.BitLaws.{below-or}
-use Rattle.pages.specs.Rows.{holds, add, remove, poolRow, sharedRow, cpuRow, dmaRow}
+use Rattle.pages.specs.Rows.{holds, poolRow, sharedRow, cpuRow, dmaRow}
 use Rattle.pages.specs.RowLaws.{holds-add-other, holds-remove-other}
 use Rattle.units.specs.declared.Region.{Region}
 use Rattle.model.specs.State.{Tables, Route, withRoute, withSets}
 use Rattle.model.specs.Views.{knows, inPool, inShared, owns, holdsDma, claims}
 use Rattle.model.specs.Regions.{pageIn, insertSets, removeSets, insertPage, removePage}
 use Rattle.model.specs.Valid.{Home, pool, shared, cpu, PagesGood}
-use Rattle.model.specs.Upstream.{S2Map, PageSets, pagesOf, mapSeen, withSet, softwareView, SameS2Map, SameSoftware}
+use Rattle.model.specs.Upstream.{S2Map, pagesOf, mapSeen, withSet, softwareView, SameS2Map, SameSoftware}
 use Rattle.model.specs.UpstreamStep.{setsOf, withSetsOf, withMapOf, withPoolOf, withPages, withoutPages}
 use Rattle.model.proofs.Repeats.{repeat-keeps}
 use Rattle.model.proofs.EditedSets.{Edited, Outside, other-differs}

@@ -1,21 +1,18 @@
 -- What the views show after a region's edits: of tables and caches, and of the page sets.
-use Prim.Native.Nat.{ℕ, zero, suc, _+_, _-_, _≤_, _<_}
-use mathlib.Core.Bool.{Bool, true, false, not, _&&_, _||_, true≢false, and-assoc, and-or-distrib-left}
+use Prim.Native.Nat.{ℕ, suc, _+_, _-_, _≤_, _<_}
+use mathlib.Core.Bool.{Bool, true, false, _&&_, _||_, true≢false, and-assoc, and-or-distrib-left}
 use mathlib.Core.List.{List, [], _∷_}
-use mathlib.Core.Logic.{_⊎_, inl, inr, ⊎-elim}
-use mathlib.Core.Option.{Option, none, some}
+use mathlib.Core.Logic.{⊎-elim}
+use mathlib.Core.Option.{Option, none}
 use mathlib.Core.Path.{_≡_, refl, sym, ap, _∙_}
 use native.Mathlib.Omega.{arith}
 use lib.Dec.{eqb, leb, ltb}
-use lib.ListN.{length}
-use borrow.Author.Tests.{eq-eqb, ne-eqb, eqb-true, leb-true, ltb-true, le-leb, lt-ltb, not-false}
+use borrow.Author.Tests.{eq-eqb, ne-eqb, eqb-true, leb-true, ltb-true, le-leb, lt-ltb}
 use Rattle.numbers.specs.Choice.{if_then_else_}
 use Rattle.numbers.specs.Limits.{VMS, GUEST-PAGES, PAGES}
 use Rattle.numbers.specs.Packing.{key, keyOf, slotKey, vmOf, guestOf, filledOf}
 use Rattle.numbers.specs.PackingLaws.{key-same}
-use Rattle.numbers.specs.declared.Side.{Side}
-use Rattle.numbers.specs.declared.Side.the-variants.{Cpu, Dma}
-use Rattle.table.specs.Scan.{cleared, wipe, repeat}
+use Rattle.table.specs.Scan.{cleared, wipe}
 use Rattle.table.specs.ScanLaws.{cases, equal}
 use Rattle.table.specs.Table.{freeEntries, lookup, put, Distinct}
 use Rattle.table.specs.TableLaws.{lookup-has, lookup-put-same, lookup-put-other, place-room, free-put}
@@ -25,7 +22,7 @@ use Rattle.model.specs.Views.{isFilled}
 use Rattle.model.specs.EarlyLaws.{both, RegionPassed}
 use Rattle.model.specs.Regions.{guestIn, pageIn, keyIn, regionEntry, inRegion, insertTable, removeTable}
 use Rattle.model.specs.Start.{inSpan}
-use Rattle.model.specs.Upstream.{isSome, mapAt, flushed, entriesOf, pagesOf, unionRight, withoutKeys, seen, mapSeen, tlbSeen, SameS2Map}
+use Rattle.model.specs.Upstream.{isSome, mapAt, flushed, entriesOf, pagesOf, unionRight, seen, mapSeen, tlbSeen, SameS2Map}
 use Rattle.model.proofs.ViewLaws.{not-so}
 use Rattle.model.proofs.Repeats.{repeat-keeps}
 use Rattle.model.proofs.RoutesKept.{entry-key}

@@ -1,16 +1,14 @@
 -- Operations 11 to 14 are upstream's steps: one software step for the region, one hardware step for each of its pages.
-use Prim.Native.Nat.{ℕ, zero, suc, _+_, _-_, _≤_, _<_}
-use mathlib.Core.Bool.{Bool, true, false, not, _&&_, _||_, true≢false}
+use Prim.Native.Nat.{ℕ, zero, suc, _+_, _≤_, _<_}
+use mathlib.Core.Bool.{Bool, true, false, not, _||_, true≢false}
 use mathlib.Core.List.{List, [], _∷_, _++_}
-use mathlib.Core.Logic.{_⊎_, inl, inr, ⊎-elim}
-use mathlib.Core.Option.{none, some}
+use mathlib.Core.Logic.{⊎-elim}
+use mathlib.Core.Option.{some}
 use mathlib.Core.Path.{_≡_, refl, sym, ap, _∙_}
 use native.Mathlib.Omega.{arith}
-use lib.Dec.{eqb}
-use lib.ListN.{length}
 use borrow.Author.Tests.{not-false, eqb-true, eq-eqb, ne-eqb}
 use Rattle.numbers.specs.Limits.{VMS, GUEST-PAGES, PAGES}
-use Rattle.numbers.specs.Packing.{key, keyOf, pageOf, leftOf, rightOf, filledOf}
+use Rattle.numbers.specs.Packing.{key, keyOf, pageOf}
 use Rattle.numbers.specs.PackingLaws.{key-same}
 use Rattle.numbers.specs.declared.Answer.the-variants.{Accepted}
 use Rattle.numbers.specs.declared.VmId.{VmId}
@@ -19,8 +17,7 @@ use Rattle.numbers.specs.declared.PhysPage.{PhysPage}
 use Rattle.numbers.specs.declared.Operation.the-variants.{InsertRegion, RemoveRegion, DmaInsertRegion, DmaRemoveRegion}
 use Rattle.numbers.specs.declared.Side.{Side}
 use Rattle.numbers.specs.declared.Side.the-variants.{Cpu, Dma}
-use Rattle.table.specs.ScanLaws.{cases, equal}
-use Rattle.table.specs.Table.{find, lookup, put, isFound, freeEntries, Has, Distinct}
+use Rattle.table.specs.Table.{lookup, put, freeEntries, Distinct}
 use Rattle.table.specs.TableLaws.{lookup-has, lookup-put-other, place-room, free-put}
 use Rattle.table.specs.Scan.{repeat}
 use Rattle.units.specs.Units.{assignable}
@@ -28,14 +25,14 @@ use Rattle.units.specs.declared.Region.{Region}
 use Rattle.units.specs.declared.Unit.{Unit}
 use Rattle.model.specs.State.{Tables, Route, State, route, withRoute, withSets, withMaps}
 use Rattle.model.specs.Maps.{mapTable}
-use Rattle.model.specs.Views.{knows, inPool, inShared, owns, claims, claimedElsewhere, paired, edgeOn, targeted, butKey}
+use Rattle.model.specs.Views.{inPool, inShared, claims, claimedElsewhere, paired, edgeOn, targeted, butKey}
 use Rattle.model.specs.EarlyLaws.{past, then-passed, RegionPassed}
-use Rattle.model.specs.Regions.{guestIn, pageIn, keyIn, regionEntry, regionEarly, present, claimed, notHeld, differs, insertAnswer, insertSets, insertTable, removeAnswer, removeSets, removeTable, removeClears}
+use Rattle.model.specs.Regions.{guestIn, pageIn, keyIn, regionEntry, regionEarly, present, claimed, notHeld, differs, insertAnswer, insertSets, insertTable, removeAnswer, removeSets, removeClears}
 use Rattle.model.specs.Step.{regionOf, insertRoute, insertControl, removeRoute, removeControl, control, step}
 use Rattle.model.specs.Effect.{quiet, clears, decided, apply, clearedPages}
 use Rattle.model.specs.Valid.{SameMap, MapGood, ValidTables}
 use Rattle.model.specs.Upstream.{S2Entry, isSome, entriesOf, pagesOf, seen, mapSeen, HardwareView, softwareView}
-use Rattle.model.specs.UpstreamStep.{withPages, withoutPages, InsertRegionEnabled, IommuInsertRegionEnabled, InsertEnabled, InsertRegionStep, RemoveEnabled, RemoveRegionStep, HardwareMapStep, UnmapInvalidateStep}
+use Rattle.model.specs.UpstreamStep.{withPages, withoutPages, InsertEnabled, InsertRegionStep, RemoveEnabled, RemoveRegionStep, HardwareMapStep, UnmapInvalidateStep}
 use Rattle.model.specs.UpstreamRun.{HardwareCall, insert-region, remove-region, HardwareRun, stop, go, entryOf, insertCalls, removeCalls, clearCalls, Follows, FollowsUpstream}
 use Rattle.model.proofs.ViewLaws.{neither, not-so, not-elsewhere, not-targeted, no-edge-on}
 use Rattle.model.proofs.OneRoute.{route-of, maps-of}
@@ -48,7 +45,7 @@ use Rattle.model.proofs.UpstreamMemory.{clear-run}
 use Rattle.model.proofs.UpstreamMaps.{put-seen}
 use Rattle.model.proofs.UpstreamWf.{pool-no-span, edge-pair}
 use Rattle.model.proofs.UpstreamRoutes.{shown, with-own, map-of, walk-of, tlb-of, route-hardware}
-use Rattle.model.proofs.UpstreamRegionViews.{span-in, page-place, entry-in, hasEntry, entry-some, key-place, entry-key-in, keys-apart, insert-seen, map-wiped, upTo, removed-none, map-wiped-more, tlb-wiped-more}
+use Rattle.model.proofs.UpstreamRegionViews.{span-in, page-place, entry-in, entry-some, key-place, entry-key-in, keys-apart, insert-seen, map-wiped, upTo, removed-none, map-wiped-more, tlb-wiped-more}
 use Rattle.model.proofs.UpstreamRegionSets.{claims-given, claims-taken, pool-given, pool-taken, pool-left, pool-kept, poolNow, sets-of, region-software}
 
 -- ---- the unit

@@ -1,15 +1,14 @@
 -- An edit of one route, as upstream's views show it: that side's maps and cache, and nothing of the other side.
-use Prim.Native.Nat.{ℕ, _<_}
+use Prim.Native.Nat.{ℕ}
 use mathlib.Core.Bool.{true}
 use mathlib.Core.List.{List}
-use mathlib.Core.Logic.{⊎-elim}
 use mathlib.Core.Path.{_≡_, refl}
 use Rattle.numbers.specs.declared.Side.{Side}
 use Rattle.numbers.specs.declared.Side.the-variants.{Cpu, Dma}
-use Rattle.model.specs.State.{Tables, Route, State, route, withRoute}
+use Rattle.model.specs.State.{Tables, Route, route, withRoute}
 use Rattle.model.specs.Views.{knows, mayMap}
 use Rattle.model.specs.Valid.{ValidTables}
-use Rattle.model.specs.Upstream.{S2Map, Tlb, mapSeen, tlbSeen, activeSeen, softwareView, HardwareView, hardwareView, SameS2Map, SameTlb, SameSoftware, SameHardware}
+use Rattle.model.specs.Upstream.{S2Map, Tlb, mapSeen, tlbSeen, softwareView, HardwareView, hardwareView, SameS2Map, SameTlb, SameSoftware, SameHardware}
 use Rattle.model.specs.UpstreamStep.{mapOf, withMapOf, MayTarget, walkOf, tlbOf, withWalk}
 use Rattle.model.proofs.UpstreamWf.{may-cpu, may-dma}
 use Rattle.model.proofs.UpstreamFollows.{same-sets}

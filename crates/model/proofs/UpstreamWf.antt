@@ -1,28 +1,28 @@
 -- Valid tables have every clause of upstream's software and hardware `wf`.
-use Prim.Native.Nat.{ℕ, _*_, _/_, _%_, _≤_, _<_}
-use mathlib.Core.Bool.{Bool, true, false, not, true≢false}
+use Prim.Native.Nat.{ℕ, _/_, _%_, _<_}
+use mathlib.Core.Bool.{true, false, true≢false}
 use mathlib.Core.List.{List}
-use mathlib.Core.Logic.{_⊎_, inl, inr, ⊎-elim}
+use mathlib.Core.Logic.{inl, inr, ⊎-elim}
 use mathlib.Core.Option.{some}
 use mathlib.Core.Path.{_≡_, refl, sym, ap, _∙_}
 use native.Mathlib.Omega.{arith}
-use lib.Dec.{eqb, ltb}
+use lib.Dec.{ltb}
 use borrow.Author.Tests.{eqb-false, ltb-true, ltb-false, not-true}
-use Rattle.numbers.specs.Limits.{VMS, GUEST-PAGES, PAGES, PORTS, SETS}
-use Rattle.numbers.specs.Packing.{key, keyOf, slotKey, slotWord, mapWord, entryOf, pairKeyOf, pairKey, vmOf, guestOf, filledOf, leftOf, rightOf, pageOf, addressOf}
+use Rattle.numbers.specs.Limits.{VMS, GUEST-PAGES, PAGES, SETS}
+use Rattle.numbers.specs.Packing.{key, keyOf, slotKey, mapWord, entryOf, pairKeyOf, pairKey, filledOf, leftOf, rightOf, pageOf}
 use Rattle.numbers.specs.PackingLaws.{pair-either}
 use Rattle.numbers.specs.declared.Side.{Side}
 use Rattle.numbers.specs.declared.Side.the-variants.{Cpu, Dma}
 use Rattle.table.specs.ScanLaws.{cases}
-use Rattle.table.specs.Table.{find, isFound, lookup, Has}
+use Rattle.table.specs.Table.{lookup, Has}
 use Rattle.table.specs.TableLaws.{lookup-has}
 use Rattle.pages.specs.Rows.{holds, poolRow, sharedRow, cpuRow, dmaRow}
-use Rattle.model.specs.State.{Tables, Route, State}
+use Rattle.model.specs.State.{Tables, State}
 use Rattle.model.specs.Views.{knows, inPool, inShared, owns, holdsDma, paired, shares, mayMap}
-use Rattle.model.specs.Valid.{Home, pool, shared, cpu, PagesGood, PairGood, PairsGood, EntryGood, MapGood, CacheGood, ValidTables}
-use Rattle.model.specs.Upstream.{S2Entry, entryIn, seen, isSome, mapSeen, tlbSeen, softwareView, hardwareView, SharedWith, OwnedOrShared, OwnedOrSpan, OwnershipWf, EdgeWf, SharingWf, TranslationWf, IommuOwnershipWf, IommuTranslationWf, SoftwareWf, TlbSafe, HardwareWf}
-use Rattle.model.proofs.ViewLaws.{not-so, paired-joins, not-paired, shares-lends, Lends, Joins, may-either}
-use Rattle.model.proofs.UpstreamLaws.{seen-some, seen-filled, seen-same, has-found, OfKey, of-key, of-slot-key, SamePair, pair-same, knows-below}
+use Rattle.model.specs.Valid.{SameMap, Home, pool, shared, cpu, PairGood, MapGood, CacheGood, ValidTables}
+use Rattle.model.specs.Upstream.{S2Entry, seen, isSome, mapSeen, tlbSeen, softwareView, HardwareView, hardwareView, SameS2Map, SharedWith, OwnedOrShared, OwnedOrSpan, OwnershipWf, SharingWf, TranslationWf, IommuOwnershipWf, IommuTranslationWf, SoftwareWf, TlbSafe, HardwareWf}
+use Rattle.model.proofs.ViewLaws.{not-so, paired-joins, shares-lends, may-either}
+use Rattle.model.proofs.UpstreamLaws.{seen-some, seen-filled, seen-same, has-found, of-key, of-slot-key, SamePair, pair-ends, knows-below}
 
 module _ (t : Tables) (valid : ValidTables t) where
   -- ---- pages
@@ -82,7 +82,7 @@ module _ (t : Tables) (valid : ValidTables t) where
       let (w, j) = paired-joins (t .pairs) left right page e in
       let g = valid .pairs .each w (j .there) in
       let k : pairKey (leftOf w) (rightOf w) (pageOf w) ≡ pairKey left right page = (rw (g .filled)) ∙ j .key in
-      (w, j .there, g, pair-same (leftOf w) (rightOf w) (pageOf w) left right page (omega arith) (omega arith) (omega arith) (omega arith) (omega arith) (omega arith) k)
+      (w, j .there, g, pair-ends (leftOf w) (rightOf w) (pageOf w) left right page (omega arith) (omega arith) (omega arith) (omega arith) (omega arith) (omega arith) k)
 
   pub edge-either : (left right page : ℕ) → paired (t .pairs) left right page ≡ paired (t .pairs) right left page
   unfolding paired
@@ -185,4 +185,17 @@ hardware-wf s valid =
     record {
       tlb-safe = tlb-safe (s .tables .cpu .walker) (s .tables .cpu .cache) (valid .cpu .cache);
       iommu-tlb-safe = tlb-safe (s .tables .dma .walker) (s .tables .dma .cache) (valid .dma .cache);
+    }
+
+-- ---- and the two agree: the walker maps are the software maps
+pub record Synced (t : Tables) (h : HardwareView) : Type 0 where
+  pub cpu : SameS2Map (softwareView t .s2-map) (h .s2map)
+  pub dma : SameS2Map (softwareView t .iommu-s2-map) (h .iommu-s2map)
+
+pub synced : (s : State) → ValidTables (s .tables) → Synced (s .tables) (hardwareView s)
+unfolding SameMap
+synced s valid =
+    record {
+      cpu = λ vm gpa v g. ap seen (valid .cpu .same (key vm gpa) (omega arith));
+      dma = λ vm gpa v g. ap seen (valid .dma .same (key vm gpa) (omega arith));
     }

@@ -7,13 +7,11 @@ use mathlib.Core.List.{List}
 use mathlib.Core.Logic.{_⊎_}
 use mathlib.Core.Option.{Option, none, some}
 use mathlib.Core.Path.{_≡_}
-use lib.Dec.{eqb, ltb, leb}
+use lib.Dec.{eqb, ltb}
 use lib.ListN.{length, getD}
 use Rattle.numbers.specs.Choice.{if_then_else_}
-use Rattle.numbers.specs.Limits.{VMS, PAGES, GUEST-PAGES, PORTS, PAGE-WORDS, READ, WRITE}
+use Rattle.numbers.specs.Limits.{VMS, PAGES, GUEST-PAGES, PORTS, READ, WRITE}
 use Rattle.numbers.specs.Packing.{key, slotKey, keyOf, pageOf, accessOf, generationOf}
-use Rattle.numbers.specs.declared.Side.{Side}
-use Rattle.numbers.specs.declared.Side.the-variants.{Cpu, Dma}
 use Rattle.table.specs.Table.{lookup}
 use Rattle.units.specs.declared.Region.{Region}
 use Rattle.model.specs.State.{Tables, State}

@@ -1,6 +1,6 @@
 -- Which steps of upstream's an accepted operation is, and what it is to be a run of them.
-use Prim.Native.Nat.{ℕ, zero, suc, _+_, _/_, _<_}
-use mathlib.Core.Bool.{Bool, true, false, not}
+use Prim.Native.Nat.{ℕ, zero, suc, _/_}
+use mathlib.Core.Bool.{true}
 use mathlib.Core.List.{List, [], _∷_, _++_}
 use mathlib.Core.Option.{Option, none, some}
 use mathlib.Core.Path.{_≡_}
@@ -45,7 +45,7 @@ use Rattle.numbers.specs.declared.Operation.the-variants.{
 use Rattle.table.specs.Table.{find, place, isFound}
 use Rattle.units.specs.Units.{assignable}
 use Rattle.units.specs.declared.Region.{Region}
-use Rattle.model.specs.State.{Tables, Route, Setup, State, route}
+use Rattle.model.specs.State.{Tables, Route, Setup, State}
 use Rattle.model.specs.Effect.{memoryIndex, kept}
 use Rattle.model.specs.Ledger.{reclaimClears}
 use Rattle.model.specs.Regions.{guestIn, pageIn, removeClears}

@@ -1,14 +1,12 @@
 -- Upstream's steps and guards over its views, in its order: what is required of the view before, then what the view after is.
 -- A CPU step and its DMA twin are one definition over a side; where they ask for different things each has its own.
-use Prim.Native.Nat.{ℕ, _/_, _<_}
+use Prim.Native.Nat.{ℕ, _<_}
 use mathlib.Core.Bool.{Bool, true, false, not, _&&_, _||_}
-use mathlib.Core.List.{List, [], _∷_}
-use mathlib.Core.Logic.{_⊎_}
 use mathlib.Core.Option.{Option, none, some}
 use mathlib.Core.Path.{_≡_}
 use lib.Dec.{eqb}
 use Rattle.numbers.specs.Choice.{if_then_else_}
-use Rattle.numbers.specs.Limits.{VMS, PAGES, GUEST-PAGES, PAGE-WORDS}
+use Rattle.numbers.specs.Limits.{VMS, PAGES, GUEST-PAGES}
 use Rattle.numbers.specs.declared.Side.{Side}
 use Rattle.numbers.specs.declared.Side.the-variants.{Cpu, Dma}
 use Rattle.units.specs.declared.Region.{Region}
