@@ -1,27 +1,24 @@
 -- Operations 21 to 24 are upstream's memory steps, at the one word that the translation gives.
 use Prim.Native.Nat.{ℕ, _<_}
 use mathlib.Core.Bool.{not, _&&_}
-use mathlib.Core.List.{List}
+use mathlib.Core.List.{List, [], _∷_}
 use mathlib.Core.Path.{_≡_, refl}
 use native.Mathlib.Omega.{arith}
 use lib.ListN.{length, set}
 use borrow.Author.Tests.{ltb-true}
 use Rattle.numbers.specs.Limits.{PAGE-WORDS, READ, WRITE}
 use Rattle.numbers.specs.declared.Answer.the-variants.{Accepted}
-use Rattle.numbers.specs.declared.GuestPage.{GuestPage}
-use Rattle.numbers.specs.declared.Operation.the-variants.{CpuRead, DmaRead, CpuWrite, DmaWrite}
 use Rattle.numbers.specs.declared.Side.{Side}
-use Rattle.numbers.specs.declared.Side.the-variants.{Cpu, Dma}
 use Rattle.model.specs.State.{State, route}
 use Rattle.model.specs.Views.{isPort, isGuest, isWord}
 use Rattle.model.specs.Effect.{decided, apply, stored}
 use Rattle.model.specs.EarlyLaws.{past, hold}
 use Rattle.model.specs.Valid.{Valid}
 use Rattle.model.specs.Access.{accessAnswer}
-use Rattle.model.specs.Step.{readControl, writeControl, control, step}
+use Rattle.model.specs.Step.{readControl, writeControl}
 use Rattle.model.specs.Upstream.{hardwareView}
 use Rattle.model.specs.UpstreamStep.{MemReadStep, MemWriteStep}
-use Rattle.model.specs.UpstreamRun.{addressIn, FollowsUpstream, stop}
+use Rattle.model.specs.UpstreamRun.{mem-read, mem-write, addressIn, stop, FollowsControl}
 use Rattle.model.proofs.OneRoute.{route-of}
 use Rattle.model.proofs.GoodAccess.{access-passed, reached}
 use Rattle.model.proofs.UpstreamFollows.{same-software, same-hardware, hardware-once, decided-follows}
@@ -57,26 +54,14 @@ module _ (s : State) (valid : Valid s) where
         active-vm = λ cpu c. refl;
       }
 
-  pub cpu-read-follows : (port : ℕ) (guest : GuestPage) (word : ℕ) → FollowsUpstream s (CpuRead port guest word)
-  unfolding control readControl step decided apply
-  cpu-read-follows port guest word =
+  pub read-follows : (side : Side) (port guest word : ℕ) → FollowsControl s (readControl side (s .tables) port guest word) [] (mem-read (addressIn (route side (s .tables)) port guest word) ∷ [])
+  unfolding readControl decided apply
+  read-follows side port guest word =
       decided-follows s _ (s .tables) _ _ _
-      (λ dropped read e. record { software = stop (same-software _); hardware = hardware-once (read-step _ (backed Cpu READ port (guest .0) word e)) })
+      (λ dropped read e. record { software = stop (same-software _); hardware = hardware-once (read-step _ (backed side READ port guest word e)) })
 
-  pub dma-read-follows : (port : ℕ) (guest : GuestPage) (word : ℕ) → FollowsUpstream s (DmaRead port guest word)
-  unfolding control readControl step decided apply
-  dma-read-follows port guest word =
+  pub write-follows : (side : Side) (port guest word value : ℕ) → FollowsControl s (writeControl side (s .tables) port guest word value) [] (mem-write (addressIn (route side (s .tables)) port guest word) value ∷ [])
+  unfolding writeControl decided apply stored
+  write-follows side port guest word value =
       decided-follows s _ (s .tables) _ _ _
-      (λ dropped read e. record { software = stop (same-software _); hardware = hardware-once (read-step _ (backed Dma READ port (guest .0) word e)) })
-
-  pub cpu-write-follows : (port : ℕ) (guest : GuestPage) (word value : ℕ) → FollowsUpstream s (CpuWrite port guest word value)
-  unfolding control writeControl step decided apply stored
-  cpu-write-follows port guest word value =
-      decided-follows s _ (s .tables) _ _ _
-      (λ dropped read e. record { software = stop (same-software _); hardware = hardware-once (write-step _ value (backed Cpu WRITE port (guest .0) word e)) })
-
-  pub dma-write-follows : (port : ℕ) (guest : GuestPage) (word value : ℕ) → FollowsUpstream s (DmaWrite port guest word value)
-  unfolding control writeControl step decided apply stored
-  dma-write-follows port guest word value =
-      decided-follows s _ (s .tables) _ _ _
-      (λ dropped read e. record { software = stop (same-software _); hardware = hardware-once (write-step _ value (backed Dma WRITE port (guest .0) word e)) })
+      (λ dropped read e. record { software = stop (same-software _); hardware = hardware-once (write-step _ value (backed side WRITE port guest word e)) })

@@ -5,10 +5,9 @@ use mathlib.Core.Path.{_≡_, refl}
 use Rattle.numbers.specs.declared.Answer.{Answer}
 use Rattle.numbers.specs.declared.Answer.the-variants.{Accepted, Refused}
 use Rattle.model.specs.State.{Tables, Setup, State}
-use Rattle.model.specs.Effect.{Effect, kept, decided, apply, clearedPages}
-use Rattle.model.specs.Step.{carriedOut}
+use Rattle.model.specs.Effect.{Effect, decided, apply, clearedPages}
 use Rattle.model.specs.Upstream.{PageSets, SameSets, SoftwareView, HardwareView, SameSoftware, SameHardware}
-use Rattle.model.specs.UpstreamRun.{SoftwareCall, HardwareCall, SoftwareStep, HardwareStep, SoftwareRun, HardwareRun, stop, go, Follows}
+use Rattle.model.specs.UpstreamRun.{SoftwareCall, HardwareCall, SoftwareStep, HardwareStep, SoftwareRun, HardwareRun, stop, go, Follows, FollowsControl}
 
 pub same-sets : (a : PageSets) → SameSets a a
 same-sets a = record { vms = λ vm v. refl; pages = λ vm page v h e. refl }
@@ -47,7 +46,7 @@ hardware-once x = go x (stop (same-hardware _))
 -- what an accepted operation leaves is all that is asked for
 pub decided-follows : (s : State) (answer : Answer) (new : Tables) (effect : Effect) (software : List SoftwareCall) (hardware : List HardwareCall) →
     ((dropped word : ℕ) → answer ≡ Accepted dropped word → Follows s (record { tables = new; memory = apply effect (s .memory) }) software hardware) →
-    Follows s (carriedOut (decided (s .tables) answer new effect) (s .memory) .state) (kept answer [] software) (kept answer [] hardware)
+    FollowsControl s (decided (s .tables) answer new effect) software hardware
 unfolding decided apply clearedPages
 decided-follows s (Accepted dropped word) new effect software hardware follows = follows dropped word refl
 decided-follows s (Refused refusal index) new effect software hardware follows =

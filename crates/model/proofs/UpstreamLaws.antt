@@ -1,5 +1,5 @@
 -- What the views show of words, keys and pairs.
-use Prim.Native.Nat.{ℕ, _+_, _*_, _/_, _^_, _≤_, _<_, min, max, _%_}
+use Prim.Native.Nat.{ℕ, _+_, _*_, _/_, _^_, _≤_, _<_, _%_}
 use mathlib.Core.Bool.{true, false, not, _&&_, _||_, true≢false, or-true}
 use mathlib.Core.List.{List}
 use mathlib.Core.Logic.{_⊎_, inl, inr, ⊎-elim}

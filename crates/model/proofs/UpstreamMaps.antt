@@ -13,12 +13,7 @@ use Rattle.numbers.specs.Limits.{VMS, GUEST-PAGES, PAGES, ACCESSES, GENERATIONS
 use Rattle.numbers.specs.Packing.{key, keyOf, slotKey, addressOf, mapWord, entry}
 use Rattle.numbers.specs.PackingLaws.{key-filled, entry-fits, entry-page, entry-access, entry-generation, word-page, word-access, word-generation}
 use Rattle.numbers.specs.declared.Answer.the-variants.{Accepted}
-use Rattle.numbers.specs.declared.VmId.{VmId}
-use Rattle.numbers.specs.declared.GuestPage.{GuestPage}
-use Rattle.numbers.specs.declared.PhysPage.{PhysPage}
-use Rattle.numbers.specs.declared.Operation.the-variants.{CpuMap, DmaMap, CpuUnmap, DmaUnmap}
 use Rattle.numbers.specs.declared.Side.{Side}
-use Rattle.numbers.specs.declared.Side.the-variants.{Cpu, Dma}
 use Rattle.table.specs.ScanLaws.{cases, equal}
 use Rattle.table.specs.Table.{hasKey, find, lookup, place, erase, isFound}
 use Rattle.table.specs.TableLaws.{lookup-put-same, lookup-put-other, lookup-erase-same, lookup-erase-other, lookup-wipe-same, lookup-wipe-other}
@@ -27,12 +22,12 @@ use Rattle.table.specs.declared.Found.the-variants.{At}
 use Rattle.model.specs.State.{Tables, Route, State, route, withRoute}
 use Rattle.model.specs.Valid.{SameMap, CacheGood, ValidTables}
 use Rattle.model.specs.EarlyLaws.{past, both, then-passed, unmap-passed}
-use Rattle.model.specs.Step.{mapRoute, mapControl, unmapRoute, unmapControl, control, step}
+use Rattle.model.specs.Step.{mapRoute, mapControl, unmapRoute, unmapControl}
 use Rattle.model.specs.Effect.{quiet, decided, apply, clearedPages}
 use Rattle.model.specs.Maps.{mapTable, unmapEarly, unmapAnswer, unmapTable, withoutSlots}
 use Rattle.model.specs.Upstream.{S2Entry, isSome, mapAt, flushed, seen, mapSeen, tlbSeen, softwareView, SameS2Map, SameTlb}
 use Rattle.model.specs.UpstreamStep.{MapStep, UnmapStep, UnmapInvalidateStep, HardwareMapStep}
-use Rattle.model.specs.UpstreamRun.{map, unmap, unmap-invalidate, entryOf, mapCalls, HardwareRun, stop, go, Follows, FollowsUpstream}
+use Rattle.model.specs.UpstreamRun.{map, unmap, unmap-invalidate, entryOf, mapCalls, HardwareRun, stop, go, Follows, FollowsControl}
 use Rattle.model.proofs.ViewLaws.{not-so}
 use Rattle.model.proofs.RoutesKept.{entry-key}
 use Rattle.model.proofs.OneRoute.{route-of, maps-of}
@@ -173,9 +168,9 @@ module _ (side : Side) (s : State) (valid : ValidTables (s .tables)) where
             (put-seen (r .map) vm gpa page access generation (a .spot) (f .vm-ok) (f .guest-ok) (below-pages page (f .page-ok)) (f .access-ok) (f .generation-ok) (a .placed)));
       }
 
-  map-follows : (vm gpa page access generation : ℕ) → MapAllPassed side (s .tables .known) (s .tables .setup .pages) (s .tables .sets) (s .tables .pairs) (route side (s .tables) .map) vm gpa page access generation →
+  map-both : (vm gpa page access generation : ℕ) → MapAllPassed side (s .tables .known) (s .tables .setup .pages) (s .tables .sets) (s .tables .pairs) (route side (s .tables) .map) vm gpa page access generation →
       Follows s (record { tables = withRoute side (s .tables) (mapRoute (route side (s .tables)) vm gpa page access generation); memory = s .memory }) (map side vm gpa (entryOf page access generation) ∷ []) (mapCalls side (route side (s .tables)) vm gpa (entryOf page access generation))
-  map-follows vm gpa page access generation a =
+  map-both vm gpa page access generation a =
       let f = a .early in
       let (j, p) = walker-place (key vm gpa) (a .spot) (omega arith) (a .placed) in
       record {
@@ -194,10 +189,10 @@ module _ (side : Side) (s : State) (valid : ValidTables (s .tables)) where
         next = rw (map-of side (s .tables)) (route-software side (s .tables) (unmapRoute r vm gpa) _ (erase-seen (r .map) vm gpa g));
       }
 
-  unmap-follows : (vm gpa : ℕ) {dropped word : ℕ} → unmapAnswer (s .tables .known) (route side (s .tables) .map) (route side (s .tables) .cache) vm gpa ≡ Accepted dropped word →
+  unmap-both : (vm gpa : ℕ) {dropped word : ℕ} → unmapAnswer (s .tables .known) (route side (s .tables) .map) (route side (s .tables) .cache) vm gpa ≡ Accepted dropped word →
       Follows s (record { tables = withRoute side (s .tables) (unmapRoute (route side (s .tables)) vm gpa); memory = s .memory }) (unmap side vm gpa ∷ []) (unmap-invalidate side vm gpa ∷ [])
   unfolding unmapAnswer
-  unmap-follows vm gpa e =
+  unmap-both vm gpa e =
       let (d, w, early, a) = then-passed (unmapEarly (s .tables .known) vm gpa) _ e in
       let g = unmap-passed (s .tables .known) vm gpa early .guest-ok in
       let (found, b) = past (not (isFound (find keyOf (route side (s .tables) .map) (key vm gpa)))) _ _ _ a in
@@ -206,27 +201,15 @@ module _ (side : Side) (s : State) (valid : ValidTables (s .tables)) where
         hardware = hardware-once (rw (with-own side (s .tables)) at (unmap-step side (s .tables) (s .memory) (route side (s .tables)) vm gpa g));
       }
 
-module _ (s : State) (valid : ValidTables (s .tables)) where
-  pub cpu-map-follows : (vm : VmId) (guest : GuestPage) (page : PhysPage) (access generation : ℕ) → FollowsUpstream s (CpuMap vm guest page access generation)
-  unfolding control mapControl step decided apply clearedPages
-  cpu-map-follows vm guest page access generation =
+  pub map-follows : (vm gpa page access generation : ℕ) →
+      FollowsControl s (mapControl side (s .tables) vm gpa page access generation) (map side vm gpa (entryOf page access generation) ∷ []) (mapCalls side (route side (s .tables)) vm gpa (entryOf page access generation))
+  unfolding mapControl decided apply clearedPages
+  map-follows vm gpa page access generation =
       decided-follows s _ _ quiet _ _
       (λ dropped word e.
-      map-follows Cpu s valid (vm .0) (guest .0) (page .0) access generation
-      (map-all-passed Cpu (s .tables .known) (s .tables .setup .pages) (s .tables .sets) (s .tables .pairs) (s .tables .cpu .map) (s .tables .cpu .cache) (vm .0) (guest .0) (page .0) access generation e))
+      map-both vm gpa page access generation
+      (map-all-passed side (s .tables .known) (s .tables .setup .pages) (s .tables .sets) (s .tables .pairs) (route side (s .tables) .map) (route side (s .tables) .cache) vm gpa page access generation e))
 
-  pub dma-map-follows : (vm : VmId) (guest : GuestPage) (page : PhysPage) (access generation : ℕ) → FollowsUpstream s (DmaMap vm guest page access generation)
-  unfolding control mapControl step decided apply clearedPages
-  dma-map-follows vm guest page access generation =
-      decided-follows s _ _ quiet _ _
-      (λ dropped word e.
-      map-follows Dma s valid (vm .0) (guest .0) (page .0) access generation
-      (map-all-passed Dma (s .tables .known) (s .tables .setup .pages) (s .tables .sets) (s .tables .pairs) (s .tables .dma .map) (s .tables .dma .cache) (vm .0) (guest .0) (page .0) access generation e))
-
-  pub cpu-unmap-follows : (vm : VmId) (guest : GuestPage) → FollowsUpstream s (CpuUnmap vm guest)
-  unfolding control unmapControl step decided apply clearedPages
-  cpu-unmap-follows vm guest = decided-follows s _ _ quiet _ _ (λ dropped word e. unmap-follows Cpu s valid (vm .0) (guest .0) e)
-
-  pub dma-unmap-follows : (vm : VmId) (guest : GuestPage) → FollowsUpstream s (DmaUnmap vm guest)
-  unfolding control unmapControl step decided apply clearedPages
-  dma-unmap-follows vm guest = decided-follows s _ _ quiet _ _ (λ dropped word e. unmap-follows Dma s valid (vm .0) (guest .0) e)
+  pub unmap-follows : (vm gpa : ℕ) → FollowsControl s (unmapControl side (s .tables) vm gpa) (unmap side vm gpa ∷ []) (unmap-invalidate side vm gpa ∷ [])
+  unfolding unmapControl decided apply clearedPages
+  unmap-follows vm gpa = decided-follows s _ _ quiet _ _ (λ dropped word e. unmap-both vm gpa e)

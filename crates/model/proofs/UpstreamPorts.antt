@@ -1,7 +1,7 @@
 -- Operations 15 to 20, 25 and 26 are upstream's steps, or ours where it has none: ports, fills, emptied slots, barriers.
 use Prim.Native.Nat.{ℕ, _<_}
 use mathlib.Core.Bool.{true, not, _&&_}
-use mathlib.Core.List.{List}
+use mathlib.Core.List.{List, [], _∷_}
 use mathlib.Core.Logic.{_⊎_, inl, inr, ⊎-elim}
 use mathlib.Core.Option.{Option, none, some}
 use mathlib.Core.Path.{_≡_, refl, sym, ap, _∙_}
@@ -14,10 +14,8 @@ use Rattle.numbers.specs.Limits.{VMS, GUEST-PAGES, PORTS, SLOTS, IDLE}
 use Rattle.numbers.specs.Packing.{key, keyOf, slotKey, slotWord, entryOf, portOf, vmOf, guestOf, filledOf}
 use Rattle.numbers.specs.PackingLaws.{word-entry, word-filled, word-key, key-filled}
 use Rattle.numbers.specs.declared.Answer.the-variants.{Accepted}
-use Rattle.numbers.specs.declared.GuestPage.{GuestPage}
 use Rattle.numbers.specs.declared.Target.{Target}
 use Rattle.numbers.specs.declared.Target.the-variants.{Idle, Vm}
-use Rattle.numbers.specs.declared.Operation.the-variants.{SwitchCpu, BindDevice, CpuFill, DmaFill, EmptyCpuSlot, EmptyDmaSlot, DataBarrier, InstructionBarrier}
 use Rattle.numbers.specs.declared.Side.{Side}
 use Rattle.numbers.specs.declared.Side.the-variants.{Cpu, Dma}
 use Rattle.table.specs.ScanLaws.{equal, found-never, found-count}
@@ -25,17 +23,18 @@ use Rattle.table.specs.Table.{isEmpty, freeEntries, lookup, place, Has, Distinc
 use Rattle.table.specs.TableLaws.{IsPlace, find-none, place-is, place-none, place-room, distinct-alone, lookup-has, lookup-none, has-lookup, has-set-inv, has-set-keep, lookup-set-same, lookup-set-other}
 use Rattle.table.specs.declared.Found.{Found}
 use Rattle.table.specs.declared.Found.the-variants.{At, Nothing}
-use Rattle.model.specs.State.{Tables, Route, State, withRoute, withCache, withPorts}
-use Rattle.model.specs.Ports.{isTarget, portAnswer, portPorts, vmOn, fillPlace, fillCache, emptyAnswer, emptyCache}
+use Rattle.model.specs.State.{Tables, Route, State, route, withRoute, withCache, withPorts}
+use Rattle.model.specs.Ports.{isTarget, portAnswer, portPorts, vmOn, fillPlace, fillAnswer, fillCache, emptyAnswer, emptyCache}
 use Rattle.model.specs.Views.{isPort, isSlot, isIdle}
-use Rattle.model.specs.Step.{portControl, fillRoute, fillControl, emptyControl, control, step}
+use Rattle.model.specs.Step.{portControl, fillRoute, fillControl, emptyControl, barrierControl}
 use Rattle.model.specs.Effect.{quiet, decided, apply, clearedPages}
 use Rattle.model.specs.EarlyLaws.{past, hold}
 use Rattle.model.specs.Valid.{SlotGood, CacheGood, ValidTables}
 use Rattle.model.specs.Upstream.{S2Entry, tlbAt, seen, mapSeen, tlbSeen, activeSeen, hardwareView, SameTlb, SameHardware}
-use Rattle.model.specs.UpstreamRun.{HardwareStep, HardwareRun, stop, go, fillCall, forgetCall, portCalls, fillCalls, emptyCalls, FollowsUpstream}
+use Rattle.model.specs.UpstreamRun.{HardwareStep, HardwareRun, stop, go, fillCall, forgetCall, portCalls, fillCalls, emptyCalls, HardwareCall, Follows, FollowsControl}
 use Rattle.model.specs.UpstreamStep.{withActive, answerAt}
 use Rattle.model.proofs.RoutesKept.{slot-made}
+use Rattle.model.proofs.OneRoute.{route-of, lengths-of}
 use Rattle.model.proofs.GoodPorts.{FillPassed, fill-passed}
 use Rattle.model.proofs.UpstreamFollows.{same-software, same-hardware, hardware-once, decided-follows}
 use Rattle.model.proofs.UpstreamRoutes.{shown, walk-of, tlb-of, route-hardware}
@@ -213,73 +212,51 @@ switch-run s port Idle h e = hardware-once (ports-hardware s (set (s .tables .cp
 switch-run s port (Vm vm) h e =
     hardware-once (ports-hardware s (set (s .tables .cpu .ports) port (vm .0)) _ (λ cpu. active-set (s .tables .cpu .ports) port (vm .0) h cpu ∙ rw e))
 
-module _ (s : State) (valid : ValidTables (s .tables)) where
-  -- ---- 15, 16: what a device is bound to is in neither view
-  pub switch-follows : (port : ℕ) (target : Target) → FollowsUpstream s (SwitchCpu port target)
-  unfolding control portControl portAnswer step decided apply clearedPages
-  switch-follows port target =
+-- ---- the operations
+-- what a device is bound to is in neither view
+port-run : (side : Side) (s : State) (port : ℕ) (target : Target) → port < length (route side (s .tables) .ports) → isTarget target ≡ true →
+    Follows s (record { tables = withRoute side (s .tables) (withPorts (route side (s .tables)) (portPorts (route side (s .tables) .ports) port target)); memory = s .memory }) [] (portCalls side port target)
+port-run Cpu s port target h e = record { software = stop (same-software _); hardware = switch-run s port target h e }
+port-run Dma s port target h e = record { software = stop (same-software _); hardware = stop (same-hardware _) }
+
+slot-below : (slot : ℕ) {dropped word : ℕ} → emptyAnswer slot ≡ Accepted dropped word → slot < SLOTS
+unfolding emptyAnswer
+slot-below slot e = ltb-true slot SLOTS (not-false _ (past (not (isSlot slot)) _ _ _ e .0))
+
+-- a run of hardware steps that leaves the side's maps and ports
+cache-only : (side : Side) (s : State) (cache : List ℕ) (hand : ℕ) (calls : List HardwareCall) → HardwareRun calls (shown side (s .tables) (s .memory) (route side (s .tables))) (shown side (s .tables) (s .memory) (withCache (route side (s .tables)) cache hand)) →
+    Follows s (record { tables = withRoute side (s .tables) (withCache (route side (s .tables)) cache hand); memory = s .memory }) [] calls
+cache-only Cpu s cache hand calls run = record { software = stop (same-software _); hardware = run }
+cache-only Dma s cache hand calls run = record { software = stop (same-software _); hardware = run }
+
+module _ (side : Side) (s : State) (valid : ValidTables (s .tables)) where
+  pub port-follows : (port : ℕ) (target : Target) → FollowsControl s (portControl side (s .tables) port target) [] (portCalls side port target)
+  unfolding portControl portAnswer decided apply clearedPages
+  port-follows port target =
       decided-follows s (portAnswer (s .tables .known) port target) _ quiet _ _
       (λ dropped word e.
       let (a, b) = past (not (isPort port && isTarget target)) _ _ _ e in
       let (p, r) = hold (isPort port) (isTarget target) a in
-      record { software = stop (same-software _); hardware = switch-run s port target (rw (valid .lengths .cpu .ports) (ltb-true port PORTS p)) r })
+      port-run side s port target (rw (lengths-of side (s .tables) valid .ports) (ltb-true port PORTS p)) r)
 
-  pub bind-follows : (port : ℕ) (target : Target) → FollowsUpstream s (BindDevice port target)
-  unfolding control portControl step decided apply clearedPages
-  bind-follows port target =
-      decided-follows s (portAnswer (s .tables .known) port target) _ quiet _ _ (λ dropped word e. record { software = stop (same-software _); hardware = stop (same-hardware _) })
-
-  -- ---- 17, 18
-  pub cpu-fill-follows : (port : ℕ) (guest : GuestPage) → FollowsUpstream s (CpuFill port guest)
-  unfolding control fillControl step decided apply clearedPages
-  cpu-fill-follows port guest =
-      decided-follows s _ _ quiet _ _
+  pub fill-follows : (port gpa : ℕ) → FollowsControl s (fillControl side (s .tables) port gpa) [] (fillCalls side (route side (s .tables)) port gpa)
+  unfolding fillControl decided apply clearedPages
+  fill-follows port gpa =
+      let r = route side (s .tables) in
+      let g = route-of side (s .tables) valid in
+      decided-follows s (fillAnswer (r .ports) (r .walker) port gpa) _ quiet _ _
       (λ dropped word e.
-      record {
-        software = stop (same-software _);
-        hardware = fill-run Cpu (s .tables) (s .memory) (s .tables .cpu) (valid .cpu .cache) (valid .lengths .cpu .cache) (valid .cpu .hand) port (guest .0) (fill-passed (s .tables .cpu .ports) (s .tables .cpu .walker) port (guest .0) e);
-      })
+      cache-only side s _ _ _ (fill-run side (s .tables) (s .memory) r (g .cache) (lengths-of side (s .tables) valid .cache) (g .hand) port gpa (fill-passed (r .ports) (r .walker) port gpa e)))
 
-  pub dma-fill-follows : (port : ℕ) (guest : GuestPage) → FollowsUpstream s (DmaFill port guest)
-  unfolding control fillControl step decided apply clearedPages
-  dma-fill-follows port guest =
-      decided-follows s _ _ quiet _ _
-      (λ dropped word e.
-      record {
-        software = stop (same-software _);
-        hardware = fill-run Dma (s .tables) (s .memory) (s .tables .dma) (valid .dma .cache) (valid .lengths .dma .cache) (valid .dma .hand) port (guest .0) (fill-passed (s .tables .dma .ports) (s .tables .dma .walker) port (guest .0) e);
-      })
-
-  -- ---- 19, 20
-  slot-below : (slot : ℕ) {dropped word : ℕ} → emptyAnswer slot ≡ Accepted dropped word → slot < SLOTS
-  unfolding emptyAnswer
-  slot-below slot e = ltb-true slot SLOTS (not-false _ (past (not (isSlot slot)) _ _ _ e .0))
-
-  pub cpu-empty-follows : (slot : ℕ) → FollowsUpstream s (EmptyCpuSlot slot)
-  unfolding control emptyControl step decided apply clearedPages
-  cpu-empty-follows slot =
+  pub empty-follows : (slot : ℕ) → FollowsControl s (emptyControl side (s .tables) slot) [] (emptyCalls side (route side (s .tables)) slot)
+  unfolding emptyControl decided apply clearedPages
+  empty-follows slot =
+      let r = route side (s .tables) in
       decided-follows s (emptyAnswer slot) _ quiet _ _
       (λ dropped word e.
-      record {
-        software = stop (same-software _);
-        hardware = empty-run Cpu (s .tables) (s .memory) (s .tables .cpu) slot (valid .cpu .cache) (rw (valid .lengths .cpu .cache) (slot-below slot e));
-      })
+      cache-only side s _ _ _ (empty-run side (s .tables) (s .memory) r slot (route-of side (s .tables) valid .cache) (rw (lengths-of side (s .tables) valid .cache) (slot-below slot e))))
 
-  pub dma-empty-follows : (slot : ℕ) → FollowsUpstream s (EmptyDmaSlot slot)
-  unfolding control emptyControl step decided apply clearedPages
-  dma-empty-follows slot =
-      decided-follows s (emptyAnswer slot) _ quiet _ _
-      (λ dropped word e.
-      record {
-        software = stop (same-software _);
-        hardware = empty-run Dma (s .tables) (s .memory) (s .tables .dma) slot (valid .dma .cache) (rw (valid .lengths .dma .cache) (slot-below slot e));
-      })
-
-  -- ---- 25, 26
-  pub data-barrier-follows : FollowsUpstream s DataBarrier
-  unfolding control step decided apply clearedPages
-  data-barrier-follows = record { software = stop (same-software _); hardware = hardware-once (same-hardware _) }
-
-  pub instruction-barrier-follows : FollowsUpstream s InstructionBarrier
-  unfolding control step decided apply clearedPages
-  instruction-barrier-follows = record { software = stop (same-software _); hardware = hardware-once (same-hardware _) }
+-- a barrier, of either kind
+pub barrier-follows : (s : State) (call : HardwareCall) → HardwareStep call (hardwareView s) (hardwareView s) → FollowsControl s (barrierControl (s .tables)) [] (call ∷ [])
+unfolding decided apply clearedPages
+barrier-follows s call same = record { software = stop (same-software _); hardware = hardware-once same }

@@ -11,10 +11,6 @@ use Rattle.numbers.specs.Limits.{VMS, GUEST-PAGES, PAGES}
 use Rattle.numbers.specs.Packing.{key, keyOf, pageOf}
 use Rattle.numbers.specs.PackingLaws.{key-same}
 use Rattle.numbers.specs.declared.Answer.the-variants.{Accepted}
-use Rattle.numbers.specs.declared.VmId.{VmId}
-use Rattle.numbers.specs.declared.GuestPage.{GuestPage}
-use Rattle.numbers.specs.declared.PhysPage.{PhysPage}
-use Rattle.numbers.specs.declared.Operation.the-variants.{InsertRegion, RemoveRegion, DmaInsertRegion, DmaRemoveRegion}
 use Rattle.numbers.specs.declared.Side.{Side}
 use Rattle.numbers.specs.declared.Side.the-variants.{Cpu, Dma}
 use Rattle.table.specs.Table.{lookup, put, freeEntries, Distinct}
@@ -28,12 +24,12 @@ use Rattle.model.specs.Maps.{mapTable}
 use Rattle.model.specs.Views.{inPool, inShared, claims, claimedElsewhere, paired, edgeOn, targeted, butKey}
 use Rattle.model.specs.EarlyLaws.{past, then-passed, RegionPassed}
 use Rattle.model.specs.Regions.{guestIn, pageIn, keyIn, regionEntry, regionEarly, present, claimed, notHeld, differs, insertAnswer, insertSets, insertTable, removeAnswer, removeSets, removeClears}
-use Rattle.model.specs.Step.{regionOf, insertRoute, insertControl, removeRoute, removeControl, control, step}
+use Rattle.model.specs.Step.{insertRoute, insertControl, removeRoute, removeControl}
 use Rattle.model.specs.Effect.{quiet, clears, decided, apply, clearedPages}
 use Rattle.model.specs.Valid.{SameMap, MapGood, ValidTables}
 use Rattle.model.specs.Upstream.{S2Entry, isSome, entriesOf, pagesOf, seen, mapSeen, HardwareView, softwareView}
 use Rattle.model.specs.UpstreamStep.{withPages, withoutPages, InsertEnabled, InsertRegionStep, RemoveEnabled, RemoveRegionStep, HardwareMapStep, UnmapInvalidateStep}
-use Rattle.model.specs.UpstreamRun.{HardwareCall, insert-region, remove-region, HardwareRun, stop, go, entryOf, insertCalls, removeCalls, clearCalls, Follows, FollowsUpstream}
+use Rattle.model.specs.UpstreamRun.{HardwareCall, insert-region, remove-region, HardwareRun, stop, go, entryOf, insertCalls, removeCalls, clearCalls, Follows, FollowsControl}
 use Rattle.model.proofs.ViewLaws.{neither, not-so, not-elsewhere, not-targeted, no-edge-on}
 use Rattle.model.proofs.OneRoute.{route-of, maps-of}
 use Rattle.model.proofs.RoutesKept.{maps-free}
@@ -285,10 +281,10 @@ module _ (side : Side) (t : Tables) (memory : List ℕ) (r : Route) (region : Re
 
 -- ---- the operations
 module _ (side : Side) (s : State) (valid : ValidTables (s .tables)) (region : Region) where
-  insert-follows : {dropped word : ℕ} → insertAnswer side (s .tables .known) (s .tables .setup .pages) (s .tables .setup .units) (s .tables .setup .unitCount) (s .tables .sets) (route side (s .tables) .map) region ≡ Accepted dropped word →
+  insert-both : {dropped word : ℕ} → insertAnswer side (s .tables .known) (s .tables .setup .pages) (s .tables .setup .units) (s .tables .setup .unitCount) (s .tables .sets) (route side (s .tables) .map) region ≡ Accepted dropped word →
       Follows s (record { tables = withSets (withRoute side (s .tables) (insertRoute (route side (s .tables)) region)) (insertSets side (s .tables .sets) region); memory = s .memory }) (insert-region side region ∷ []) (insertCalls side region 0 (region .count))
   unfolding SameMap
-  insert-follows e =
+  insert-both e =
       let t = s .tables in
       let p = insert-passed side (t .known) (t .setup .pages) (t .setup .units) (t .setup .unitCount) (t .sets) (route side t .map) region e in
       let m = maps-of side t valid in
@@ -300,9 +296,9 @@ module _ (side : Side) (s : State) (valid : ValidTables (s .tables)) (region : R
         hardware = rw (with-own side t) at (insert-run side t (s .memory) (route side t) (t .known) (t .setup .pages) region (p .early) (valid .setup .most-pages) room absent);
       }
 
-  remove-follows : {dropped word : ℕ} → removeAnswer side (s .tables .known) (s .tables .setup .pages) (s .tables .setup .units) (s .tables .setup .unitCount) (s .tables .sets) (s .tables .pairs) (route side (s .tables) .map) (route side (s .tables) .cache) region ≡ Accepted dropped word →
+  remove-both : {dropped word : ℕ} → removeAnswer side (s .tables .known) (s .tables .setup .pages) (s .tables .setup .units) (s .tables .setup .unitCount) (s .tables .sets) (s .tables .pairs) (route side (s .tables) .map) (route side (s .tables) .cache) region ≡ Accepted dropped word →
       Follows s (record { tables = withSets (withRoute side (s .tables) (removeRoute (route side (s .tables)) region)) (removeSets side (s .tables .sets) region); memory = clearedPages (removeClears side (s .tables .sets) region) (s .memory) }) (remove-region side region ∷ []) (removeCalls side region 0 (region .count) ++ clearCalls (removeClears side (s .tables .sets) region))
-  remove-follows e =
+  remove-both e =
       let t = s .tables in
       let r = route side t in
       let p = remove-passed side (t .known) (t .setup .pages) (t .setup .units) (t .setup .unitCount) (t .sets) (t .pairs) (r .map) (r .cache) region e in
@@ -315,19 +311,10 @@ module _ (side : Side) (s : State) (valid : ValidTables (s .tables)) (region : R
             (remove-run side t (s .memory) r region (good .walker .once) (good .cache .once) _ _ (clear-run (withRoute side t (removeRoute r region)) (removeClears side (t .sets) region) (s .memory)));
       }
 
-module _ (s : State) (valid : ValidTables (s .tables)) (vm : VmId) (guest : GuestPage) (page : PhysPage) (count access : ℕ) where
-  pub insert-region-follows : FollowsUpstream s (InsertRegion vm guest page count access)
-  unfolding control insertControl step decided apply clearedPages
-  insert-region-follows = decided-follows s _ _ quiet _ _ (λ dropped word e. insert-follows Cpu s valid (regionOf vm guest page count access) e)
+  pub insert-follows : FollowsControl s (insertControl side (s .tables) region) (insert-region side region ∷ []) (insertCalls side region 0 (region .count))
+  unfolding insertControl decided apply clearedPages
+  insert-follows = decided-follows s _ _ quiet _ _ (λ dropped word e. insert-both e)
 
-  pub remove-region-follows : FollowsUpstream s (RemoveRegion vm guest page count access)
-  unfolding control removeControl step decided apply
-  remove-region-follows = decided-follows s _ _ (clears (removeClears Cpu (s .tables .sets) (regionOf vm guest page count access))) _ _ (λ dropped word e. remove-follows Cpu s valid (regionOf vm guest page count access) e)
-
-  pub dma-insert-region-follows : FollowsUpstream s (DmaInsertRegion vm guest page count access)
-  unfolding control insertControl step decided apply clearedPages
-  dma-insert-region-follows = decided-follows s _ _ quiet _ _ (λ dropped word e. insert-follows Dma s valid (regionOf vm guest page count access) e)
-
-  pub dma-remove-region-follows : FollowsUpstream s (DmaRemoveRegion vm guest page count access)
-  unfolding control removeControl step decided apply
-  dma-remove-region-follows = decided-follows s _ _ (clears (removeClears Dma (s .tables .sets) (regionOf vm guest page count access))) _ _ (λ dropped word e. remove-follows Dma s valid (regionOf vm guest page count access) e)
+  pub remove-follows : FollowsControl s (removeControl side (s .tables) region) (remove-region side region ∷ []) (removeCalls side region 0 (region .count) ++ clearCalls (removeClears side (s .tables .sets) region))
+  unfolding removeControl decided apply
+  remove-follows = decided-follows s _ _ (clears (removeClears side (s .tables .sets) region)) _ _ (λ dropped word e. remove-both e)

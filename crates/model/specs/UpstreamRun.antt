@@ -46,12 +46,12 @@ use Rattle.table.specs.Table.{find, place, isFound}
 use Rattle.units.specs.Units.{assignable}
 use Rattle.units.specs.declared.Region.{Region}
 use Rattle.model.specs.State.{Tables, Route, Setup, State}
-use Rattle.model.specs.Effect.{memoryIndex, kept}
+use Rattle.model.specs.Effect.{memoryIndex, kept, Control}
 use Rattle.model.specs.Ledger.{reclaimClears}
 use Rattle.model.specs.Regions.{guestIn, pageIn, removeClears}
 use Rattle.model.specs.Ports.{vmOn}
 use Rattle.model.specs.Access.{accessPlace}
-use Rattle.model.specs.Step.{control, regionOf, step}
+use Rattle.model.specs.Step.{control, carriedOut, regionOf, step}
 use Rattle.model.specs.Upstream.{S2Entry, permsOf, isSome, tlbAt, SoftwareView, HardwareView, softwareView, hardwareView, SameSoftware, SameHardware}
 use Rattle.model.specs.UpstreamStep.{
   MapStep,
@@ -279,6 +279,10 @@ hardwareCalls t InstructionBarrier = isb ∷ []
 pub record Follows (s s′ : State) (calls : List SoftwareCall) (calls′ : List HardwareCall) : Type 0 where
   pub software : SoftwareRun (s .tables .setup) calls (softwareView (s .tables)) (softwareView (s′ .tables))
   pub hardware : HardwareRun calls′ (hardwareView s) (hardwareView s′)
+
+-- what the tables decide, carried out
+abbrev pub FollowsControl : State → Control → List SoftwareCall → List HardwareCall → Type 0
+FollowsControl s c calls calls′ = Follows s (carriedOut c (s .memory) .state) (kept (c .answer) [] calls) (kept (c .answer) [] calls′)
 
 abbrev pub FollowsUpstream : State → Operation → Type 0
 FollowsUpstream s operation =
