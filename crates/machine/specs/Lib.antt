@@ -2,3 +2,4 @@
 pub mod Run
 pub mod RoomLaws
 pub mod RunLaws
+pub mod EntryLaws

@@ -1,4 +1,4 @@
-// The sequence: rows carried out one after the other, each answered.
+// The sequence: rows carried out one after the other, each answered. Its entries judge the state first.
 ghost use mathlib.Core.Path.{_≡_};
 ghost use Prim.Native.Nat.{_+_, _*_, _≤_};
 ghost use lib.ListN.{length};
@@ -8,6 +8,9 @@ ghost use Rattle.model.specs.Header.{stateOf};
 ghost use Rattle.model.specs.Sequence.{writeAt, turn, after, sequence};
 ghost use Rattle.operate.specs.Outcome.{Fit};
 ghost use Rattle.machine.specs.Run.{progress, ran, shapeOf};
+
+pub mod entries;
+
 use model::Machine;
 use numbers::ANSWER_NUMBERS;
 use numbers::Answer;
@@ -158,8 +161,8 @@ pub struct Ran {
     pub machine: Machine,
 }
 
-// All the rows; refused as a whole for its shape, it leaves everything.
-pub fn sequence(
+// All the rows, of a state that has been judged; refused as a whole for its shape, it leaves everything.
+fn carry_out(
     m: Machine,
     sets: &mut [u64],
     pairs: &mut [u64],

@@ -8,7 +8,7 @@ use native.Mathlib.Omega.{arith}
 use lib.Dec.{eqb}
 use lib.ListN.{length}
 use borrow.Author.Tests.{eqb-false, ne-eqb, ltb-true, not-false}
-use Rattle.numbers.specs.Limits.{PORTS, VMS, PAIRS}
+use Rattle.numbers.specs.Limits.{VMS, PAIRS}
 use Rattle.numbers.specs.Packing.{filledOf, pageOf, vmOf, leftOf, rightOf, pairWord, pairKey, pairKeyOf}
 use Rattle.numbers.specs.PackingLaws.{pair-left, pair-right, pair-page, pair-filled, pair-port, pair-access, pair-generation, pair-key, pair-same}
 use Rattle.numbers.specs.declared.Answer.{Answer}
@@ -22,9 +22,8 @@ use Rattle.table.specs.ScanLaws.{cases, equal, length-wipe, has-wipe-inv, has-w
 use Rattle.table.specs.Table.{Has, hasKey, put, erase, roomFor}
 use Rattle.table.specs.TableLaws.{length-put, has-put-inv, has-put-keep, distinct-put, distinct-wipe}
 use Rattle.pages.specs.BitLaws.{hasBit-with-same, hasBit-with-other, hasBit-without-other, withBit-fits, withoutBit-fits}
-use Rattle.pages.specs.Rows.{holds, poolRow, cpuRow, dmaRow}
 use Rattle.model.specs.State.{Tables, route, withKnown, withSets, withPairs}
-use Rattle.model.specs.Views.{isVm, knows, inPool, owns, holdsDma, claimedElsewhere, targeted, whichever, ofVm, edgeOn, hasPages, hasMappings, edgeOf, onPort, shares, paired, mayMap}
+use Rattle.model.specs.Views.{isVm, knows, inPool, owns, holdsDma, claims, claimedElsewhere, targeted, whichever, ofVm, edgeOn, hasPages, hasMappings, edgeOf, onPort, shares, paired, mayMap}
 use Rattle.model.specs.Effect.{quiet, clears, accepted}
 use Rattle.model.specs.Sequence.{vmId, physPage}
 use Rattle.model.specs.EarlyLaws.{past, then-passed, PagePassed, page-passed, PairPassed, pair-passed}
@@ -47,13 +46,14 @@ use Rattle.model.specs.Ledger.{
   unshareAnswer,
   unsharePairs,
 }
-use Rattle.model.specs.ShapeLaws.{length-assign, length-reclaim}
 use Rattle.model.specs.Step.{addVmControl, removeVmControl, assignControl, reclaimControl, shareControl, unshareControl}
-use Rattle.model.specs.Valid.{pool, cpu, PairGood, PairsGood, ValidTables}
+use Rattle.model.specs.Valid.{PairGood, PairsGood, ValidTables}
 use Rattle.model.specs.Good.{Good, Made, holdsPage, Cleared}
-use Rattle.model.proofs.ViewLaws.{either, neither, of-vm, Lends, lends-shares, shares-lends, no-edge-on, no-edge-of, not-paired, not-targeted, no-mappings, on-no-port, no-pages, may-own, may-lent}
-use Rattle.model.proofs.PagesKept.{Moved, assign-moved, reclaim-moved, moved-keeps, moved-back, pages-assigned, pages-reclaimed, page-held, one-holder}
-use Rattle.model.proofs.LedgerKept.{each-side, Named, by-claim, by-entry, by-pair, by-port, known-valid, Used, by-map, by-edge, moved-valid, pairs-valid}
+use Rattle.model.proofs.ViewLaws.{neither, of-vm, Lends, lends-shares, shares-lends, no-edge-on, no-edge-of, not-paired, not-targeted, no-mappings, on-no-port, no-pages, may-own, may-lent}
+use Rattle.model.proofs.PagesKept.{pages-assigned, pages-reclaimed}
+use Rattle.model.proofs.EditedSets.{Edited, insert-edited, remove-edited, given-stays, given-holds, taken-ended, ended-free}
+use Rattle.model.proofs.OneRoute.{lengths-of}
+use Rattle.model.proofs.LedgerKept.{Named, by-claim, by-entry, by-pair, by-port, known-valid, sets-valid, pairs-valid}
 use Rattle.model.proofs.Refused.{quiet-good, decided-good}
 
 -- ---- 1: add VM, after which the others are known as before
@@ -75,15 +75,20 @@ known-removed : (known vm other : ℕ) → (other ≡ vm → ⊥) → knows know
 unfolding knows
 known-removed known vm other d k = hasBit-without-other known vm other d ∙ k
 
-record RemovePassed (t : Tables) (vm : ℕ) : Type 0 where
+-- what holds for CPU and for DMA
+each-side : (P : Side → Type 0) → P Cpu → P Dma → (side : Side) → P side
+each-side P c d Cpu = c
+each-side P c d Dma = d
+
+record RemoveVmPassed (t : Tables) (vm : ℕ) : Type 0 where
   no-claim : (side : Side) → hasPages side (t .sets) vm ≡ false
   no-entry : (side : Side) → hasMappings (route side t .map) vm ≡ false
   no-pair : edgeOf (t .pairs) vm ≡ false
   no-port : (side : Side) → onPort (route side t .ports) vm ≡ false
 
-remove-passed : (t : Tables) (vm : ℕ) {dropped word : ℕ} → removeVmAnswer (t .known) (t .sets) (t .pairs) (t .cpu .map) (t .dma .map) (t .cpu .ports) (t .dma .ports) vm ≡ Accepted dropped word → RemovePassed t vm
+remove-vm-passed : (t : Tables) (vm : ℕ) {dropped word : ℕ} → removeVmAnswer (t .known) (t .sets) (t .pairs) (t .cpu .map) (t .dma .map) (t .cpu .ports) (t .dma .ports) vm ≡ Accepted dropped word → RemoveVmPassed t vm
 unfolding removeVmAnswer
-remove-passed t vm e =
+remove-vm-passed t vm e =
     let (d, w, early, rest) = then-passed (vmEarly (t .known) vm) _ e in
     let g = neither _ (onPort (t .dma .ports) vm) (past _ _ _ _ rest .0) in
     let f = neither _ (onPort (t .cpu .ports) vm) (g .0) in
@@ -98,21 +103,18 @@ remove-passed t vm e =
       no-port = each-side (λ side. onPort (route side t .ports) vm ≡ false) (f .1) (g .1);
     }
 
-named-nowhere : (t : Tables) (vm : ℕ) → ValidTables t → RemovePassed t vm → Named t vm → ⊥
+named-nowhere : (t : Tables) (vm : ℕ) → ValidTables t → RemoveVmPassed t vm → Named t vm → ⊥
 named-nowhere t vm v u (by-claim side page l e) = true≢false (sym e ∙ no-pages side (t .sets) vm page (u .no-claim side) (omega (arith, v .setup .most-pages)))
 named-nowhere t vm v u (by-entry side w h f e) = no-mappings (route side t .map) vm w (u .no-entry side) h f e
 named-nowhere t vm v u (by-pair w h f e) = no-edge-of (t .pairs) vm w (u .no-pair) h f e
-named-nowhere t vm v u (by-port side port h e) = on-no-port (route side t .ports) vm port (u .no-port side) (rw long h) e
-  where
-    long : length (route side t .ports) ≡ PORTS
-    long = each-side (λ s. length (route s t .ports) ≡ PORTS) (v .lengths .cpu .ports) (v .lengths .dma .ports) side
+named-nowhere t vm v u (by-port side port h e) = on-no-port (route side t .ports) vm port (u .no-port side) (rw (lengths-of side t v .ports) h) e
 
 pub remove-vm-good : (t : Tables) → ValidTables t → (vm : VmId) → Good t (RemoveVm vm) (removeVmControl t (vm .0))
 unfolding removeVmControl
 remove-vm-good t v vm =
     decided-good t v (RemoveVm vm) _ (withKnown t (removeVmKnown (t .known) (vm .0))) quiet
     (λ dropped word e.
-    let u = remove-passed t (vm .0) e in
+    let u = remove-vm-passed t (vm .0) e in
     quiet-good t (RemoveVm vm) _ _
     (known-valid t v (removeVmKnown (t .known) (vm .0)) (withoutBit-fits (t .known) (vm .0) VMS (v .known))
     (λ other n. known-removed (t .known) (vm .0) other (λ q. named-nowhere t (vm .0) v u (rw q at n))))
@@ -132,18 +134,23 @@ assign-passed t vm page e =
     let b = past (claimedElsewhere Dma (t .sets) vm page) _ _ _ (a .1) in
     record { early = page-passed (t .known) (t .setup .pages) vm page early; free = not-false _ (a .0); alone = b .0 }
 
-module _ (t : Tables) (v : ValidTables t) (vm page : ℕ) (p : AssignPassed t vm page) (m : Moved (t .sets) (assignSets (t .sets) vm page) poolRow (cpuRow vm) page) where
+module _ (t : Tables) (v : ValidTables t) (vm page : ℕ) (p : AssignPassed t vm page) where
+  given : Edited Cpu vm true page 1 (t .sets) (assignSets (t .sets) vm page)
+  given = insert-edited vm page (t .sets) (p .early .vm-ok) (omega (arith, v .setup .most-pages, p .early .page-ok)) (v .lengths .sets) Cpu
+
+  assign-stays : (side : Side) (other page′ : ℕ) → page′ < t .setup .pages → claims side (t .sets) other page′ ≡ true → claims side (assignSets (t .sets) vm page) other page′ ≡ true
+  assign-stays side other page′ l = given-stays Cpu vm page 1 (t .sets) (assignSets (t .sets) vm page) given page′ (omega (arith, v .setup .most-pages)) side other
+
   assign-valid : ValidTables (withSets t (assignSets (t .sets) vm page))
   assign-valid =
-      moved-valid t v (assignSets (t .sets) vm page) poolRow (cpuRow vm) page m pool (λ e. omega arith) (λ other r u. omega arith)
-      (length-assign (t .sets) vm page ∙ v .lengths .sets)
-      (pages-assigned _ _ _ _ (t .sets) vm page (v .lengths .sets) (v .setup .most-pages) (p .early .vm-ok) (p .early .page-ok) (p .early .knows-vm) (p .free) (p .alone) (v .pages))
-
-  assign-holds : (other page′ : ℕ) → page′ < t .setup .pages → holdsPage (t .sets) other page′ ≡ true → holdsPage (assignSets (t .sets) vm page) other page′ ≡ true
-  assign-holds other page′ l = page-held (t .sets) _ other page′ (keeps (cpuRow other) (λ r. omega arith)) (keeps (dmaRow other) (λ r. omega arith))
-    where
-      keeps : (row : ℕ) → (row ≡ poolRow → ⊥) → holds (t .sets) row page′ ≡ true → holds (assignSets (t .sets) vm page) row page′ ≡ true
-      keeps row n = moved-keeps (t .sets) _ poolRow (cpuRow vm) page m row page′ (omega (arith, v .setup .most-pages)) (λ r q. n r)
+      sets-valid t v (assignSets (t .sets) vm page)
+      (record {
+        long = given .lengths ∙ v .lengths .sets;
+        good = pages-assigned _ _ _ _ (t .sets) vm page (v .lengths .sets) (v .setup .most-pages) (p .early .vm-ok) (p .early .page-ok) (p .early .knows-vm) (p .free) (p .alone) (v .pages);
+        shared = given .shared;
+        entry = λ side w h g. assign-stays side (vmOf w) (pageOf w) (g .page);
+        pair = λ w other h g. assign-stays Cpu other (pageOf w) (g .page);
+      })
 
 pub assign-good : (t : Tables) → ValidTables t → (vm : VmId) (page : PhysPage) → Good t (AssignPage vm page) (assignControl t (vm .0) (page .0))
 unfolding assignControl
@@ -151,8 +158,9 @@ assign-good t v vm page =
     decided-good t v (AssignPage vm page) _ (withSets t (assignSets (t .sets) (vm .0) (page .0))) quiet
     (λ dropped word e.
     let p = assign-passed t (vm .0) (page .0) e in
-    let m = assign-moved (t .sets) (vm .0) (page .0) (v .lengths .sets) (p .early .vm-ok) (omega (arith, v .setup .most-pages, p .early .page-ok)) in
-    quiet-good t (AssignPage vm page) _ _ (assign-valid t v (vm .0) (page .0) p m) (λ other page′ o. assign-holds t v (vm .0) (page .0) p m other page′) (λ w h. inl h))
+    quiet-good t (AssignPage vm page) _ _ (assign-valid t v (vm .0) (page .0) p)
+    (λ other page′ o l. given-holds Cpu (vm .0) (page .0) 1 (t .sets) _ (given t v (vm .0) (page .0) p) page′ (omega (arith, v .setup .most-pages)) other)
+    (λ w h. inl h))
 
 -- ---- 4: reclaim page, of one that neither the CPU map nor a pair uses
 record ReclaimPassed (t : Tables) (vm page : ℕ) : Type 0 where
@@ -170,58 +178,40 @@ reclaim-passed t vm page e =
     let c = neither (targeted whichever (t .cpu .map) page) (edgeOn (t .pairs) page) (b .0) in
     record { early = page-passed (t .known) (t .setup .pages) vm page early; owned = not-false _ (a .0); no-entry = c .0; no-pair = c .1 }
 
-used-nowhere : (t : Tables) (vm page : ℕ) → ReclaimPassed t vm page → Used t page → ⊥
-used-nowhere t vm page p (by-map w h f q) = not-targeted whichever (t .cpu .map) page w (p .no-entry) h refl f q
-used-nowhere t vm page p (by-edge w h f q) = no-edge-on (t .pairs) page w (p .no-pair) h f q
+module _ (t : Tables) (v : ValidTables t) (vm page : ℕ) (p : ReclaimPassed t vm page) where
+  taken : Edited Cpu vm false page 1 (t .sets) (reclaimSets (t .sets) vm page)
+  taken = remove-edited vm page (t .sets) (p .early .vm-ok) (omega (arith, v .setup .most-pages, p .early .page-ok)) (v .lengths .sets) Cpu
 
-reclaim-valid : (t : Tables) → ValidTables t → (vm page : ℕ) → ReclaimPassed t vm page → Moved (t .sets) (reclaimSets (t .sets) vm page) (cpuRow vm) poolRow page → ValidTables (withSets t (reclaimSets (t .sets) vm page))
-reclaim-valid t v vm page p m =
-    moved-valid t v (reclaimSets (t .sets) vm page) (cpuRow vm) poolRow page m (cpu vm (p .early .vm-ok)) (λ e. omega arith) (λ other r. used-nowhere t vm page p)
-    (length-reclaim (t .sets) vm page ∙ v .lengths .sets)
-    (pages-reclaimed _ _ _ _ (t .sets) vm page (v .lengths .sets) (v .setup .most-pages) (p .early .vm-ok) (p .early .page-ok) (p .owned) (v .pages))
+  reclaim-stays : (side : Side) (other page′ : ℕ) → page′ < t .setup .pages → (Cpu ≡ side → page′ ≡ page → ⊥) → claims side (t .sets) other page′ ≡ true → claims side (reclaimSets (t .sets) vm page) other page′ ≡ true
+  reclaim-stays side other page′ l n e = taken .outside side other page′ (omega (arith, v .setup .most-pages)) (λ s o low. let d = n (sym s) in omega arith) ∙ e
 
--- who holds what before and after
-module _ (t : Tables) (v : ValidTables t) (vm page : ℕ) (p : ReclaimPassed t vm page) (sets : List ℕ) (m : Moved (t .sets) sets (cpuRow vm) poolRow page) where
-  same-dma : (other page′ : ℕ) → page′ < t .setup .pages → holdsDma sets other page′ ≡ holdsDma (t .sets) other page′
-  same-dma other page′ l = m .other-rows (dmaRow other) page′ (omega (arith, v .setup .most-pages)) (λ r. omega arith) (λ r. omega arith)
+  reclaim-valid : ValidTables (withSets t (reclaimSets (t .sets) vm page))
+  reclaim-valid =
+      sets-valid t v (reclaimSets (t .sets) vm page)
+      (record {
+        long = taken .lengths ∙ v .lengths .sets;
+        good = pages-reclaimed _ _ _ _ (t .sets) vm page (v .lengths .sets) (v .setup .most-pages) (p .early .vm-ok) (p .early .page-ok) (p .owned) (v .pages);
+        shared = taken .shared;
+        entry = λ side w h g. reclaim-stays side (vmOf w) (pageOf w) (g .page) (λ s q. not-targeted whichever (t .cpu .map) page w (p .no-entry) (rw (← s) at h) refl (g .filled) q);
+        pair = λ w other h g. reclaim-stays Cpu other (pageOf w) (g .page) (λ s q. no-edge-on (t .pairs) page w (p .no-pair) h (g .filled) q);
+      })
 
-  -- an owner that is none any longer is the VM, of the page
-  disowned : (other page′ : ℕ) → page′ < t .setup .pages → owns (t .sets) other page′ ≡ true → owns sets other page′ ≡ false → (other ≡ vm) × (page′ ≡ page)
-  disowned other page′ l e n =
-      ⊎-elim (λ q. ⊎-elim (λ r. (r, q)) (λ d. absurd (kept (λ r s. d (omega arith)))) (equal other vm)) (λ d. absurd (kept (λ r s. d s))) (equal page′ page)
-    where
-      kept : (cpuRow other ≡ cpuRow vm → page′ ≡ page → ⊥) → ⊥
-      kept d = true≢false (sym (moved-keeps (t .sets) sets (cpuRow vm) poolRow page m (cpuRow other) page′ (omega (arith, v .setup .most-pages)) d e) ∙ n)
-
-  reclaim-wiped : (other page′ : ℕ) → page′ < t .setup .pages → holdsPage (t .sets) other page′ ≡ true → holdsPage sets other page′ ≡ false → Cleared (clears (reclaimClears (t .sets) vm page)) page′
+  reclaim-wiped : (other page′ : ℕ) → page′ < t .setup .pages → holdsPage (t .sets) other page′ ≡ true → holdsPage (reclaimSets (t .sets) vm page) other page′ ≡ false → Cleared (clears (reclaimClears (t .sets) vm page)) page′
   unfolding reclaimClears
   reclaim-wiped other page′ l e n =
-      let none = neither (owns sets other page′) (holdsDma sets other page′) n in
-      let no-dma : holdsDma (t .sets) other page′ ≡ false = sym (same-dma other page′ l) ∙ none .1 in
-      let owned = ⊎-elim (λ a. a) (λ d. absurd (true≢false (sym d ∙ no-dma))) (either (owns (t .sets) other page′) (holdsDma (t .sets) other page′) e) in
-      let (q, r) = disowned other page′ l owned (none .0) in
-      let f : holdsDma (t .sets) vm page ≡ false = rw (q, r) at no-dma in
-      rw f (inl (sym r))
+      let d = taken-ended Cpu vm page 1 (t .sets) (reclaimSets (t .sets) vm page) taken page′ (omega (arith, v .setup .most-pages)) other e n in
+      let q : page ≡ page′ = omega (arith, d .low, d .high) in
+      let f : holdsDma (t .sets) vm page ≡ false = rw q (d .unclaimed) in
+      rw f (inl q)
 
-  -- nobody holds the page who did not before, and then only the VM did
-  only-holder : (other : ℕ) → other < VMS → holdsPage sets other page ≡ true → other ≡ vm
-  only-holder other o e =
-      one-holder _ _ _ _ (t .sets) (v .pages) other vm page o (p .early .vm-ok) (p .early .page-ok)
-      (page-held sets (t .sets) other page owned (λ d. sym (same-dma other page (p .early .page-ok)) ∙ d) e) (rw (p .owned))
-    where
-      owned : owns sets other page ≡ true → owns (t .sets) other page ≡ true
-      owned a =
-          ⊎-elim (λ b. b) (λ r. absurd (omega (arith, r .0)))
-          (moved-back (t .sets) sets (cpuRow vm) poolRow page m (cpuRow other) page (omega (arith, v .setup .most-pages, p .early .page-ok)) a)
-
-  reclaim-free : (other page′ : ℕ) → other < VMS → Cleared (clears (reclaimClears (t .sets) vm page)) page′ → holdsPage sets other page′ ≡ true → ⊥
+  reclaim-free : (other page′ : ℕ) → other < VMS → page′ < t .setup .pages → Cleared (clears (reclaimClears (t .sets) vm page)) page′ → holdsPage (reclaimSets (t .sets) vm page) other page′ ≡ true → ⊥
   unfolding reclaimClears
-  reclaim-free other page′ o c e = ⊎-elim (λ y. absurd (rw y at c)) (λ f. ⊎-elim (λ q. ended f (rw (← q) at e)) (λ z. z) (rw f at c)) (cases (holdsDma (t .sets) vm page))
+  reclaim-free other page′ o l c e = ⊎-elim (λ y. absurd (rw y at c)) (λ f. ⊎-elim (ended f) (λ z. z) (rw f at c)) (cases (holdsDma (t .sets) vm page))
     where
-      ended : holdsDma (t .sets) vm page ≡ false → holdsPage sets other page ≡ true → ⊥
-      ended f h =
-          let none : holdsPage sets vm page ≡ false = rw (m .left, same-dma vm page (p .early .page-ok), f) in
-          true≢false (sym (rw (only-holder other o h) at h) ∙ none)
+      ended : holdsDma (t .sets) vm page ≡ false → page ≡ page′ → ⊥
+      ended f q =
+          ended-free Cpu vm page 1 (t .sets) (reclaimSets (t .sets) vm page) taken page′ (omega (arith, v .setup .most-pages)) _ _ _ _ (v .pages) l (p .early .vm-ok) (rw q at (p .owned))
+          (record { low = omega arith; high = omega arith; unclaimed = rw q at f }) other o e
 
 pub reclaim-good : (t : Tables) → ValidTables t → (vm : VmId) (page : PhysPage) → Good t (ReclaimPage vm page) (reclaimControl t (vm .0) (page .0))
 unfolding reclaimControl
@@ -229,13 +219,12 @@ reclaim-good t v vm page =
     decided-good t v (ReclaimPage vm page) _ (withSets t (reclaimSets (t .sets) (vm .0) (page .0))) (clears (reclaimClears (t .sets) (vm .0) (page .0)))
     (λ dropped word e.
     let p = reclaim-passed t (vm .0) (page .0) e in
-    let m = reclaim-moved (t .sets) (vm .0) (page .0) (v .lengths .sets) (omega (arith, v .setup .most-pages, p .early .page-ok)) in
     record {
-      valid = reclaim-valid t v (vm .0) (page .0) p m;
+      valid = reclaim-valid t v (vm .0) (page .0) p;
       reach = λ other page′ h. absurd h;
       still = λ h. absurd h;
-      wiped = λ other page′ o. reclaim-wiped t v (vm .0) (page .0) p _ m other page′;
-      free = λ other page′ o l. reclaim-free t v (vm .0) (page .0) p _ m other page′ o;
+      wiped = λ other page′ o. reclaim-wiped t v (vm .0) (page .0) p other page′;
+      free = reclaim-free t v (vm .0) (page .0) p;
       edges = λ w h. inl h;
     })
 

@@ -23,11 +23,11 @@ use Rattle.model.specs.Valid.{EntryGood, PairGood, ValidTables}
 use Rattle.model.specs.Good.{Good, holdsPage, PageIn}
 use Rattle.model.proofs.ViewLaws.{neither, no-edge-on}
 use Rattle.model.proofs.Refused.{quiet-good, decided-good}
+use Rattle.model.proofs.LedgerKept.{sets-valid, both-valid}
 use Rattle.model.proofs.RegionLaws.{InsertPassed, insert-passed, RemovePassed, remove-passed}
 use Rattle.model.proofs.EditedSets.{Changed, Ended, changed-or, other-differs, given-stays, given-holds, taken-ended, ended-free}
 use Rattle.model.proofs.RegionSets.{Turned, insert-sets, remove-sets}
 use Rattle.model.proofs.RegionTables.{insert-route, none-stays, remove-route}
-use Rattle.model.proofs.RegionKept.{sets-valid, both-valid}
 
 -- ---- a route and the sets, replaced in either order
 route-sets : (side : Side) (t : Tables) (sets : List ℕ) → route side (withSets t sets) ≡ route side t

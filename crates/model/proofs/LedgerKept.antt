@@ -3,40 +3,31 @@ use Prim.Native.Nat.{ℕ, _*_, _<_}
 use mathlib.Core.Bool.{true}
 use mathlib.Core.List.{List}
 use mathlib.Core.Logic.{inl, inr, ⊎-elim}
-use mathlib.Core.Path.{_≡_, refl, sym}
+use mathlib.Core.Path.{_≡_, refl, _∙_}
 use native.Mathlib.Omega.{arith}
 use lib.ListN.{length, getD}
-use Rattle.numbers.specs.Limits.{PORTS, PAIRS, SETS, SET-WORDS, IDLE}
+use Rattle.numbers.specs.Limits.{PAGES, PORTS, PAIRS, SETS, SET-WORDS, IDLE}
 use Rattle.numbers.specs.Packing.{filledOf, pageOf, vmOf, leftOf, rightOf}
 use Rattle.numbers.specs.declared.Side.{Side}
 use Rattle.numbers.specs.declared.Side.the-variants.{Cpu, Dma}
 use Rattle.table.specs.Table.{Has}
-use Rattle.pages.specs.Rows.{holds, sharedRow, cpuRow, dmaRow}
-use Rattle.model.specs.State.{Tables, route, withKnown, withSets, withPairs}
-use Rattle.model.specs.Views.{knows, owns, claims, shares, mayMap}
-use Rattle.model.specs.Valid.{Home, KnownGood, PagesGood, PairsGood, EntryGood, PortsGood, ValidTables}
+use Rattle.model.specs.State.{Tables, Route, route, withRoute, withKnown, withSets, withPairs}
+use Rattle.model.specs.Views.{knows, inShared, owns, claims, shares, lentTo, mayMap}
+use Rattle.model.specs.Valid.{KnownGood, PagesGood, PairGood, PairsGood, EntryGood, PortsGood, ValidTables}
 use Rattle.model.proofs.ViewLaws.{AtEnd, may-own, may-lent}
-use Rattle.model.proofs.PagesKept.{Moved, moved-keeps, home-dma}
+use Rattle.model.proofs.OneRoute.{route-of}
 use Rattle.model.proofs.Carried.{Ground, ground-kept, route-carried, pairs-carried, pages-carried}
 
--- what holds for CPU and for DMA
-pub each-side : (P : Side → Type 0) → P Cpu → P Dma → (side : Side) → P side
-each-side P c d Cpu = c
-each-side P c d Dma = d
-
-ports-good : (t : Tables) → ValidTables t → (side : Side) → PortsGood (t .known) (route side t .ports)
-ports-good t v = each-side (λ side. PortsGood (t .known) (route side t .ports)) (v .cpu .ports) (v .dma .ports)
-
 -- ---- all three replaced
-abbrev pub ledger : Tables → ℕ → List ℕ → List ℕ → Tables
+abbrev ledger : Tables → ℕ → List ℕ → List ℕ → Tables
 ledger t known sets pairs = record { setup = t .setup; known = known; sets = sets; pairs = pairs; cpu = t .cpu; dma = t .dma }
 
 -- an entry of the side that rests on the old ones rests on the new
-abbrev pub Carries : Tables → ℕ → List ℕ → List ℕ → Side → Type 0
+abbrev Carries : Tables → ℕ → List ℕ → List ℕ → Side → Type 0
 Carries t known sets pairs side = (w : ℕ) → Has (route side t .map) w → EntryGood side (t .setup .pages) (t .known) (t .sets) (t .pairs) w → Ground side known sets pairs w
 
 module _ (t : Tables) (v : ValidTables t) (known : ℕ) (sets pairs : List ℕ) where
-  pub ledger-valid : length sets ≡ SETS * SET-WORDS → length pairs ≡ PAIRS → KnownGood known →
+  ledger-valid : length sets ≡ SETS * SET-WORDS → length pairs ≡ PAIRS → KnownGood known →
       PagesGood (t .setup .pages) (t .setup .sharedBase) (t .setup .sharedCount) known sets → PairsGood (t .setup .pages) known sets pairs →
       ((side : Side) → Carries t known sets pairs side) → ((side : Side) → PortsGood known (route side t .ports)) → ValidTables (ledger t known sets pairs)
   ledger-valid sets-long pairs-long k g p carries ports =
@@ -71,52 +62,47 @@ known-valid t v known k keeps =
       owned = g .owned;
     }))
     (λ side w h g. record { vm = keeps _ (by-entry side w h (g .filled) refl) (g .vm); may = g .may })
-    (λ side port h. ⊎-elim inl (λ e. inr (keeps _ (by-port side port h refl) e)) (ports-good t v side port h))
+    (λ side port h. ⊎-elim inl (λ e. inr (keeps _ (by-port side port h refl) e)) (route-of side t v .ports port h))
 
--- ---- a page moved from one row to another
--- an entry of the CPU map or a pair is on the page
-pub data Used (t : Tables) (page : ℕ) : Type 0 where
-  by-map : (w : ℕ) → Has (t .cpu .map) w → filledOf w ≡ 1 → pageOf w ≡ page → Used t page
-  by-edge : (w : ℕ) → Has (t .pairs) w → filledOf w ≡ 1 → pageOf w ≡ page → Used t page
+-- ---- other page sets
+-- what is lent stays lent where the shared span stays
+lent-same : (side : Side) (sets sets′ pairs : List ℕ) (vm page : ℕ) → inShared sets′ page ≡ inShared sets page → lentTo side sets′ pairs vm page ≡ lentTo side sets pairs vm page
+lent-same Cpu sets sets′ pairs vm page e = refl
+lent-same Dma sets sets′ pairs vm page e = e
 
--- a page that leaves a VM is not used
-module _ (t : Tables) (v : ValidTables t) (sets : List ℕ) (from to page : ℕ) (m : Moved (t .sets) sets from to page)
-    (home : Home from) (own : from ≡ sharedRow → ⊥) (unused : (vm : ℕ) → cpuRow vm ≡ from → Used t page → ⊥) where
-  stays : (row page′ : ℕ) → page′ < t .setup .pages → (row ≡ from → page′ ≡ page → ⊥) → holds (t .sets) row page′ ≡ true → holds sets row page′ ≡ true
-  stays row page′ l n e = moved-keeps (t .sets) sets from to page m row page′ (omega (arith, v .setup .most-pages)) n e
+-- what is asked of the new sets: good in themselves, the shared span as it was, and the claims of entries and pairs kept
+pub record SetsKept (t : Tables) (sets : List ℕ) (entries : Side → List ℕ) : Type 0 where
+  pub long : length sets ≡ SETS * SET-WORDS
+  pub good : PagesGood (t .setup .pages) (t .setup .sharedBase) (t .setup .sharedCount) (t .known) sets
+  pub shared : (page : ℕ) → page < PAGES → inShared sets page ≡ inShared (t .sets) page
+  pub entry : (side : Side) (w : ℕ) → Has (entries side) w → EntryGood side (t .setup .pages) (t .known) (t .sets) (t .pairs) w → claims side (t .sets) (vmOf w) (pageOf w) ≡ true → claims side sets (vmOf w) (pageOf w) ≡ true
+  pub pair : (w vm : ℕ) → Has (t .pairs) w → PairGood (t .setup .pages) (t .known) (t .sets) w → owns (t .sets) vm (pageOf w) ≡ true → owns sets vm (pageOf w) ≡ true
 
-  owner-stays : (vm page′ : ℕ) → page′ < t .setup .pages → Used t page′ → owns (t .sets) vm page′ ≡ true → owns sets vm page′ ≡ true
-  owner-stays vm page′ l u e = stays (cpuRow vm) page′ l (λ r q. unused vm r (rw q at u)) e
+pub sets-valid : (t : Tables) → ValidTables t → (sets : List ℕ) → SetsKept t sets (λ side. route side t .map) → ValidTables (withSets t sets)
+sets-valid t v sets k =
+    ledger-valid t v (t .known) sets (t .pairs) (k .long) (v .lengths .pairs) (v .known) (k .good)
+    (pairs-carried (t .setup .pages) (t .known) (t .known) (t .sets) sets (t .pairs) (v .pairs)
+    (λ w h g. record { left = g .left; right = g .right; owned = ⊎-elim (λ o. inl (k .pair w (leftOf w) h g o)) (λ o. inr (k .pair w (rightOf w) h g o)) (g .owned) }))
+    carries (λ side. route-of side t v .ports)
+  where
+    carries : (side : Side) → Carries t (t .known) sets (t .pairs) side
+    carries side w h g =
+        let lent = lent-same side (t .sets) sets (t .pairs) (vmOf w) (pageOf w) (k .shared (pageOf w) (omega (arith, g .page, v .setup .most-pages))) in
+        ground-kept side (t .setup .pages) (t .known) (t .sets) sets (t .pairs) (t .pairs) w g
+        (λ c. may-own side sets (t .pairs) (vmOf w) (pageOf w) (k .entry side w h g c))
+        (λ l. may-lent side sets (t .pairs) (vmOf w) (pageOf w) (lent ∙ l))
 
-  moved-carries : (side : Side) → Carries t (t .known) sets (t .pairs) side
-  moved-carries Cpu w h g =
-      ground-kept Cpu (t .setup .pages) (t .known) (t .sets) sets (t .pairs) (t .pairs) w g
-      (λ o. may-own Cpu sets (t .pairs) (vmOf w) (pageOf w) (owner-stays (vmOf w) (pageOf w) (g .page) (by-map w h (g .filled) refl) o))
-      (may-lent Cpu sets (t .pairs) (vmOf w) (pageOf w))
-  moved-carries Dma w h g =
-      ground-kept Dma (t .setup .pages) (t .known) (t .sets) sets (t .pairs) (t .pairs) w g
-      (λ d. may-own Dma sets (t .pairs) (vmOf w) (pageOf w) (stays (dmaRow (vmOf w)) (pageOf w) (g .page) (λ r q. home-dma from (vmOf w) home (sym r)) d))
-      (λ s. may-lent Dma sets (t .pairs) (vmOf w) (pageOf w) (stays sharedRow (pageOf w) (g .page) (λ r q. own (sym r)) s))
-
-  pub moved-valid : length sets ≡ SETS * SET-WORDS → PagesGood (t .setup .pages) (t .setup .sharedBase) (t .setup .sharedCount) (t .known) sets → ValidTables (withSets t sets)
-  moved-valid long good =
-      ledger-valid t v (t .known) sets (t .pairs) long (v .lengths .pairs) (v .known) good
-      (pairs-carried (t .setup .pages) (t .known) (t .known) (t .sets) sets (t .pairs) (v .pairs)
-      (λ w h g.
-      let u = by-edge w h (g .filled) refl in
-      record {
-        left = g .left;
-        right = g .right;
-        owned = ⊎-elim (λ o. inl (owner-stays (leftOf w) (pageOf w) (g .page) u o)) (λ o. inr (owner-stays (rightOf w) (pageOf w) (g .page) u o)) (g .owned);
-      }))
-      moved-carries (ports-good t v)
+-- after an edit of a route
+pub both-valid : (side : Side) (t : Tables) (r : Route) (sets : List ℕ) → ValidTables (withRoute side t r) → SetsKept t sets (λ s. route s (withRoute side t r) .map) → ValidTables (withSets (withRoute side t r) sets)
+both-valid Cpu t r sets v k = sets-valid (withRoute Cpu t r) v sets (record { long = k .long; good = k .good; shared = k .shared; entry = k .entry; pair = k .pair })
+both-valid Dma t r sets v k = sets-valid (withRoute Dma t r) v sets (record { long = k .long; good = k .good; shared = k .shared; entry = k .entry; pair = k .pair })
 
 -- ---- other pairs
 -- every CPU entry on a page that was lent may stay
 pub pairs-valid : (t : Tables) → ValidTables t → (pairs : List ℕ) → length pairs ≡ PAIRS → PairsGood (t .setup .pages) (t .known) (t .sets) pairs →
     ((w : ℕ) → Has (t .cpu .map) w → filledOf w ≡ 1 → shares (t .pairs) (vmOf w) (pageOf w) ≡ true → mayMap Cpu (t .sets) pairs (vmOf w) (pageOf w) ≡ true) →
     ValidTables (withPairs t pairs)
-pairs-valid t v pairs long good lent = ledger-valid t v (t .known) (t .sets) pairs (v .lengths .sets) long (v .known) (v .pages) good carries (ports-good t v)
+pairs-valid t v pairs long good lent = ledger-valid t v (t .known) (t .sets) pairs (v .lengths .sets) long (v .known) (v .pages) good carries (λ side. route-of side t v .ports)
   where
     carries : (side : Side) → Carries t (t .known) (t .sets) pairs side
     carries Cpu w h g =

@@ -1,6 +1,6 @@
 -- Edits of the page sets: what each changes, and that the sets stay good.
 use Prim.Native.Nat.{ℕ, _*_, _≤_, _<_}
-use mathlib.Core.Bool.{true, false, true≢false, or-true}
+use mathlib.Core.Bool.{true, false, true≢false}
 use mathlib.Core.List.{List}
 use mathlib.Core.Logic.{_⊎_, inl, inr, ⊎-elim}
 use mathlib.Core.Path.{_≡_, refl, sym, _∙_}
@@ -45,18 +45,8 @@ unfolding reclaimSets
 reclaim-moved sets vm page l h = moved sets (cpuRow vm) poolRow page l (omega arith) h (λ e. omega arith)
 
 module _ (sets sets′ : List ℕ) (from to page : ℕ) (m : Moved sets sets′ from to page) (row page′ : ℕ) (h : page′ < PAGES) where
-  -- a claim is kept but where the page left
-  pub moved-keeps : (row ≡ from → page′ ≡ page → ⊥) → holds sets row page′ ≡ true → holds sets′ row page′ ≡ true
-  moved-keeps n e = ⊎-elim here (λ d. m .other-pages row page′ h d ∙ e) (equal page′ page)
-    where
-      there : page′ ≡ page → row ≡ to → holds sets′ row page′ ≡ true
-      there q r = rw (q, r) (m .arrived)
-
-      here : page′ ≡ page → holds sets′ row page′ ≡ true
-      here q = ⊎-elim (there q) (λ d. m .other-rows row page′ h (λ r. n r q) d ∙ e) (equal row to)
-
   -- a claim was there before but where the page arrived
-  pub moved-back : holds sets′ row page′ ≡ true → (holds sets row page′ ≡ true) ⊎ ((row ≡ to) × (page′ ≡ page))
+  moved-back : holds sets′ row page′ ≡ true → (holds sets row page′ ≡ true) ⊎ ((row ≡ to) × (page′ ≡ page))
   moved-back e = ⊎-elim here (λ d. inl (sym (m .other-pages row page′ h d) ∙ e)) (equal page′ page)
     where
       gone : page′ ≡ page → row ≡ from → ⊥
@@ -67,20 +57,20 @@ module _ (sets sets′ : List ℕ) (from to page : ℕ) (m : Moved sets sets′ 
 
 -- ---- homes
 -- the DMA rows are nobody's home
-pub home-dma : (row vm : ℕ) → Home row → row ≡ dmaRow vm → ⊥
+home-dma : (row vm : ℕ) → Home row → row ≡ dmaRow vm → ⊥
 home-dma row vm pool e = omega arith
 home-dma row vm shared e = omega arith
 home-dma row vm (cpu vm′ l) e = omega arith
 
 -- a page may go from its home to another, neither of them the shared span: one that its DMA claim allows, of a known VM
-pub record MayMove (known : ℕ) (sets : List ℕ) (from to page : ℕ) : Type 0 where
-  pub from-home : Home from
-  pub to-home : Home to
-  pub from-own : from ≡ sharedRow → ⊥
-  pub to-own : to ≡ sharedRow → ⊥
-  pub was : holds sets from page ≡ true
-  pub dma : (vm : ℕ) → vm < VMS → holdsDma sets vm page ≡ true → (to ≡ cpuRow vm) ⊎ (to ≡ poolRow)
-  pub knows-to : (vm : ℕ) → vm < VMS → cpuRow vm ≡ to → knows known vm ≡ true
+record MayMove (known : ℕ) (sets : List ℕ) (from to page : ℕ) : Type 0 where
+  from-home : Home from
+  to-home : Home to
+  from-own : from ≡ sharedRow → ⊥
+  to-own : to ≡ sharedRow → ⊥
+  was : holds sets from page ≡ true
+  dma : (vm : ℕ) → vm < VMS → holdsDma sets vm page ≡ true → (to ≡ cpuRow vm) ⊎ (to ≡ poolRow)
+  knows-to : (vm : ℕ) → vm < VMS → cpuRow vm ≡ to → knows known vm ≡ true
 
 module _ (pages base count known : ℕ) (sets sets′ : List ℕ) (from to page : ℕ) (most : pages ≤ PAGES) (within : page < pages)
     (m : Moved sets sets′ from to page) (c : MayMove known sets from to page) (g : PagesGood pages base count known sets) where
@@ -134,7 +124,7 @@ module _ (pages base count known : ℕ) (sets sets′ : List ℕ) (from to page 
   cpu-known vm page′ v l e =
       ⊎-elim (g .cpu-known vm page′ v l) (λ r. c .knows-to vm v (r .0)) (moved-back sets sets′ from to page m (cpuRow vm) page′ (omega arith) e)
 
-  pub pages-moved : PagesGood pages base count known sets′
+  pages-moved : PagesGood pages base count known sets′
   pages-moved =
       record {
         inside = λ row page′ r h o. m .other-pages row page′ h (λ q. omega arith) ∙ g .inside row page′ r h o;
@@ -176,24 +166,13 @@ module _ (pages base count known : ℕ) (sets : List ℕ) (vm page : ℕ) (long 
       })
       g
 
--- ---- a page added to a row, or removed from one
-module _ (sets : List ℕ) (row page row′ page′ : ℕ) (h : page < PAGES) (h′ : page′ < PAGES) where
-  pub add-keeps : length sets ≡ SETS * SET-WORDS → row < SETS → holds sets row′ page′ ≡ true → holds (add sets row page) row′ page′ ≡ true
-  add-keeps l r e = ⊎-elim (λ q. ⊎-elim (here q) (λ d. other (λ s t. d s)) (equal row row′)) (λ d. other (λ s t. d t)) (equal page page′)
-    where
-      here : page ≡ page′ → row ≡ row′ → holds (add sets row page) row′ page′ ≡ true
-      here q s = rw (← q, ← s) (holds-add-same sets row page h (omega arith))
-
-      other : (row ≡ row′ → page ≡ page′ → ⊥) → holds (add sets row page) row′ page′ ≡ true
-      other n = holds-add-other sets row page row′ page′ h h′ n ∙ e
-
-  pub remove-back : holds (remove sets row page) row′ page′ ≡ true → holds sets row′ page′ ≡ true
-  remove-back e = sym (holds-remove-other sets row page row′ page′ h h′ gone) ∙ e
-    where
-      gone : row ≡ row′ → page ≡ page′ → ⊥
-      gone s q = true≢false (sym e ∙ rw (← s, ← q) (holds-remove-same sets row page))
-
 -- ---- DMA claims
+remove-back : (sets : List ℕ) (row page row′ page′ : ℕ) → page < PAGES → page′ < PAGES → holds (remove sets row page) row′ page′ ≡ true → holds sets row′ page′ ≡ true
+remove-back sets row page row′ page′ h h′ e = sym (holds-remove-other sets row page row′ page′ h h′ gone) ∙ e
+  where
+    gone : row ≡ row′ → page ≡ page′ → ⊥
+    gone s q = true≢false (sym e ∙ rw (← s, ← q) (holds-remove-same sets row page))
+
 -- what the VM's DMA claim on the page rests on
 record DmaGood (known : ℕ) (sets sets′ : List ℕ) (vm page : ℕ) : Type 0 where
   knows-vm : knows known vm ≡ true
@@ -271,13 +250,7 @@ module _ (pages base count known : ℕ) (sets : List ℕ) (vm page : ℕ) (most 
         there : (vm′ page′ : ℕ) → vm′ < VMS → page′ < pages → (page′ ≡ page → ⊥) → holdsDma (add sets (dmaRow vm) page) vm′ page′ ≡ true → DmaGood known sets (add sets (dmaRow vm) page) vm′ page′
         there vm′ page′ v′ l d e = dma-stays pages base count known sets (add sets (dmaRow vm) page) vm′ page′ v′ l g (λ vm″ s. sym (unchanged vm″ page′ l (λ q. d)) ∙ s) e
 
--- ---- who holds a page, for CPU, for DMA or for both
--- a VM that keeps its claims keeps the page
-pub page-held : (sets sets′ : List ℕ) (vm page : ℕ) → (owns sets vm page ≡ true → owns sets′ vm page ≡ true) → (holdsDma sets vm page ≡ true → holdsDma sets′ vm page ≡ true) → holdsPage sets vm page ≡ true → holdsPage sets′ vm page ≡ true
-page-held sets sets′ vm page o d e =
-    ⊎-elim (λ a. rw (o a)) (λ b. rw (d b) (or-true (owns sets′ vm page))) (either (owns sets vm page) (holdsDma sets vm page) e)
-
--- only one VM holds it
+-- ---- one VM holds a page, for CPU, for DMA or for both
 module _ (pages base count known : ℕ) (sets : List ℕ) (g : PagesGood pages base count known sets) (vm vm′ page : ℕ) (v : vm < VMS) (v′ : vm′ < VMS) (l : page < pages) where
   owner-holder : owns sets vm page ≡ true → holdsDma sets vm′ page ≡ true → vm ≡ vm′
   owner-holder o d = ⊎-elim owned free (g .dma-home vm′ page v′ l d)

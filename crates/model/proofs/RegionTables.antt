@@ -3,17 +3,16 @@ use Prim.Native.Nat.{ℕ, suc, _+_, _-_, _≤_, _<_}
 use mathlib.Core.Bool.{true, false, true≢false}
 use mathlib.Core.List.{List}
 use mathlib.Core.Logic.{⊎-elim}
-use mathlib.Core.Path.{_≡_, refl, sym, ap, _∙_}
+use mathlib.Core.Path.{_≡_, refl, sym, _∙_}
 use native.Mathlib.Omega.{arith}
 use borrow.Author.Tests.{eq-eqb, ne-eqb, le-leb, lt-ltb}
-use lib.ListN.{length}
 use Rattle.numbers.specs.Limits.{PAGES, GUEST-PAGES}
-use Rattle.numbers.specs.Packing.{mapWord, keyOf, vmOf, guestOf, filledOf, pageOf, entryOf}
-use Rattle.numbers.specs.PackingLaws.{word-vm, word-guest, key-same, key-whole}
+use Rattle.numbers.specs.Packing.{keyOf, vmOf, guestOf, filledOf, pageOf, slotKey}
+use Rattle.numbers.specs.PackingLaws.{key-same, key-vm, key-guest}
 use Rattle.numbers.specs.declared.Side.{Side}
-use Rattle.table.specs.ScanLaws.{equal, length-wipe, has-wipe-inv}
+use Rattle.table.specs.ScanLaws.{equal, has-wipe-inv}
 use Rattle.table.specs.Table.{Has, isFound, wordAt, freeEntries, find, lookup, put}
-use Rattle.table.specs.TableLaws.{lookup-nothing, lookup-put-other, place-room, free-put-new, length-put}
+use Rattle.table.specs.TableLaws.{lookup-nothing, lookup-put-other, place-room, free-put-new}
 use Rattle.table.specs.declared.Found.{Found}
 use Rattle.table.specs.declared.Found.the-variants.{At, Nothing}
 use Rattle.units.specs.declared.Region.{Region}
@@ -21,6 +20,7 @@ use Rattle.model.specs.State.{Tables, route, withRoute}
 use Rattle.model.specs.Views.{claims, targeted, butKey}
 use Rattle.model.specs.EarlyLaws.{RegionPassed}
 use Rattle.model.specs.Regions.{guestIn, pageIn, keyIn, regionEntry, inRegion, present, insertTable, removeTable}
+use Rattle.model.specs.ShapeLaws.{same-inserted, same-removed}
 use Rattle.model.specs.Valid.{EntryGood, SameMap, CacheGood, ValidTables}
 use Rattle.model.specs.Step.{insertRoute, removeRoute}
 use Rattle.model.proofs.ViewLaws.{may-own, not-targeted}
@@ -42,7 +42,6 @@ missing ws k e = go (find keyOf ws k) e
 record Filling (side : Side) (t : Tables) (region : Region) (k : ℕ) (map walker : List ℕ) : Type 0 where
   maps : MapsGood side (t .setup .pages) (t .known) (t .sets) (t .pairs) map walker
   slots : CacheGood walker (route side t .cache)
-  long : length map ≡ length (route side t .map)
   room : region .count ≤ freeEntries map + k
   absent : (j : ℕ) → k ≤ j → j < region .count → lookup keyOf map (keyIn region j) ≡ 0
 
@@ -86,7 +85,6 @@ module _ (side : Side) (t : Tables) (v : ValidTables t) (region : Region) (early
       record {
         maps = maps-put side (t .setup .pages) (t .known) (t .sets) (t .pairs) map walker (r .maps) (keyIn region k) (regionEntry region k) i (made k h) (made-key k h) p;
         slots = cache-put-new walker (route side t .cache) (r .slots) (keyIn region k) (regionEntry region k) (made-key k h) (sym (r .maps .same (keyIn region k) z) ∙ lacks);
-        long = length-put keyOf map (keyIn region k) (regionEntry region k) ∙ r .long;
         room = omega (arith, r .room, free-put-new keyOf map (keyIn region k) (regionEntry region k) none some n);
         absent = λ j l b. lookup-put-other keyOf refl map (keyIn region k) (regionEntry region k) (keyIn region j) (made-key k h) (omega arith) (keys-differ k j l b) ∙ r .absent j (omega arith) b;
       }
@@ -96,22 +94,21 @@ module _ (side : Side) (t : Tables) (v : ValidTables t) (region : Region) (early
     unfolding insertTable
     filled =
         repeat-both (fillIn region) (Filling side t region) (region .count) fill-next (route side t .map) (route side t .walker)
-        (record { maps = maps-of side t v; slots = route-of side t v .cache; long = refl; room = omega arith; absent = λ j a h. missing (route side t .map) (keyIn region j) (absent j h) })
+        (record { maps = maps-of side t v; slots = route-of side t v .cache; room = omega arith; absent = λ j a h. missing (route side t .map) (keyIn region j) (absent j h) })
 
     pub insert-route : ValidTables (withRoute side t (insertRoute (route side t) region))
     insert-route =
         route-valid side t (insertRoute (route side t) region) v
-        (record { map = filled .long; walker = filled .maps .as-long ∙ filled .long ∙ sym (maps-of side t v .as-long); cache = refl; ports = refl })
+        (same-inserted (route side t) region)
         (maps-route side t (route side t) _ _ _ (route-of side t v) (filled .maps) (filled .slots))
 
 -- ---- remove
 -- a word of one of the region's keys is one that goes
 in-region : (region : Region) (k w : ℕ) → region .vm .0 < 256 → guestIn region k < 65536 → k < region .count → keyOf w ≡ keyIn region k → inRegion region w ≡ true
 in-region region k w v g h e =
-    let whole : mapWord (region .vm .0) (guestIn region k) (entryOf w) ≡ w = key-whole 0 (region .vm .0) (guestIn region k) w (omega arith) in
-    let l : entryOf w < 4294967296 = omega arith in
-    let vm : vmOf w ≡ region .vm .0 = sym (ap vmOf whole) ∙ word-vm 0 (region .vm .0) (guestIn region k) (entryOf w) v g l in
-    let guest : guestOf w ≡ guestIn region k = sym (ap guestOf whole) ∙ word-guest 0 (region .vm .0) (guestIn region k) (entryOf w) v g l in
+    let q : keyOf w ≡ slotKey 0 (region .vm .0) (guestIn region k) = omega arith in
+    let vm : vmOf w ≡ region .vm .0 = key-vm 0 (region .vm .0) (guestIn region k) w v g q in
+    let guest : guestOf w ≡ guestIn region k = key-guest 0 (region .vm .0) (guestIn region k) w v g q in
     let f : filledOf w ≡ 1 = omega arith in
     rw (eq-eqb (filledOf w) 1 f, eq-eqb (vmOf w) (region .vm .0) vm, le-leb (region .guest .0) (guestOf w) (omega arith))
     (lt-ltb (guestOf w) (region .guest .0 + region .count) (omega arith))
@@ -134,5 +131,5 @@ remove-route side t v region =
     let r = route side t in
     let g = route-of side t v in
     let p = inRegion region in
-    route-valid side t (removeRoute r region) v (record { map = length-wipe p (r .map); walker = length-wipe p (r .walker); cache = length-wipe p (r .cache); ports = refl })
+    route-valid side t (removeRoute r region) v (same-removed r region)
     (maps-route side t r _ _ _ g (maps-wipe side (t .setup .pages) (t .known) (t .sets) (t .pairs) (r .map) (r .walker) (maps-of side t v) p) (cache-wipe-both (r .walker) (r .cache) (g .cache) p p (region-unported region) (g .walker .once)))

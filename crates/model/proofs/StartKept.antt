@@ -1,13 +1,12 @@
 -- An accepted start gives a valid state, the empty machine is never one, and a valid state of every size there is.
 use Prim.Native.Nat.{ℕ, suc, _+_, _*_, _/_, _%_, _≤_, _<_}
-use mathlib.Core.Bool.{true, false, not, _&&_, true≢false}
+use mathlib.Core.Bool.{true, false, _&&_, true≢false}
 use mathlib.Core.List.{List, []}
 use mathlib.Core.Logic.{inl, ⊎-elim}
 use mathlib.Core.Path.{_≡_, refl, sym, ap, _∙_}
 use native.Mathlib.Nat.{div-eq-of-lt}
 use native.Mathlib.Omega.{arith}
-use borrow.Author.Tests.{eq-eqb, ltb-true, lt-ltb, leb-true, le-leb, not-false}
-use lib.Dec.{ltb, leb}
+use borrow.Author.Tests.{eq-eqb, ltb-true, lt-ltb, le-leb, not-false}
 use lib.ListN.{length, getD, replicate, length-replicate, getD-replicate, List·getD-eq-default}
 use lib.Pow.{pow-pos}
 use Rattle.numbers.specs.Choice.{if_then_else_}
@@ -15,21 +14,20 @@ use Rattle.numbers.specs.Limits.{PAGES, PAGE-WORDS, SETS, SET-WORDS, PAIRS, ENT
 use Rattle.numbers.specs.Packing.{keyOf, pairKeyOf}
 use Rattle.numbers.specs.declared.Side.{Side}
 use Rattle.numbers.specs.declared.Side.the-variants.{Cpu, Dma}
-use Rattle.table.specs.Scan.{anyBelow, repeat}
-use Rattle.table.specs.ScanLaws.{cases, equal, any-below-false}
+use Rattle.table.specs.Scan.{repeat}
+use Rattle.table.specs.ScanLaws.{cases, equal}
 use Rattle.table.specs.Table.{Has, Distinct}
 use Rattle.pages.specs.Bits.{contains}
 use Rattle.pages.specs.BitLaws.{below-or}
 use Rattle.pages.specs.Rows.{holds, add, poolRow, sharedRow, cpuRow, dmaRow}
 use Rattle.pages.specs.RowLaws.{holds-add-same, holds-add-other, length-add}
-use Rattle.units.specs.Spans.{spanWithin}
 use Rattle.units.specs.Units.{noUnit, isMark}
 use Rattle.model.specs.State.{State}
 use Rattle.model.specs.Views.{isVm, isAccess, inShared}
 use Rattle.model.specs.Effect.{accepted}
-use Rattle.model.specs.EarlyLaws.{past, both, hold}
-use Rattle.model.specs.Start.{Told, Lent, countTold, numberTold, unitTold, unitsTold, badField, badSpan, lengthsGood, startAnswer, inSpan, firstHome, freshSets, freshRoute, setupTold, freshState, emptyState, start}
-use Rattle.model.specs.UnitLaws.{length-units, unit-at}
+use Rattle.model.specs.EarlyLaws.{both, hold}
+use Rattle.model.specs.Start.{Told, Lent, countTold, numberTold, unitTold, unitsTold, badField, badSpan, startAnswer, inSpan, firstHome, freshSets, freshRoute, setupTold, freshState, emptyState, start}
+use Rattle.model.specs.StartTold.{StartPassed, start-passed, length-units, unit-at}
 use Rattle.model.specs.Valid.{RouteLengths, UnitGood, SetupGood, Home, pool, shared, PagesGood, MapGood, SameMap, RouteGood, Valid}
 use Rattle.model.proofs.Repeats.{repeat-keeps}
 
@@ -55,54 +53,25 @@ module _ (n : ℕ) where
   unfolding contains
   empty-holds row page = let i = row * PAGES + page in rw (zero-at (i / 64), div-eq-of-lt (pow-pos (i % 64)))
 
--- ---- what an accepted answer tells
-record Passed (told : Told) : Type 0 where
-  some-pages : 0 < told .pages
-  most-pages : told .pages ≤ PAGES
-  unit-count : countTold (told .units) ≤ UNITS
-  fields : (k : ℕ) → k < countTold (told .units) → badField (told .units) k ≡ false
-  spans : (k : ℕ) → k < countTold (told .units) → badSpan (told .pages) (told .units) k ≡ false
-  shared : told .sharedBase + told .sharedCount ≤ told .pages
-
-passed : (told : Told) (lent : Lent) → startAnswer told lent ≡ accepted → Passed told
-unfolding startAnswer
-passed told lent e =
-    let count = countTold (told .units) in
-    let a = past (not (lengthsGood told lent && ltb 0 (told .pages) && leb (told .pages) PAGES)) _ _ _ e in
-    let b = past (not (leb count UNITS)) _ _ _ (a .1) in
-    let c = past (anyBelow (badField (told .units)) count) _ _ _ (b .1) in
-    let d = past (anyBelow (badSpan (told .pages) (told .units)) count) _ _ _ (c .1) in
-    let f = past (not (spanWithin (told .sharedBase) (told .sharedCount) (told .pages))) _ _ _ (d .1) in
-    let g = hold (lengthsGood told lent && ltb 0 (told .pages)) (leb (told .pages) PAGES) (a .0) in
-    record {
-      some-pages = ltb-true _ _ (both (lengthsGood told lent) (ltb 0 (told .pages)) (g .0) .1);
-      most-pages = leb-true _ _ (g .1);
-      unit-count = leb-true _ _ (not-false _ (b .0));
-      fields = λ k h. any-below-false (badField (told .units)) count k (c .0) h;
-      spans = λ k h. any-below-false (badSpan (told .pages) (told .units)) count k (d .0) h;
-      shared = leb-true _ _ (not-false _ (f .0));
-    }
-
 -- ---- the units that are told
-module _ (numbers : List ℕ) where
-  told-good : (pages k : ℕ) → badField numbers k ≡ false → badSpan pages numbers k ≡ false → UnitGood pages (unitTold numbers k)
-  told-good pages k f s =
-      let a = hold (isVm (numberTold numbers k 0) && isAccess (numberTold numbers k 4)) (isMark (numberTold numbers k 5)) f in
-      let b = both (isVm (numberTold numbers k 0)) (isAccess (numberTold numbers k 4)) (a .0) in
-      record { vm = ltb-true _ _ (b .0); access = ltb-true _ _ (b .1); span = not-false _ s }
+told-good : (numbers : List ℕ) (pages k : ℕ) → badField numbers k ≡ false → badSpan pages numbers k ≡ false → UnitGood pages (unitTold numbers k)
+told-good numbers pages k f s =
+    let a = hold (isVm (numberTold numbers k 0) && isAccess (numberTold numbers k 4)) (isMark (numberTold numbers k 5)) f in
+    let b = both (isVm (numberTold numbers k 0)) (isAccess (numberTold numbers k 4)) (a .0) in
+    record { vm = ltb-true _ _ (b .0); access = ltb-true _ _ (b .1); span = not-false _ s }
 
-setup-good : (told : Told) → Passed told → SetupGood (setupTold told)
-setup-good told p =
+setup-good : (told : Told) (lent : Lent) → StartPassed told lent → SetupGood (setupTold told)
+setup-good told lent p =
     record {
       some-pages = p .some-pages;
-      most-pages = p .most-pages;
-      shared = p .shared;
-      unit-count = p .unit-count;
-      units = λ k h. rw (at k h) (told-good (told .units) (told .pages) k (p .fields k h) (p .spans k h));
+      most-pages = p .pages-ok;
+      shared = p .shared-ok;
+      unit-count = p .units-ok;
+      units = λ k h. rw (at k h) (told-good (told .units) (told .pages) k (p .fields-ok k h) (p .spans-ok k h));
     }
   where
     at : (k : ℕ) → k < countTold (told .units) → getD (unitsTold (told .units)) k noUnit ≡ unitTold (told .units) k
-    at k h = let z : 0 + k ≡ k = omega arith in rw (z, lt-ltb k (countTold (told .units)) h) at (unit-at (told .units) 0 UNITS k (omega (arith, p .unit-count)))
+    at k h = let z : 0 + k ≡ k = omega arith in rw (z, lt-ltb k (countTold (told .units)) h) at (unit-at (told .units) 0 UNITS k (omega (arith, p .units-ok)))
 
 -- ---- the page sets: each page below k is at home, and nowhere else
 abbrev home : ℕ → ℕ → ℕ → ℕ
@@ -191,17 +160,17 @@ fresh-route side pages sets pairs =
 fresh-lengths : RouteLengths freshRoute
 fresh-lengths = record { map = length-replicate {A = ℕ} _ 0; walker = length-replicate {A = ℕ} _ 0; cache = length-replicate {A = ℕ} _ 0; ports = length-replicate {A = ℕ} _ IDLE }
 
-fresh-valid : (told : Told) → Passed told → Valid (freshState told)
+fresh-valid : (told : Told) (lent : Lent) → StartPassed told lent → Valid (freshState told)
 unfolding freshState
-fresh-valid told p =
-    let sets = homed (told .sharedBase) (told .sharedCount) (told .pages) (p .most-pages) in
+fresh-valid told lent p =
+    let sets = homed (told .sharedBase) (told .sharedCount) (told .pages) (p .pages-ok) in
     record {
       tables =
           record {
             lengths = record { units = length-units (told .units) 0 UNITS; sets = sets .lengths; pairs = length-replicate {A = ℕ} PAIRS 0; cpu = fresh-lengths; dma = fresh-lengths };
-            setup = setup-good told p;
+            setup = setup-good told lent p;
             known = omega arith;
-            pages = pages-good (told .pages) (told .sharedBase) (told .sharedCount) (freshSets told) (p .most-pages) sets;
+            pages = pages-good (told .pages) (told .sharedBase) (told .sharedCount) (freshSets told) (p .pages-ok) sets;
             pairs = record { each = λ w r. absurd (empty-has PAIRS w r); once = empty-distinct PAIRS pairKeyOf refl };
             cpu = fresh-route Cpu (told .pages) (freshSets told) (zeros PAIRS);
             dma = fresh-route Dma (told .pages) (freshSets told) (zeros PAIRS);
@@ -211,7 +180,7 @@ fresh-valid told p =
 
 pub start-valid : (told : Told) (lent : Lent) → startAnswer told lent ≡ accepted → Valid (start told lent .state)
 unfolding start
-start-valid told lent e = rw e (fresh-valid told (passed told lent e))
+start-valid told lent e = rw e (fresh-valid told lent (start-passed told lent e))
 
 -- a valid machine has a page
 pub empty-not-valid : (lent : Lent) → Valid (emptyState lent) → ⊥

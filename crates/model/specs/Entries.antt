@@ -4,7 +4,6 @@ use Prim.Native.Nat.{ℕ}
 use mathlib.Core.List.{List}
 use mathlib.Core.Path.{_≡_}
 use Rattle.numbers.specs.declared.Refusal.the-variants.{StateNotValid}
-use Rattle.numbers.specs.declared.Operation.{Operation}
 use Rattle.model.specs.State.{State}
 use Rattle.model.specs.Valid.{Valid}
 use Rattle.model.specs.Effect.{refused}

@@ -14,10 +14,12 @@ pub mod MemoryLaws
 pub mod Step
 pub mod ShapeLaws
 pub mod Start
-pub mod UnitLaws
+pub mod StartTold
 pub mod Sequence
 pub mod Good
 pub mod Entries
 pub mod Upstream
 pub mod UpstreamStep
 pub mod UpstreamRun
+pub mod Conditions
+pub mod Secrecy

@@ -1,6 +1,7 @@
 -- What the machine's numbers mean.
 pub mod Choice
 pub mod Decides
+pub mod DecidesLaws
 pub mod Limits
 pub mod Meaning
 pub mod Packing

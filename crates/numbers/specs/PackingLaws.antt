@@ -106,6 +106,9 @@ module _ (w : ℕ) where
   pub unported-page : pageOf (unported w) ≡ pageOf w
   unported-page = omega arith
 
+  pub unported-access : accessOf (unported w) ≡ accessOf w
+  unported-access = omega arith
+
   pub unported-key : keyOf (unported w) ≡ addressOf w
   unported-key =
       let a : w / 2147483648 / 33554432 ≡ portOf w = omega arith in
@@ -129,12 +132,19 @@ key-whole port vm guest w e = omega arith
 pub key-vm : (port vm guest w : ℕ) → vm < 256 → guest < 65536 → keyOf w ≡ slotKey port vm guest → vmOf w ≡ vm
 key-vm port vm guest w v g e = ap vmOf (sym (key-whole port vm guest w e)) ∙ word-vm port vm guest (entryOf w) v g (omega arith)
 
+pub key-guest : (port vm guest w : ℕ) → vm < 256 → guest < 65536 → keyOf w ≡ slotKey port vm guest → guestOf w ≡ guest
+key-guest port vm guest w v g e = ap guestOf (sym (key-whole port vm guest w e)) ∙ word-guest port vm guest (entryOf w) v g (omega arith)
+
 -- a filled word's key is never that of an empty one
 pub key-filled : (w : ℕ) → filledOf w ≡ 1 → 0 < keyOf w
 key-filled w f = omega arith
 
 pub address-filled : (w : ℕ) → filledOf w ≡ 1 → 0 < addressOf w
 address-filled w f = omega arith
+
+-- a slot's key says its address
+pub slot-address : (port vm guest w : ℕ) → vm < 256 → guest < 65536 → keyOf w ≡ slotKey port vm guest → addressOf w ≡ key vm guest
+slot-address port vm guest w v g e = omega arith
 
 -- of a map's word, which has no port, the two keys are one
 pub address-key : (w : ℕ) → portOf w ≡ 0 → addressOf w ≡ keyOf w

@@ -131,3 +131,10 @@ pub fn operation_at(rows: &[u64], k: usize) -> Decoded
         rows[at + 5],
     )
 }
+
+// The operation of a row by itself.
+pub fn operation_in(row: [u64; 8]) -> Decoded
+    ensures { λ r. ⌜ known r ≡ operationIn row ⌝ }
+{
+    operation_of(row[0], row[1], row[2], row[3], row[4], row[5])
+}

@@ -1,48 +1,28 @@
--- Laws of start: the units that a loop has written, what an accepted answer tells, and what the two headers are the machine of.
-use Prim.Native.Nat.{ℕ, _+_, _*_, _%_, _≤_, _<_}
+-- Laws of start: the units that a loop has written, and what the two headers are the machine of.
+use Prim.Native.Nat.{ℕ, _+_, _≤_, _<_}
 use mathlib.Core.Bool.{Bool, true, false, not, _&&_}
 use mathlib.Core.List.{List}
 use mathlib.Core.Logic.{⊎-elim}
 use mathlib.Core.Path.{_≡_, refl, sym, ap, _∙_}
 use native.Mathlib.Omega.{arith}
-use borrow.Author.Tests.{lt-ltb, le-ltb, ltb-true, ltb-false, leb-true, eqb-true, not-false}
-use lib.Dec.{eqb, ltb, leb}
+use borrow.Author.Tests.{lt-ltb, le-ltb, ltb-true, ltb-false}
+use lib.Dec.{ltb}
 use lib.ListN.{length, getD, set, replicate, length-replicate, getD-replicate, length-set}
 use lib.Seq.{getD-set-same, getD-set-other, ext-getD}
 use Rattle.numbers.specs.Choice.{if_then_else_}
-use Rattle.numbers.specs.Limits.{PAGES, PAGE-WORDS, SETS, SET-WORDS, PAIRS, ENTRIES, SLOTS, UNITS}
 use Rattle.numbers.specs.declared.Answer.{Answer}
 use Rattle.numbers.specs.declared.Answer.the-variants.{Accepted, Refused}
 use Rattle.numbers.specs.declared.Refusal.{Refusal}
 use Rattle.table.specs.ScanLaws.{cases, equal}
 use Rattle.table.specs.Loops.{Sweeping, sweep-next}
-use Rattle.table.specs.Scan.{anyBelow, repeat}
+use Rattle.table.specs.Scan.{repeat}
 use Rattle.pages.specs.Rows.{poolRow, sharedRow}
 use Rattle.pages.specs.RowLaws.{length-add}
-use Rattle.units.specs.Spans.{spanWithin}
 use Rattle.units.specs.Units.{noUnit}
 use Rattle.units.specs.declared.Unit.{Unit}
 use Rattle.model.specs.Effect.{kept}
-use Rattle.model.specs.EarlyLaws.{past, both, hold}
-use Rattle.model.specs.Start.{
-  Told,
-  Lent,
-  UNIT-NUMBERS,
-  countTold,
-  unitTold,
-  unitsFrom,
-  badField,
-  badSpan,
-  lengthsGood,
-  startAnswer,
-  inSpan,
-  firstHome,
-  Started,
-  freshState,
-  emptyState,
-  start,
-}
-use Rattle.model.specs.UnitLaws.{upTo, length-units, unit-at}
+use Rattle.model.specs.Start.{Told, Lent, countTold, unitTold, unitsFrom, startAnswer, inSpan, firstHome, Started, freshState, emptyState, start}
+use Rattle.model.specs.StartTold.{StartPassed, start-passed, upTo, length-units, unit-at}
 use Rattle.model.specs.declared.Machine.{Machine}
 use Rattle.start.specs.Begun.{began, zeros, freshHeader, emptyHeader}
 
@@ -99,65 +79,6 @@ pub home-next : (base count n : ℕ) (ws now next : List ℕ) (i : ℕ) → Swee
 home-next base count n ws now next i r h e =
     sweep-next (firstHome base count) n ws now next i r h e (ap length e ∙ length-add now (if inSpan base count i then sharedRow else poolRow) i)
 
--- ---- what an accepted answer tells
-pub record Passed (t : Told) (l : Lent) : Type 0 where
-  pub pages-ok : t .pages ≤ PAGES
-  pub shared-ok : t .sharedBase + t .sharedCount ≤ t .pages
-  pub units-ok : countTold (t .units) ≤ UNITS
-  pub memory-length : length (l .memory) ≡ PAGE-WORDS * t .pages
-  pub sets-length : length (l .sets) ≡ SETS * SET-WORDS
-  pub pairs-length : length (l .pairs) ≡ PAIRS
-  pub cpu-map-length : length (l .cpuMap) ≡ ENTRIES
-  pub cpu-walker-length : length (l .cpuWalker) ≡ ENTRIES
-  pub cpu-cache-length : length (l .cpuCache) ≡ SLOTS
-  pub dma-map-length : length (l .dmaMap) ≡ ENTRIES
-  pub dma-walker-length : length (l .dmaWalker) ≡ ENTRIES
-  pub dma-cache-length : length (l .dmaCache) ≡ SLOTS
-
-pub start-passed : (t : Told) (l : Lent) {dropped word : ℕ} → startAnswer t l ≡ Accepted dropped word → Passed t l
-unfolding startAnswer
-start-passed t l e =
-    let m = eqb (length (l .memory)) (PAGE-WORDS * t .pages) in
-    let s = eqb (length (l .sets)) (SETS * SET-WORDS) in
-    let p = eqb (length (l .pairs)) PAIRS in
-    let cm = eqb (length (l .cpuMap)) ENTRIES in
-    let cw = eqb (length (l .cpuWalker)) ENTRIES in
-    let ch = eqb (length (l .cpuCache)) SLOTS in
-    let dm = eqb (length (l .dmaMap)) ENTRIES in
-    let dw = eqb (length (l .dmaWalker)) ENTRIES in
-    let dh = eqb (length (l .dmaCache)) SLOTS in
-    let u = eqb (length (t .units) % UNIT-NUMBERS) 0 in
-    let a = past (not (lengthsGood t l && ltb 0 (t .pages) && leb (t .pages) PAGES)) _ _ _ e in
-    let b = past (not (leb (countTold (t .units)) UNITS)) _ _ _ (a .1) in
-    let c = past (anyBelow (badField (t .units)) (countTold (t .units))) _ _ _ (b .1) in
-    let d = past (anyBelow (badSpan (t .pages) (t .units)) (countTold (t .units))) _ _ _ (c .1) in
-    let f = past (not (spanWithin (t .sharedBase) (t .sharedCount) (t .pages))) _ _ _ (d .1) in
-    let g = hold (lengthsGood t l && ltb 0 (t .pages)) (leb (t .pages) PAGES) (a .0) in
-    let h = both (lengthsGood t l) (ltb 0 (t .pages)) (g .0) in
-    let l9 = both (m && s && p && cm && cw && ch && dm && dw && dh) u (h .0) in
-    let l8 = both (m && s && p && cm && cw && ch && dm && dw) dh (l9 .0) in
-    let l7 = both (m && s && p && cm && cw && ch && dm) dw (l8 .0) in
-    let l6 = both (m && s && p && cm && cw && ch) dm (l7 .0) in
-    let l5 = both (m && s && p && cm && cw) ch (l6 .0) in
-    let l4 = both (m && s && p && cm) cw (l5 .0) in
-    let l3 = both (m && s && p) cm (l4 .0) in
-    let l2 = both (m && s) p (l3 .0) in
-    let l1 = both m s (l2 .0) in
-    record {
-      pages-ok = leb-true _ _ (g .1);
-      shared-ok = leb-true _ _ (not-false _ (f .0));
-      units-ok = leb-true _ _ (not-false _ (b .0));
-      memory-length = eqb-true _ _ (l1 .0);
-      sets-length = eqb-true _ _ (l1 .1);
-      pairs-length = eqb-true _ _ (l2 .1);
-      cpu-map-length = eqb-true _ _ (l3 .1);
-      cpu-walker-length = eqb-true _ _ (l4 .1);
-      cpu-cache-length = eqb-true _ _ (l5 .1);
-      dma-map-length = eqb-true _ _ (l6 .1);
-      dma-walker-length = eqb-true _ _ (l7 .1);
-      dma-cache-length = eqb-true _ _ (l8 .1);
-    }
-
 -- ---- the machine of each header
 -- the answer, with the fresh header, every page at home, and all else zeros
 abbrev anew : Told → Lent → Answer → Started
@@ -165,11 +86,12 @@ anew t l answer =
     began answer (freshHeader t) (repeat (firstHome (t .sharedBase) (t .sharedCount)) 0 (t .pages) (zeros (l .sets))) (zeros (l .pairs)) (zeros (l .cpuMap)) (zeros (l .cpuWalker)) (zeros (l .cpuCache)) (zeros (l .dmaMap)) (zeros (l .dmaWalker)) (zeros (l .dmaCache)) (zeros (l .memory))
 
 -- that is the fresh state where the lengths are right
-anew-fresh : (t : Told) (l : Lent) (answer : Answer) → Passed t l → anew t l answer ≡ record { answer = answer; state = freshState t }
+anew-fresh : (t : Told) (l : Lent) (answer : Answer) → StartPassed t l → anew t l answer ≡ record { answer = answer; state = freshState t }
 unfolding freshState
 anew-fresh t l answer p =
+    let k = p .lengths in
     λ i.
-    began answer (freshHeader t) (repeat (firstHome (t .sharedBase) (t .sharedCount)) 0 (t .pages) (replicate (p .sets-length i) 0)) (replicate (p .pairs-length i) 0) (replicate (p .cpu-map-length i) 0) (replicate (p .cpu-walker-length i) 0) (replicate (p .cpu-cache-length i) 0) (replicate (p .dma-map-length i) 0) (replicate (p .dma-walker-length i) 0) (replicate (p .dma-cache-length i) 0) (replicate (p .memory-length i) 0)
+    began answer (freshHeader t) (repeat (firstHome (t .sharedBase) (t .sharedCount)) 0 (t .pages) (replicate (k .sets i) 0)) (replicate (k .pairs i) 0) (replicate (k .cpu-map i) 0) (replicate (k .cpu-walker i) 0) (replicate (k .cpu-cache i) 0) (replicate (k .dma-map i) 0) (replicate (k .dma-walker i) 0) (replicate (k .dma-cache i) 0) (replicate (k .memory i) 0)
 
 module _ (t : Told) (l : Lent) (answer : Answer) (m : Machine) (e : answer ≡ startAnswer t l) where
   -- refused, with what was lent as it was

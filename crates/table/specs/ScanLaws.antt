@@ -89,7 +89,7 @@ module _ (p : ℕ → Bool) where
   any-here (w ∷ ws) zero h e = rw e
   any-here (w ∷ ws) (suc i) h e = ⊎-elim (λ t. rw t) (λ f. rw f (any-here ws i (omega arith) e)) (cases (p w))
 
-  any-at : (ws : List ℕ) → any p ws ≡ true → (i : ℕ) × (i < length ws) × (p (getD ws i 0) ≡ true)
+  pub any-at : (ws : List ℕ) → any p ws ≡ true → (i : ℕ) × (i < length ws) × (p (getD ws i 0) ≡ true)
   any-at [] e = absurd (true≢false (sym e))
   any-at (w ∷ ws) e = ⊎-elim (λ t. (0, omega arith, t)) (λ f. let (i, h, t) = any-at ws (rw f at e) in (suc i, omega arith, t)) (cases (p w))
 

@@ -1,7 +1,8 @@
 -- `start::start` meets its contract. Refused, it has lent everything to be read only; accepted, each list comes back as one call left it.
 use borrow.Author.Needs.{needs}
 use mathlib.Core.Path.{sym, _∙_}
-use Rattle.start.specs.StartLaws.{start-passed, start-refused, start-accepted}
+use Rattle.model.specs.StartTold.{start-passed}
+use Rattle.start.specs.StartLaws.{start-refused, start-accepted}
 use Rattle.start.proofs.start.Statement.{statement}
 use Rattle.start.proofs.start.Tie as tie
 
@@ -66,7 +67,7 @@ enum-told c = search needs
 fresh-sets-requires : tie.Need-fresh-sets-requires
 fresh-sets-requires c κs =
     let p = start-passed _ _ (sym (c .before .before .before .start-answer .ensures) ∙ c .before .enum-told .given .1) in
-    (p .pages-ok, p .shared-ok, p .sets-length)
+    (p .pages-ok, p .shared-ok, p .lengths .sets)
 
 clear-words-requires : tie.Need-clear-words-requires
 clear-words-requires c κs = search needs

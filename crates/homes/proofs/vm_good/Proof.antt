@@ -1,0 +1,13 @@
+-- `homes::vm_good` meets its contract: it is the test that `vm-decides` is of.
+use native.Mathlib.Omega.{arith}
+use Rattle.homes.specs.WordLaws.{vm-decides}
+use Rattle.homes.proofs.vm_good.Statement.{statement}
+use Rattle.homes.proofs.vm_good.Tie as tie
+
+returns : tie.Need-returns
+returns c =
+    let a = c .args in
+    vm-decides (a .known) (a .pool) (a .held) (a .dma-held) (a .cpu) (a .dma) (omega arith) (omega arith) (omega arith) (omega arith) (omega arith)
+
+pub vm-good-spec : {M : Type 1} → statement M
+vm-good-spec = tie.close (tie.spec returns)

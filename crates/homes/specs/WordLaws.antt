@@ -1,0 +1,195 @@
+-- Laws of words as sets of bits, and what a test of words decides.
+use Prim.Native.Nat.{ℕ, zero, suc, _+_, _-_, _*_, _/_, _%_, _^_, _≤_, _<_, min, max}
+use mathlib.Core.Bool.{Bool, true, false, true≢false, _&&_, _||_, xor, or-true}
+use mathlib.Core.Logic.{_⊎_, inl, inr, ⊎-elim}
+use mathlib.Core.Path.{_≡_, refl, sym, _∙_}
+use native.Mathlib.Nat.{div-eq-of-lt, pow-suc, lt-of-lt-of-le}
+use native.Mathlib.Omega.{arith}
+use borrow.Author.Tests.{eq-eqb, eqb-true, lt-ltb, le-ltb, le-leb, lt-leb}
+use lib.Bits.{bitAnd, bitOr, bitXor, differ, and-step, or-step, xor-step, and-shr, or-shr, xor-shr, and-lt, or-lt, xor-lt}
+use lib.Dec.{eqb, ltb}
+use lib.Pow.{pow-add, pow-pos, pow-mono, ones-lt, ones-split, high, shr-shr}
+use Rattle.numbers.specs.Decides.{Decides}
+use Rattle.pages.specs.Bits.{bit, hasBit}
+use Rattle.pages.specs.BitLaws.{decide, bit-lt, below-or}
+use Rattle.model.specs.EarlyLaws.{both}
+use Rattle.model.specs.Start.{inSpan}
+use Rattle.homes.specs.Columns.{belowWord, spanWord, Apart, VmGood}
+
+-- ---- the bits of `&`, `|` and `^`
+-- what holds of any two binary digits
+digits : (P : ℕ → ℕ → Type 0) → P 0 0 → P 0 1 → P 1 0 → P 1 1 → (x y : ℕ) → x < 2 → y < 2 → P x y
+digits P a b c d zero zero h g = a
+digits P a b c d zero (suc zero) h g = b
+digits P a b c d zero (suc (suc y)) h g = absurd (omega arith)
+digits P a b c d (suc zero) zero h g = c
+digits P a b c d (suc zero) (suc zero) h g = d
+digits P a b c d (suc zero) (suc (suc y)) h g = absurd (omega arith)
+digits P a b c d (suc (suc x)) y h g = absurd (omega arith)
+
+module _ (w v j : ℕ) where
+  -- what holds of any two digits holds of bit j of the two words
+  bits : (P : ℕ → ℕ → Type 0) → P 0 0 → P 0 1 → P 1 0 → P 1 1 → P (bit w j) (bit v j)
+  bits P a b c d = digits P a b c d (bit w j) (bit v j) (bit-lt w j) (bit-lt v j)
+
+  pub hasBit-and : hasBit (bitAnd w v) j ≡ (hasBit w j && hasBit v j)
+  hasBit-and =
+      let e : bitAnd (w / 2 ^ j) (v / 2 ^ j) % 2 ≡ min (bit w j) (bit v j) = omega (arith, and-step (w / 2 ^ j) (v / 2 ^ j)) in
+      rw (and-shr w v j, e) (bits (λ x y. eqb (min x y) 1 ≡ (eqb x 1 && eqb y 1)) refl refl refl refl)
+
+  pub hasBit-or : hasBit (bitOr w v) j ≡ (hasBit w j || hasBit v j)
+  hasBit-or =
+      let e : bitOr (w / 2 ^ j) (v / 2 ^ j) % 2 ≡ max (bit w j) (bit v j) = omega (arith, or-step (w / 2 ^ j) (v / 2 ^ j)) in
+      rw (or-shr w v j, e) (bits (λ x y. eqb (max x y) 1 ≡ (eqb x 1 || eqb y 1)) refl refl refl refl)
+
+  pub hasBit-xor : hasBit (bitXor w v) j ≡ xor (hasBit w j) (hasBit v j)
+  unfolding xor
+  hasBit-xor =
+      let small = bits (λ x y. differ x y < 2) (omega arith) (omega arith) (omega arith) (omega arith) in
+      let e : bitXor (w / 2 ^ j) (v / 2 ^ j) % 2 ≡ differ (bit w j) (bit v j) = omega (arith, xor-step (w / 2 ^ j) (v / 2 ^ j)) in
+      rw (xor-shr w v j, e) (bits (λ x y. eqb (differ x y) 1 ≡ xor (eqb x 1) (eqb y 1)) refl refl refl refl)
+
+  -- two words with the same bit j
+  bit-same : hasBit w j ≡ hasBit v j → bit w j ≡ bit v j
+  bit-same =
+      bits (λ x y. eqb x 1 ≡ eqb y 1 → x ≡ y) (λ e. refl) (λ e. absurd (true≢false (sym e))) (λ e. absurd (true≢false e)) (λ e. refl)
+
+pub hasBit-zero : (j : ℕ) → hasBit 0 j ≡ false
+hasBit-zero j = rw (div-eq-of-lt (pow-pos j))
+
+-- ---- words with the same bits are the same
+bit-suc : (w j : ℕ) → bit w (suc j) ≡ bit (w / 2) j
+bit-suc w j = let e : 1 + j ≡ suc j = omega arith in sym (rw (shr-shr w 1 j, e))
+
+bits-same : (n w v : ℕ) → w < 2 ^ n → v < 2 ^ n → ((j : ℕ) → j < n → bit w j ≡ bit v j) → w ≡ v
+bits-same zero w v a b h = omega arith
+bits-same (suc n) w v a b h =
+    let e : 2 ^ suc n ≡ 2 ^ n * 2 = pow-suc 2 n in
+    let top : w / 2 ≡ v / 2 = bits-same n (w / 2) (v / 2) (omega arith) (omega arith) (λ j l. sym (bit-suc w j) ∙ h (suc j) (omega arith) ∙ bit-suc v j) in
+    let low : w / 1 % 2 ≡ v / 1 % 2 = h 0 (omega arith) in
+    omega arith
+
+pub same-bits : (w v : ℕ) → w < 2 ^ 64 → v < 2 ^ 64 → ((j : ℕ) → j < 64 → hasBit w j ≡ hasBit v j) → w ≡ v
+same-bits w v a b h = bits-same 64 w v a b (λ j l. bit-same w v j (h j l))
+
+-- ---- the pages below n, and those of a span
+ones-in : (m j : ℕ) → j < m → hasBit (2 ^ m - 1) j ≡ true
+ones-in m j h =
+    let e : m - 1 - j + 1 + j ≡ m = omega arith in
+    let cut = rw e at (ones-split (m - 1 - j + 1) j) in
+    let odd : (2 ^ (m - 1 - j + 1) - 1) % 2 ≡ 1 = omega (arith, pow-pos (m - 1 - j), pow-add 2 (m - 1 - j) 1) in
+    rw (cut, high (2 ^ (m - 1 - j + 1) - 1) j (ones-lt j), odd)
+
+ones-out : (m j : ℕ) → m ≤ j → hasBit (2 ^ m - 1) j ≡ false
+ones-out m j h = rw (div-eq-of-lt (lt-of-lt-of-le (ones-lt m) (pow-mono h)))
+
+module _ (n k j : ℕ) (l : j < 64) where
+  pub below-bit : hasBit (belowWord n k) j ≡ ltb (k * 64 + j) n
+  unfolding belowWord
+  below-bit =
+      ⊎-elim
+      (λ h. ones-in (min 64 (n - k * 64)) j (omega arith) ∙ sym (lt-ltb (k * 64 + j) n h))
+      (λ h. ones-out (min 64 (n - k * 64)) j (omega arith) ∙ sym (le-ltb (k * 64 + j) n h))
+      (below-or (k * 64 + j) n)
+
+pub below-fits : (n k : ℕ) → belowWord n k < 2 ^ 64
+unfolding belowWord
+below-fits n k = let m : min 64 (n - k * 64) ≤ 64 = omega arith in lt-of-lt-of-le (ones-lt (min 64 (n - k * 64))) (pow-mono m)
+
+between : (base count page : ℕ) → xor (ltb page (base + count)) (ltb page base) ≡ inSpan base count page
+unfolding xor
+between base count page = ⊎-elim before after (below-or page base)
+  where
+    before : page < base → xor (ltb page (base + count)) (ltb page base) ≡ inSpan base count page
+    before h = let g : page < base + count = omega arith in rw (lt-ltb page base h, lt-ltb page (base + count) g, lt-leb base page h)
+
+    after : base ≤ page → xor (ltb page (base + count)) (ltb page base) ≡ inSpan base count page
+    after h = rw (le-ltb page base h, le-leb base page h) (⊎-elim (λ t. rw t) (λ f. rw f) (decide (ltb page (base + count))))
+
+pub span-bit : (base count k j : ℕ) → j < 64 → hasBit (spanWord base count k) j ≡ inSpan base count (k * 64 + j)
+span-bit base count k j l =
+    hasBit-xor (belowWord (base + count) k) (belowWord base k) j
+    ∙ rw (below-bit (base + count) k j l, below-bit base k j l) (between base count (k * 64 + j))
+
+pub span-fits : (base count k : ℕ) → spanWord base count k < 2 ^ 64
+span-fits base count k = xor-lt 64 (belowWord (base + count) k) (belowWord base k) (below-fits (base + count) k) (below-fits base k)
+
+-- ---- a bit in both, in either, in none
+either : (a b : Bool) → (a || b) ≡ true → (a ≡ true) ⊎ (b ≡ true)
+either true b e = inl refl
+either false b e = inr e
+
+module _ (w v j : ℕ) where
+  pub and-both : hasBit (bitAnd w v) j ≡ true → (hasBit w j ≡ true) × (hasBit v j ≡ true)
+  and-both t = both (hasBit w j) (hasBit v j) (sym (hasBit-and w v j) ∙ t)
+
+  pub both-and : hasBit w j ≡ true → hasBit v j ≡ true → hasBit (bitAnd w v) j ≡ true
+  both-and a b = hasBit-and w v j ∙ rw (a, b)
+
+  pub or-either : hasBit (bitOr w v) j ≡ true → (hasBit w j ≡ true) ⊎ (hasBit v j ≡ true)
+  or-either t = either (hasBit w j) (hasBit v j) (sym (hasBit-or w v j) ∙ t)
+
+  pub either-or : (hasBit w j ≡ true) ⊎ (hasBit v j ≡ true) → hasBit (bitOr w v) j ≡ true
+  either-or s = hasBit-or w v j ∙ ⊎-elim (λ t. rw t) (λ t. rw t (or-true (hasBit w j))) s
+
+zero-none : (w j : ℕ) → w ≡ 0 → hasBit w j ≡ true → ⊥
+zero-none w j e t = true≢false (sym t ∙ rw e (hasBit-zero j))
+
+none-zero : (w : ℕ) → w < 2 ^ 64 → ((j : ℕ) → j < 64 → hasBit w j ≡ true → ⊥) → w ≡ 0
+none-zero w a h = same-bits w 0 a (pow-pos 64) (λ j l. ⊎-elim (λ t. absurd (h j l t)) (λ f. f ∙ sym (hasBit-zero j)) (decide (hasBit w j)))
+
+-- ---- what the tests of words decide
+-- a failed test of what a statement implies refutes the statement
+pub refuted : {t : Bool} {P Q : Type 0} → Decides t Q → t ≡ false → (P → Q) → Decides false P
+refuted d e f = record { sound = λ t. absurd (true≢false (sym t)); complete = λ p. absurd (true≢false (sym (d .complete (f p)) ∙ e)) }
+
+pub apart-decides : (w v : ℕ) → w < 2 ^ 64 → v < 2 ^ 64 → Decides (eqb (bitAnd w v) 0) (Apart w v)
+apart-decides w v a b =
+    record {
+      sound = λ t j l x y. zero-none (bitAnd w v) j (eqb-true (bitAnd w v) 0 t) (both-and w v j x y);
+      complete = λ h. eq-eqb (bitAnd w v) 0 (none-zero (bitAnd w v) (and-lt 64 w v a b) (λ j l t. let (x, y) = and-both w v j t in h j l x y));
+    }
+
+-- the bits of w are among those of v
+pub within-decides : (w v : ℕ) → w < 2 ^ 64 → v < 2 ^ 64 → Decides (eqb (bitAnd w v) w) ((j : ℕ) → j < 64 → hasBit w j ≡ true → hasBit v j ≡ true)
+within-decides w v a b =
+    record {
+      sound = λ t j l x. and-both w v j (rw (eqb-true (bitAnd w v) w t) x) .1;
+      complete = λ h. eq-eqb (bitAnd w v) w (same-bits (bitAnd w v) w (and-lt 64 w v a b) a (λ j l. hasBit-and w v j ∙ kept h j l));
+    }
+  where
+    kept : ((j : ℕ) → j < 64 → hasBit w j ≡ true → hasBit v j ≡ true) → (j : ℕ) → j < 64 → (hasBit w j && hasBit v j) ≡ hasBit w j
+    kept h j l = ⊎-elim (λ (t : hasBit w j ≡ true). rw (h j l t, t)) (λ f. rw f) (decide (hasBit w j))
+
+-- w has no bit unless t
+pub unless-decides : (t : Bool) (w : ℕ) → w < 2 ^ 64 → Decides (t || eqb w 0) ((j : ℕ) → j < 64 → hasBit w j ≡ true → t ≡ true)
+unless-decides t w a =
+    record {
+      sound = λ s j l x. ⊎-elim (λ y. y) (λ z. absurd (zero-none w j (eqb-true w 0 z) x)) (either t (eqb w 0) s);
+      complete = λ h. ⊎-elim (λ y. rw y) (λ (f : t ≡ false). rw (none-zero w a (λ j l x. true≢false (sym (h j l x) ∙ f)), f)) (decide t);
+    }
+
+module _ (known : Bool) (pool held dmaHeld cpu dma : ℕ) (a : pool < 2 ^ 64) (b : held < 2 ^ 64) (c : dmaHeld < 2 ^ 64) (d : cpu < 2 ^ 64) (e : dma < 2 ^ 64) where
+  abbrev vmTest : Bool
+  vmTest = eqb (bitAnd held cpu) 0 && eqb (bitAnd dmaHeld dma) 0 && eqb (bitAnd dma (bitOr cpu pool)) dma && (known || eqb (bitOr cpu dma) 0)
+
+  vm-sound : vmTest ≡ true → VmGood known pool held dmaHeld cpu dma
+  vm-sound t =
+      let (r, u) = both _ (known || eqb (bitOr cpu dma) 0) t in
+      let (s, z) = both _ (eqb (bitAnd dma (bitOr cpu pool)) dma) r in
+      let (x, y) = both (eqb (bitAnd held cpu) 0) (eqb (bitAnd dmaHeld dma) 0) s in
+      record {
+        one-home = apart-decides held cpu b d .sound x;
+        one-dma = apart-decides dmaHeld dma c e .sound y;
+        dma-home = λ j l h. or-either cpu pool j (within-decides dma (bitOr cpu pool) e (or-lt 64 cpu pool d a) .sound z j l h);
+        holder-known = λ j l h. unless-decides known (bitOr cpu dma) (or-lt 64 cpu dma d e) .sound u j l (either-or cpu dma j h);
+      }
+
+  vm-complete : VmGood known pool held dmaHeld cpu dma → vmTest ≡ true
+  vm-complete g =
+      let z = within-decides dma (bitOr cpu pool) e (or-lt 64 cpu pool d a) .complete (λ j l h. either-or cpu pool j (g .dma-home j l h)) in
+      let u = unless-decides known (bitOr cpu dma) (or-lt 64 cpu dma d e) .complete (λ j l h. g .holder-known j l (or-either cpu dma j h)) in
+      rw (apart-decides held cpu b d .complete (g .one-home), apart-decides dmaHeld dma c e .complete (g .one-dma), z, u)
+
+  pub vm-decides : Decides vmTest (VmGood known pool held dmaHeld cpu dma)
+  vm-decides = record { sound = vm-sound; complete = vm-complete }

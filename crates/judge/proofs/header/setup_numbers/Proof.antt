@@ -1,0 +1,18 @@
+use borrow.Author.Needs.{needs}
+use Rattle.judge.specs.DecideLaws.{decides-as, decides-both, decides-below, decides-most}
+use Rattle.judge.proofs.header.setup_numbers.Statement.{statement}
+use Rattle.judge.proofs.header.setup_numbers.Tie as tie
+
+span-within-requires : tie.Need-span-within-requires
+span-within-requires c κs = search needs
+
+returns : tie.Need-returns
+returns c =
+    rw (c .span-within .ensures)
+    (decides-as
+    (λ p. record { some-pages = p .0 .0 .0; most-pages = p .0 .0 .1; shared = p .0 .1; unit-count = p .1 })
+    (λ s. (((s .some-pages, s .most-pages), s .shared), s .unit-count))
+    (decides-both (decides-both (decides-both (decides-below _ _) (decides-most _ _)) (decides-most _ _)) (decides-most _ _)))
+
+pub setup-numbers-spec : {M : Type 1} → statement M
+setup-numbers-spec = tie.close (tie.spec span-within-requires returns)

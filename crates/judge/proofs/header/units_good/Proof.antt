@@ -1,0 +1,58 @@
+use borrow.Author.Needs.{needs}
+use Prim.Native.Nat.{ℕ, _-_}
+use lib.ListN.{getD}
+use Rattle.units.specs.Units.{noUnit}
+use Rattle.model.specs.Valid.{UnitGood}
+use Rattle.judge.specs.DecideLaws.{Passing, pass-start, pass-next, pass-end, passed, failed, says-yes, says-no}
+use Rattle.judge.proofs.header.units_good.Statement.{statement}
+use Rattle.judge.proofs.header.units_good.Tie as tie
+
+abbrev Inv-loop : tie.InvT-loop
+Inv-loop count pages units k₀ k = Passing (λ (j : ℕ). UnitGood pages (getD units j noUnit)) count k
+
+abbrev μ-loop : tie.MeasureT-loop
+μ-loop count pages units k₀ k = count - k
+
+loop-holds : tie.Need-loop-holds Inv-loop μ-loop
+loop-holds c = pass-start
+
+mul-unit : tie.Need-mul-unit Inv-loop μ-loop
+mul-unit c = search needs
+
+array-copy-out-unit : tie.Need-array-copy-out-unit Inv-loop μ-loop
+array-copy-out-unit c = search needs
+
+unit-good-requires : tie.Need-unit-good-requires Inv-loop μ-loop
+unit-good-requires c κs = search needs
+
+returns : tie.Need-returns Inv-loop μ-loop
+returns c =
+    says-no (λ all. failed (c .before .unit-good .ensures) (c .if1 .taken) (all _ (c .before .before .before .loop-test .taken)))
+
+add-k : tie.Need-add-k Inv-loop μ-loop
+add-k c = search needs
+
+loop-less : tie.Need-loop-less Inv-loop μ-loop
+loop-less c = search needs
+
+loop-again : tie.Need-loop-again Inv-loop μ-loop
+loop-again c = pass-next (c .before .before .before .before .loop .inv) (c .before .before .before .loop-test .taken) (passed (c .before .unit-good .ensures) (c .if1 .left))
+
+returns-2 : tie.Need-returns-2 Inv-loop μ-loop
+returns-2 c = says-yes (pass-end (c .before .loop .inv) (c .loop-test .left))
+
+pub units-good-spec : {M : Type 1} → statement M
+units-good-spec =
+    tie.close
+    (tie.spec
+    Inv-loop
+    μ-loop
+    loop-holds
+    mul-unit
+    array-copy-out-unit
+    unit-good-requires
+    returns
+    add-k
+    loop-less
+    loop-again
+    returns-2)

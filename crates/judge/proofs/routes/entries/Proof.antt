@@ -1,0 +1,56 @@
+use borrow.Author.Needs.{needs}
+use Prim.Native.Nat.{_-_}
+use lib.ListN.{length}
+use Rattle.model.specs.Valid.{EntryGood}
+use Rattle.judge.specs.DecideLaws.{Passing, AtPlace, pass-start, pass-next, pass-end, each-place, each-word, says-yes, says-no, passed, failed}
+use Rattle.judge.proofs.routes.entries.Statement.{statement}
+use Rattle.judge.proofs.routes.entries.Tie as tie
+
+abbrev Inv-loop : tie.InvT-loop
+Inv-loop side table sets pairs lent pages known i₀ i = Passing (AtPlace (EntryGood side pages known sets pairs) table) (length table) i
+
+abbrev μ-loop : tie.MeasureT-loop
+μ-loop side table sets pairs lent pages known i₀ i = length table - i
+
+loop-holds : tie.Need-loop-holds Inv-loop μ-loop
+loop-holds c = pass-start
+
+mul-entry-good : tie.Need-mul-entry-good Inv-loop μ-loop
+mul-entry-good c = search needs
+
+shared-slice-read-entry-good : tie.Need-shared-slice-read-entry-good Inv-loop μ-loop
+shared-slice-read-entry-good c = search needs
+
+entry-good-requires : tie.Need-entry-good-requires Inv-loop μ-loop
+entry-good-requires c κs = c .before .before .before .before .before .before .before .pre
+
+returns : tie.Need-returns Inv-loop μ-loop
+returns c = says-no (λ all. failed (c .before .entry-good .ensures) (c .if1 .taken) (each-place _ _ all _ (c .before .before .before .loop-test .taken)))
+
+add-i : tie.Need-add-i Inv-loop μ-loop
+add-i c = search needs
+
+loop-less : tie.Need-loop-less Inv-loop μ-loop
+loop-less c = search needs
+
+loop-again : tie.Need-loop-again Inv-loop μ-loop
+loop-again c = pass-next (c .before .before .before .before .loop .inv) (c .before .before .before .loop-test .taken) (passed (c .before .entry-good .ensures) (c .if1 .left))
+
+returns-2 : tie.Need-returns-2 Inv-loop μ-loop
+returns-2 c = says-yes (each-word _ _ (pass-end (c .before .loop .inv) (c .loop-test .left)))
+
+pub entries-spec : {M : Type 1} → statement M
+entries-spec =
+    tie.close
+    (tie.spec
+    Inv-loop
+    μ-loop
+    loop-holds
+    mul-entry-good
+    shared-slice-read-entry-good
+    entry-good-requires
+    returns
+    add-i
+    loop-less
+    loop-again
+    returns-2)

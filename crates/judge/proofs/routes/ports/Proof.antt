@@ -1,0 +1,64 @@
+use borrow.Author.Needs.{needs}
+use Prim.Native.Nat.{ℕ, _-_, _<_}
+use lib.ListN.{length, getD}
+use Rattle.numbers.specs.Limits.{PORTS, IDLE}
+use Rattle.model.specs.MemoryLaws.{getD-there}
+use Rattle.judge.specs.DecideLaws.{Passing, pass-start, pass-next, pass-end, says-yes, says-no, passed, failed}
+use Rattle.judge.specs.Parts.{PortGood}
+use Rattle.judge.proofs.routes.ports.Statement.{statement}
+use Rattle.judge.proofs.routes.ports.Tie as tie
+
+abbrev Inv-loop : tie.InvT-loop
+Inv-loop known ports port₀ port = Passing (λ (k : ℕ). PortGood known (getD ports k IDLE)) PORTS port
+
+abbrev μ-loop : tie.MeasureT-loop
+μ-loop known ports port₀ port = PORTS - port
+
+loop-holds : tie.Need-loop-holds Inv-loop μ-loop
+loop-holds c = pass-start
+
+mul-port-good : tie.Need-mul-port-good Inv-loop μ-loop
+mul-port-good c = search needs
+
+array-read-port-good : tie.Need-array-read-port-good Inv-loop μ-loop
+array-read-port-good c = search needs
+
+port-good-requires : tie.Need-port-good-requires Inv-loop μ-loop
+port-good-requires c κs = search needs
+
+returns : tie.Need-returns Inv-loop μ-loop
+returns c =
+    let ports = c .before .before .before .before .args .t2 in
+    let h : c .before .before .before .loop .port < length ports = search needs in
+    says-no (λ all. failed (c .before .port-good .ensures) (c .if1 .taken) (rw (getD-there ports _ 0 IDLE h) (all _ (c .before .before .loop-test .taken))))
+
+add-port : tie.Need-add-port Inv-loop μ-loop
+add-port c = search needs
+
+loop-less : tie.Need-loop-less Inv-loop μ-loop
+loop-less c = search needs
+
+loop-again : tie.Need-loop-again Inv-loop μ-loop
+loop-again c =
+    let ports = c .before .before .before .before .args .t2 in
+    let h : c .before .before .before .loop .port < length ports = search needs in
+    pass-next (c .before .before .before .loop .inv) (c .before .before .loop-test .taken) (rw (getD-there ports _ IDLE 0 h) (passed (c .before .port-good .ensures) (c .if1 .left)))
+
+returns-2 : tie.Need-returns-2 Inv-loop μ-loop
+returns-2 c = says-yes (pass-end (c .before .loop .inv) (c .loop-test .left))
+
+pub ports-spec : {M : Type 1} → statement M
+ports-spec =
+    tie.close
+    (tie.spec
+    Inv-loop
+    μ-loop
+    loop-holds
+    mul-port-good
+    array-read-port-good
+    port-good-requires
+    returns
+    add-port
+    loop-less
+    loop-again
+    returns-2)

@@ -1,0 +1,56 @@
+use borrow.Author.Needs.{needs}
+use Prim.Native.Nat.{_-_}
+use lib.ListN.{length}
+use Rattle.judge.specs.Parts.{SlotPacked}
+use Rattle.judge.specs.DecideLaws.{Passing, AtPlace, pass-start, pass-next, pass-end, each-place, each-word, says-yes, says-no, passed, failed}
+use Rattle.judge.proofs.routes.slots.Statement.{statement}
+use Rattle.judge.proofs.routes.slots.Tie as tie
+
+abbrev Inv-loop : tie.InvT-loop
+Inv-loop cache i₀ i = Passing (AtPlace SlotPacked cache) (length cache) i
+
+abbrev μ-loop : tie.MeasureT-loop
+μ-loop cache i₀ i = length cache - i
+
+loop-holds : tie.Need-loop-holds Inv-loop μ-loop
+loop-holds c = pass-start
+
+mul-slot-packed : tie.Need-mul-slot-packed Inv-loop μ-loop
+mul-slot-packed c = search needs
+
+shared-slice-read-slot-packed : tie.Need-shared-slice-read-slot-packed Inv-loop μ-loop
+shared-slice-read-slot-packed c = search needs
+
+slot-packed-requires : tie.Need-slot-packed-requires Inv-loop μ-loop
+slot-packed-requires c κs = search needs
+
+returns : tie.Need-returns Inv-loop μ-loop
+returns c = says-no (λ all. failed (c .before .slot-packed .ensures) (c .if1 .taken) (each-place _ _ all _ (c .before .before .before .loop-test .taken)))
+
+add-i : tie.Need-add-i Inv-loop μ-loop
+add-i c = search needs
+
+loop-less : tie.Need-loop-less Inv-loop μ-loop
+loop-less c = search needs
+
+loop-again : tie.Need-loop-again Inv-loop μ-loop
+loop-again c = pass-next (c .before .before .before .before .loop .inv) (c .before .before .before .loop-test .taken) (passed (c .before .slot-packed .ensures) (c .if1 .left))
+
+returns-2 : tie.Need-returns-2 Inv-loop μ-loop
+returns-2 c = says-yes (each-word _ _ (pass-end (c .before .loop .inv) (c .loop-test .left)))
+
+pub slots-spec : {M : Type 1} → statement M
+slots-spec =
+    tie.close
+    (tie.spec
+    Inv-loop
+    μ-loop
+    loop-holds
+    mul-slot-packed
+    shared-slice-read-slot-packed
+    slot-packed-requires
+    returns
+    add-i
+    loop-less
+    loop-again
+    returns-2)

@@ -1,0 +1,62 @@
+-- `keys::agreed` meets its contract. The classes before this one are as they ought to be.
+use borrow.Author.Needs.{needs}
+use Prim.Native.Nat.{ℕ, _<_, _-_}
+use native.Mathlib.Omega.{arith}
+use borrow.Author.Count.{below-more}
+use borrow.Author.Tests.{not-true, not-false}
+use Rattle.keys.specs.Keys.{CLASSES, ClassAgree, Blank}
+use Rattle.keys.specs.KeysLaws.{yes, no, refuted, agree-classes, agree-class}
+use Rattle.keys.proofs.agreed.Statement.{statement}
+use Rattle.keys.proofs.agreed.Tie as tie
+
+abbrev Inv-loop : tie.InvT-loop
+Inv-loop map map-head map-next walker head next place₀ class₀ place class = Blank place × ((k : ℕ) → k < class → ClassAgree map walker k)
+
+abbrev μ-loop : tie.MeasureT-loop
+μ-loop map map-head map-next walker head next place₀ class₀ place class = CLASSES - class
+
+loop-holds : tie.Need-loop-holds Inv-loop μ-loop
+loop-holds c = (c .before .before .before .before .before .before .before .pre .3, λ k h. absurd (omega arith))
+
+class-agrees-requires : tie.Need-class-agrees-requires Inv-loop μ-loop
+class-agrees-requires c κs = (c .before .before .before .before .before .before .before .before .before .before .pre .0, c .before .before .before .before .before .before .before .before .before .before .pre .1, c .before .before .before .before .before .before .before .before .before .before .pre .2, c .before .before .loop .inv .0, c .before .loop-test .taken)
+
+same-length : tie.Need-same-length Inv-loop μ-loop
+same-length c = search needs
+
+returns : tie.Need-returns Inv-loop μ-loop
+returns c = no (λ t. refuted (c .before .before .before .class-agrees .ensures .answer) (not-true _ (c .if1 .taken)) (agree-class _ _ (c .before .before .before .before .before .before .before .before .before .before .before .before .before .before .pre .4) (c .before .before .before .before .before .before .before .before .before .before .before .before .before .before .pre .5) t _))
+
+add-class : tie.Need-add-class Inv-loop μ-loop
+add-class c = search needs
+
+loop-less : tie.Need-loop-less Inv-loop μ-loop
+loop-less c = search needs
+
+loop-again : tie.Need-loop-again Inv-loop μ-loop
+loop-again c =
+    let t = c .before .before .before .class-agrees .ensures in
+    let passed = not-false _ (c .if1 .left) in
+    (t .blank passed, below-more _ _ (c .before .before .before .before .before .before .loop .inv .1) (t .answer .sound passed))
+
+same-length-2 : tie.Need-same-length-2 Inv-loop μ-loop
+same-length-2 c = search needs
+
+returns-2 : tie.Need-returns-2 Inv-loop μ-loop
+returns-2 c = yes (agree-classes _ _ (c .before .before .before .before .before .before .before .before .before .pre .4) (c .before .before .before .before .before .before .before .before .before .pre .5) (λ k h. c .before .loop .inv .1 k (omega (arith, c .loop-test .left))))
+
+pub agreed-spec : {M : Type 1} → statement M
+agreed-spec =
+    tie.close
+    (tie.spec
+    Inv-loop
+    μ-loop
+    loop-holds
+    class-agrees-requires
+    same-length
+    returns
+    add-class
+    loop-less
+    loop-again
+    same-length-2
+    returns-2)

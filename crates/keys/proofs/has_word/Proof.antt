@@ -1,0 +1,58 @@
+-- `keys::has_word` meets its contract.
+use borrow.Author.Needs.{needs}
+use Prim.Native.Nat.{_-_, _<_}
+use mathlib.Core.Path.{_≡_, sym, _∙_}
+use native.Mathlib.Omega.{arith}
+use lib.ListN.{length, getD}
+use Rattle.keys.specs.Keys.{lowOf}
+use Rattle.keys.specs.PlaceLaws.{shown-none, shown-place, shown-test}
+use Rattle.keys.specs.KeysLaws.{no}
+use Rattle.keys.proofs.has_word.Statement.{statement}
+use Rattle.keys.proofs.has_word.Tie as tie
+
+low-of-requires : tie.Need-low-of-requires
+low-of-requires c κs = search needs
+
+mul-wide : tie.Need-mul-wide
+mul-wide c = search needs
+
+shared-slice-read-wide : tie.Need-shared-slice-read-wide
+shared-slice-read-wide c = search needs
+
+wide-requires : tie.Need-wide-requires
+wide-requires c κs = search needs
+
+returns : tie.Need-returns
+returns c = no (shown-none _ _ _ (rw (c .before .before .before .low-of .ensures .0) at (sym (c .before .wide .ensures) ∙ c .if1 .taken)))
+
+sub-spot : tie.Need-sub-spot
+sub-spot c = search needs
+
+there : (c : tie.Else1) → getD (c .before .before .before .before .before .before .args .place .now) (lowOf (c .before .before .before .before .before .before .args .word)) 0 ≡ c .before .wide .result
+there c = rw (c .before .before .before .low-of .ensures .0) at (sym (c .before .wide .ensures))
+
+within : (c : tie.Else1) → c .before .wide .result - 1 < length (c .before .before .before .before .before .before .args .map .now)
+within c = shown-place _ _ _ _ (c .before .before .before .before .before .before .pre) (there c) (c .if1 .left)
+
+mul-result : tie.Need-mul-result
+mul-result c = omega (arith, within c)
+
+shared-slice-read-result : tie.Need-shared-slice-read-result
+shared-slice-read-result c = within (c .before)
+
+returns-2 : tie.Need-returns-2
+returns-2 c = shown-test _ _ _ _ (c .before .before .before .before .before .before .before .pre) (there (c .before)) (c .before .if1 .left)
+
+pub has-word-spec : {M : Type 1} → statement M
+has-word-spec =
+    tie.close
+    (tie.spec
+    low-of-requires
+    mul-wide
+    shared-slice-read-wide
+    wide-requires
+    returns
+    sub-spot
+    mul-result
+    shared-slice-read-result
+    returns-2)

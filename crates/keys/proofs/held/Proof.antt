@@ -1,0 +1,62 @@
+-- `keys::held` meets its contract. The classes before this one are as they ought to be.
+use borrow.Author.Needs.{needs}
+use Prim.Native.Nat.{ℕ, _<_, _-_}
+use native.Mathlib.Omega.{arith}
+use borrow.Author.Count.{below-more}
+use borrow.Author.Tests.{not-true, not-false}
+use Rattle.keys.specs.Keys.{CLASSES, ClassHeld, Blank}
+use Rattle.keys.specs.KeysLaws.{yes, no, refuted, held-classes, held-class}
+use Rattle.keys.proofs.held.Statement.{statement}
+use Rattle.keys.proofs.held.Tie as tie
+
+abbrev Inv-loop : tie.InvT-loop
+Inv-loop slots slot-head slot-next map head next place₀ class₀ place class = Blank place × ((k : ℕ) → k < class → ClassHeld slots map k)
+
+abbrev μ-loop : tie.MeasureT-loop
+μ-loop slots slot-head slot-next map head next place₀ class₀ place class = CLASSES - class
+
+loop-holds : tie.Need-loop-holds Inv-loop μ-loop
+loop-holds c = (c .before .before .before .before .before .before .before .pre .3, λ k h. absurd (omega arith))
+
+class-held-requires : tie.Need-class-held-requires Inv-loop μ-loop
+class-held-requires c κs = (c .before .before .before .before .before .before .before .before .before .before .pre .0, c .before .before .before .before .before .before .before .before .before .before .pre .1, c .before .before .before .before .before .before .before .before .before .before .pre .2, c .before .before .loop .inv .0, c .before .loop-test .taken)
+
+same-length : tie.Need-same-length Inv-loop μ-loop
+same-length c = search needs
+
+returns : tie.Need-returns Inv-loop μ-loop
+returns c = no (λ t. refuted (c .before .before .before .class-held .ensures .answer) (not-true _ (c .if1 .taken)) (held-class _ _ (c .before .before .before .before .before .before .before .before .before .before .before .before .before .before .pre .4) (c .before .before .before .before .before .before .before .before .before .before .before .before .before .before .pre .5) t _))
+
+add-class : tie.Need-add-class Inv-loop μ-loop
+add-class c = search needs
+
+loop-less : tie.Need-loop-less Inv-loop μ-loop
+loop-less c = search needs
+
+loop-again : tie.Need-loop-again Inv-loop μ-loop
+loop-again c =
+    let t = c .before .before .before .class-held .ensures in
+    let passed = not-false _ (c .if1 .left) in
+    (t .blank passed, below-more _ _ (c .before .before .before .before .before .before .loop .inv .1) (t .answer .sound passed))
+
+same-length-2 : tie.Need-same-length-2 Inv-loop μ-loop
+same-length-2 c = search needs
+
+returns-2 : tie.Need-returns-2 Inv-loop μ-loop
+returns-2 c = yes (held-classes _ _ (c .before .before .before .before .before .before .before .before .before .pre .4) (λ k h. c .before .loop .inv .1 k (omega (arith, c .loop-test .left))))
+
+pub held-spec : {M : Type 1} → statement M
+held-spec =
+    tie.close
+    (tie.spec
+    Inv-loop
+    μ-loop
+    loop-holds
+    class-held-requires
+    same-length
+    returns
+    add-class
+    loop-less
+    loop-again
+    same-length-2
+    returns-2)

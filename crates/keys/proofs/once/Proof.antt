@@ -1,0 +1,52 @@
+-- `keys::once` meets its contract. Each place before i is the first of its key.
+use borrow.Author.Needs.{needs}
+use Prim.Native.Nat.{ℕ, _≤_, _<_, _-_}
+use native.Mathlib.Omega.{arith}
+use borrow.Author.Count.{below-more}
+use borrow.Author.Tests.{not-true, not-false}
+use lib.ListN.{length}
+use Rattle.keys.specs.Keys.{NewKey}
+use Rattle.keys.specs.KeysLaws.{yes, no, refuted, new-once, once-new}
+use Rattle.keys.proofs.once.Statement.{statement}
+use Rattle.keys.proofs.once.Tie as tie
+
+abbrev Inv-loop : tie.InvT-loop
+Inv-loop words i₀ i = (i ≤ length words) × ((j : ℕ) → j < i → NewKey words j)
+
+abbrev μ-loop : tie.MeasureT-loop
+μ-loop words i₀ i = length words - i
+
+loop-holds : tie.Need-loop-holds Inv-loop μ-loop
+loop-holds c = (omega arith, λ j h. absurd (omega arith))
+
+first-of-key-requires : tie.Need-first-of-key-requires Inv-loop μ-loop
+first-of-key-requires c κs = search needs
+
+returns : tie.Need-returns Inv-loop μ-loop
+returns c = no (λ d. refuted (c .before .first-of-key .ensures) (not-true _ (c .if1 .taken)) (once-new _ d _ (c .before .before .loop-test .taken)))
+
+add-i : tie.Need-add-i Inv-loop μ-loop
+add-i c = search needs
+
+loop-less : tie.Need-loop-less Inv-loop μ-loop
+loop-less c = search needs
+
+loop-again : tie.Need-loop-again Inv-loop μ-loop
+loop-again c = (omega arith, below-more _ _ (c .before .before .before .loop .inv .1) (c .before .first-of-key .ensures .sound (not-false _ (c .if1 .left))))
+
+returns-2 : tie.Need-returns-2 Inv-loop μ-loop
+returns-2 c = yes (new-once _ (λ j h. c .before .loop .inv .1 j (omega (arith, c .loop-test .left))))
+
+pub once-spec : {M : Type 1} → statement M
+once-spec =
+    tie.close
+    (tie.spec
+    Inv-loop
+    μ-loop
+    loop-holds
+    first-of-key-requires
+    returns
+    add-i
+    loop-less
+    loop-again
+    returns-2)

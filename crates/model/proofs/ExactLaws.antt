@@ -1,0 +1,84 @@
+-- Chains of checks and searches as exact tests: a chain accepts just where nothing that it refuses holds.
+use Prim.{Unit, tt}
+use Prim.Native.Nat.{ℕ, _<_}
+use mathlib.Core.Bool.{Bool, true, false, not, true≢false}
+use mathlib.Core.List.{List}
+use mathlib.Core.Logic.{⊎-elim}
+use mathlib.Core.Path.{_≡_, refl, sym}
+use lib.Dec.{ltb}
+use borrow.Author.Tests.{ltb-true, ltb-false}
+use Rattle.numbers.specs.Choice.{if_then_else_}
+use Rattle.numbers.specs.Decides.{Decides}
+use Rattle.numbers.specs.DecidesLaws.{refutes}
+use Rattle.numbers.specs.declared.Answer.{Answer}
+use Rattle.numbers.specs.declared.Answer.the-variants.{Accepted, Refused}
+use Rattle.numbers.specs.declared.Refusal.{Refusal}
+use Rattle.table.specs.Scan.{any, anyBelow, lowest}
+use Rattle.table.specs.ScanLaws.{cases, has-any, any-true, below-any, any-below-true, lowest-found, lowest-none}
+use Rattle.table.specs.Table.{Has}
+use Rattle.units.specs.declared.Region.{Region}
+use Rattle.model.specs.Conditions.{accepts}
+use Rattle.model.specs.Effect.{andThen}
+use Rattle.model.specs.Regions.{clash}
+
+-- ---- chains
+-- a chain that has come to its end
+pub always : Decides true (Unit {0})
+always = record { sound = λ e. tt; complete = λ u. refl }
+
+-- a check that refuses where its test says true, and one that refuses where it says false
+pub unless : (b : Bool) (refusal : Refusal) (index : ℕ) (rest : Answer) {P Q : Type 0} → Decides b P → Decides (accepts rest) Q →
+    Decides (accepts (if b then Refused refusal index else rest)) ((P → ⊥) × Q)
+unless true refusal index rest d e = record { sound = λ t. absurd (true≢false (sym t)); complete = λ p. absurd (p .0 (d .sound refl)) }
+unless false refusal index rest d e = record { sound = λ t. (refutes d refl, e .sound t); complete = λ p. e .complete (p .1) }
+
+pub where-so : (b : Bool) (refusal : Refusal) (index : ℕ) (rest : Answer) {P Q : Type 0} → Decides b P → Decides (accepts rest) Q →
+    Decides (accepts (if not b then Refused refusal index else rest)) (P × Q)
+where-so true refusal index rest d e = record { sound = λ t. (d .sound refl, e .sound t); complete = λ p. e .complete (p .1) }
+where-so false refusal index rest d e = record { sound = λ t. absurd (true≢false (sym t)); complete = λ p. absurd (refutes d refl (p .0)) }
+
+-- an early chain and what follows it
+pub and-then : (early next : Answer) {P Q : Type 0} → Decides (accepts early) P → Decides (accepts next) Q →
+    Decides (accepts (andThen early next)) (P × Q)
+and-then (Accepted dropped word) next d e = record { sound = λ t. (d .sound refl, e .sound t); complete = λ p. e .complete (p .1) }
+and-then (Refused refusal index) next d e = record { sound = λ t. absurd (true≢false (sym t)); complete = λ p. d .complete (p .0) }
+
+-- where what follows is exact only for what the early chain lets through
+pub after-early : (early next : Answer) {P Q : Type 0} → Decides (accepts early) P → (P → Decides (accepts next) Q) → Decides (accepts (andThen early next)) (P × Q)
+after-early (Accepted dropped word) next d e = let q = e (d .sound refl) in record { sound = λ t. (d .sound refl, q .sound t); complete = λ p. q .complete (p .1) }
+after-early (Refused refusal index) next d e = record { sound = λ t. absurd (true≢false (sym t)); complete = λ p. d .complete (p .0) }
+
+pub after-check : (b : Bool) (refusal : Refusal) (index : ℕ) (rest : Answer) {P Q : Type 0} → Decides b P → (P → Decides (accepts rest) Q) →
+    Decides (accepts (if not b then Refused refusal index else rest)) (P × Q)
+after-check true refusal index rest d e = where-so true refusal index rest d (e (d .sound refl))
+after-check false refusal index rest d e = record { sound = λ t. absurd (true≢false (sym t)); complete = λ p. absurd (refutes d refl (p .0)) }
+
+-- a check of every page of a region
+pub no-clash : (fails : ℕ → Bool) (F : ℕ → Type 0) (region : Region) (refusal : Refusal) (next : Answer) {Q : Type 0} →
+    ((k : ℕ) → k < region .count → Decides (fails k) (F k)) → Decides (accepts next) Q →
+    Decides (accepts (clash fails region refusal next)) (((k : ℕ) → k < region .count → F k → ⊥) × Q)
+no-clash fails F region refusal next {Q = Q} d e = ⊎-elim found none (cases (ltb (lowest fails (region .count)) (region .count)))
+  where
+    goal : Type 0
+    goal = Decides (accepts (clash fails region refusal next)) (((k : ℕ) → k < region .count → F k → ⊥) × Q)
+
+    found : ltb (lowest fails (region .count)) (region .count) ≡ true → goal
+    found t =
+        let h = ltb-true (lowest fails (region .count)) (region .count) t in
+        let r = lowest-found fails (region .count) h in
+        rw t (record { sound = λ z. absurd (true≢false (sym z)); complete = λ p. absurd (p .0 _ h (d _ h .sound (r .0))) })
+
+    none : ltb (lowest fails (region .count)) (region .count) ≡ false → goal
+    none f =
+        let h = ltb-false (lowest fails (region .count)) (region .count) f in
+        rw f (record { sound = λ z. (λ k l. refutes (d k l) (lowest-none fails (region .count) h k l), e .sound z); complete = λ p. e .complete (p .1) })
+
+-- ---- searches
+-- some word of a table passes, where an empty one does not
+pub some-word : (p : ℕ → Bool) (P : ℕ → Type 0) (ws : List ℕ) → p 0 ≡ false → ((w : ℕ) → Has ws w → Decides (p w) (P w)) → Decides (any p ws) ((w : ℕ) × Has ws w × P w)
+some-word p P ws empty d =
+    record { sound = λ t. let (w, h, e) = any-true p ws empty t in (w, h, d w h .sound e); complete = λ r. has-any p ws (r .0) (r .1) (d (r .0) (r .1) .complete (r .2)) }
+
+pub some-below : (p : ℕ → Bool) (P : ℕ → Type 0) (n : ℕ) → ((k : ℕ) → k < n → Decides (p k) (P k)) → Decides (anyBelow p n) ((k : ℕ) × (k < n) × P k)
+some-below p P n d =
+    record { sound = λ t. let (k, h, e) = any-below-true p n t in (k, h, d k h .sound e); complete = λ r. below-any p n (r .0) (r .1) (d (r .0) (r .1) .complete (r .2)) }
