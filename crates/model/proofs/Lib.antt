@@ -1,18 +1,5 @@
 -- What is proved of the machine.
 pub mod Computes
-pub mod UpstreamLaws
-pub mod UpstreamWf
-pub mod UpstreamFollows
-pub mod UpstreamMemory
-pub mod UpstreamLedger
-pub mod UpstreamRoutes
-pub mod UpstreamMaps
-pub mod UpstreamPorts
-pub mod UpstreamAccess
-pub mod UpstreamRegionViews
-pub mod UpstreamRegionSets
-pub mod UpstreamRegions
-pub mod UpstreamSteps
 pub mod Rows
 pub mod Worked
 pub mod Repeats
@@ -40,3 +27,16 @@ pub mod ExactLedger
 pub mod ExactMaps
 pub mod ExactRegions
 pub mod Exactly
+pub mod UpstreamLaws
+pub mod UpstreamWf
+pub mod UpstreamFollows
+pub mod UpstreamMemory
+pub mod UpstreamLedger
+pub mod UpstreamRoutes
+pub mod UpstreamMaps
+pub mod UpstreamPorts
+pub mod UpstreamAccess
+pub mod UpstreamRegionViews
+pub mod UpstreamRegionSets
+pub mod UpstreamRegions
+pub mod UpstreamSteps

@@ -2,7 +2,7 @@
 use Prim.Native.Nat.{ℕ, _<_}
 use mathlib.Core.Bool.{not, _&&_}
 use mathlib.Core.List.{List, [], _∷_}
-use mathlib.Core.Path.{_≡_, refl}
+use mathlib.Core.Path.{_≡_}
 use native.Mathlib.Omega.{arith}
 use lib.ListN.{length, set}
 use borrow.Author.Tests.{ltb-true}
@@ -22,7 +22,7 @@ use Rattle.model.specs.UpstreamRun.{mem-read, mem-write, addressIn, stop
 use Rattle.model.proofs.OneRoute.{route-of}
 use Rattle.model.proofs.GoodAccess.{access-passed, reached}
 use Rattle.model.proofs.UpstreamFollows.{same-software, same-hardware, hardware-once, decided-follows}
-use Rattle.model.proofs.UpstreamMemory.{word-backed, write-seen}
+use Rattle.model.proofs.UpstreamMemory.{memory-only, word-backed, write-seen}
 
 word-below : (ports cache walker : List ℕ) (bit port guest word : ℕ) {dropped read : ℕ} → accessAnswer ports cache walker bit port guest word ≡ Accepted dropped read → word < PAGE-WORDS
 unfolding accessAnswer
@@ -44,15 +44,7 @@ module _ (s : State) (valid : Valid s) where
   read-step address h = record { backed = word-backed (s .memory) address h; next = same-hardware _ }
 
   write-step : (address value : ℕ) → address < length (s .memory) → MemWriteStep address value (hardwareView s) (hardwareView (record { tables = s .tables; memory = set (s .memory) address value }))
-  write-step address value h =
-      record {
-        tlb = λ cpu vm gpa c v g. refl;
-        s2map = λ vm gpa v g. refl;
-        iommu-tlb = λ cpu vm gpa c v g. refl;
-        iommu-s2map = λ vm gpa v g. refl;
-        memory = write-seen (s .memory) address value h;
-        active-vm = λ cpu c. refl;
-      }
+  write-step address value h = memory-only (s .tables) (s .memory) (set (s .memory) address value) _ (write-seen (s .memory) address value h)
 
   pub read-follows : (side : Side) (port guest word : ℕ) → FollowsControl s (readControl side (s .tables) port guest word) [] (mem-read (addressIn (route side (s .tables)) port guest word) ∷ [])
   unfolding readControl decided apply

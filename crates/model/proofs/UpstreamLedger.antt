@@ -26,8 +26,8 @@ use Rattle.model.specs.Effect.{quiet, clears, decided, apply, clearedPag
 use Rattle.model.specs.EarlyLaws.{past, then-passed, vm-passed, PagePassed, page-passed, pair-passed}
 use Rattle.model.specs.Ledger.{vmEarly, pageEarly, pairEarly, addVmAnswer, removeVmAnswer, assignAnswer, assignSets, reclaimAnswer, reclaimSets, reclaimClears, shareAnswer, sharePairs, unshareAnswer, unsharePairs}
 use Rattle.model.specs.Step.{addVmControl, removeVmControl, assignControl, reclaimControl, shareControl, unshareControl}
-use Rattle.model.specs.Upstream.{SameSets, SameSoftware, plus, minus, withSet, withoutSet, mapSeen, isSome, softwareView}
-use Rattle.model.specs.UpstreamStep.{withPool, withSetsOf, withEdges, plusEdge, minusEdge, noPages, AddVmStep, RemoveVmEnabled, RemoveVmStep, AssignPageStep, ReclaimPageStep, SharePageStep, UnsharePageStep}
+use Rattle.model.specs.Upstream.{PageSets, SameSets, SameSoftware, plus, minus, withSet, withoutSet, mapSeen, isSome, softwareView}
+use Rattle.model.specs.UpstreamStep.{withVms, withPool, withSetsOf, withEdges, plusEdge, minusEdge, noPages, AddVmStep, RemoveVmEnabled, RemoveVmStep, AssignPageStep, ReclaimPageStep, SharePageStep, UnsharePageStep}
 use Rattle.model.specs.UpstreamRun.{add-vm, remove-vm, assign-page, reclaim-page, share-page, unshare-page, stop, clearCalls, FollowsControl}
 use Rattle.model.proofs.ViewLaws.{not-so, neither, no-pages, no-mappings, no-edge-of, not-elsewhere}
 use Rattle.model.proofs.PagesKept.{Moved, assign-moved, reclaim-moved}
@@ -57,6 +57,21 @@ set-added known vm pages none =
 
 set-dropped : (known vm : ℕ) (pages : ℕ → ℕ → Bool) → SameSets (record { vms = knows (withoutBit known vm); pages = pages }) (withoutSet (record { vms = knows known; pages = pages }) vm)
 set-dropped known vm pages = record { vms = λ v h. knows-minus known vm v; pages = λ v page h l e. refl }
+
+-- known VMs and their sets edited
+known-edited : (t : Tables) (known : ℕ) (vms : ℕ → Bool) (cpu dma : PageSets) → ((vm : ℕ) → knows known vm ≡ vms vm) → SameSets (record { vms = knows known; pages = owns (t .sets) }) cpu → SameSets (record { vms = knows known; pages = holdsDma (t .sets) }) dma →
+    SameSoftware (softwareView (withKnown t known)) (withSetsOf Dma (withSetsOf Cpu (withVms (softwareView t) vms) cpu) dma)
+known-edited t known vms cpu dma e c d =
+    record {
+      all-vms = λ vm v. e vm;
+      hypervisor-owned = λ page h. refl;
+      vm-owned = c;
+      shared-pages = λ left right page l r h. refl;
+      s2-map = λ vm gpa v g. refl;
+      iommu-s2-map = λ vm gpa v g. refl;
+      iommu-owned = d;
+      iommu-shared = λ page h. refl;
+    }
 
 -- ---- a page moved: its row of before without it, its row of now with it, every other as it was
 module _ {sets sets′ : List ℕ} {from to page : ℕ} (m : Moved sets sets′ from to page) where
@@ -150,19 +165,12 @@ module _ (s : State) (valid : ValidTables (s .tables)) where
     where
       added : (vm : ℕ) → vm < VMS → knows (s .tables .known) vm ≡ false → AddVmStep vm (softwareView (s .tables)) (softwareView (withKnown (s .tables) (withBit (s .tables .known) vm)))
       added vm v f =
+          let known = s .tables .known in
           record {
             fresh = f;
             next =
-                record {
-                  all-vms = λ u h. knows-plus (s .tables .known) vm u;
-                  hypervisor-owned = λ page h. refl;
-                  vm-owned = set-added (s .tables .known) vm (owns (s .tables .sets)) (λ page h. unknown-cpu vm page v f h);
-                  shared-pages = λ left right page l r h. refl;
-                  s2-map = λ u gpa h g. refl;
-                  iommu-s2-map = λ u gpa h g. refl;
-                  iommu-owned = set-added (s .tables .known) vm (holdsDma (s .tables .sets)) (λ page h. unknown-dma vm page v f h);
-                  iommu-shared = λ page h. refl;
-                };
+                known-edited (s .tables) (withBit known vm) _ _ _ (knows-plus known vm) (set-added known vm (owns (s .tables .sets)) (λ page h. unknown-cpu vm page v f h))
+                (set-added known vm (holdsDma (s .tables .sets)) (λ page h. unknown-dma vm page v f h));
           }
 
   -- ---- 2
@@ -203,19 +211,10 @@ module _ (s : State) (valid : ValidTables (s .tables)) where
     where
       dropped-vm : (vm : ℕ) → RemoveVmEnabled vm (softwareView (s .tables)) → RemoveVmStep vm (softwareView (s .tables)) (softwareView (withKnown (s .tables) (withoutBit (s .tables .known) vm)))
       dropped-vm vm g =
+          let known = s .tables .known in
           record {
             enabled = g;
-            next =
-                record {
-                  all-vms = λ u h. knows-minus (s .tables .known) vm u;
-                  hypervisor-owned = λ page h. refl;
-                  vm-owned = set-dropped (s .tables .known) vm (owns (s .tables .sets));
-                  shared-pages = λ left right page l r h. refl;
-                  s2-map = λ u gpa h g. refl;
-                  iommu-s2-map = λ u gpa h g. refl;
-                  iommu-owned = set-dropped (s .tables .known) vm (holdsDma (s .tables .sets));
-                  iommu-shared = λ page h. refl;
-                };
+            next = known-edited (s .tables) (withoutBit known vm) _ _ _ (knows-minus known vm) (set-dropped known vm (owns (s .tables .sets))) (set-dropped known vm (holdsDma (s .tables .sets)));
           }
 
   -- ---- 3

@@ -3,7 +3,7 @@ use Prim.Native.Nat.{ℕ, _/_, _<_}
 use mathlib.Core.Bool.{true, false}
 use mathlib.Core.List.{List, [], _∷_}
 use mathlib.Core.Logic.{⊎-elim}
-use mathlib.Core.Option.{none, some}
+use mathlib.Core.Option.{Option, none, some}
 use mathlib.Core.Path.{_≡_, refl}
 use native.Mathlib.Omega.{arith}
 use lib.Dec.{eqb, ltb}
@@ -17,9 +17,9 @@ use Rattle.pages.specs.BitLaws.{below-or}
 use Rattle.model.specs.State.{Tables}
 use Rattle.model.specs.Effect.{memoryIndex, clearPage, clearedPages}
 use Rattle.model.specs.MemoryLaws.{length-zeroed, zeroed-inside, zeroed-before, zeroed-behind}
-use Rattle.model.specs.Upstream.{isSome, wordSeen, hardwareView}
-use Rattle.model.specs.UpstreamStep.{answerAt}
-use Rattle.model.specs.UpstreamRun.{clearedAt, ClearStep, clearCalls, HardwareRun, stop, go}
+use Rattle.model.specs.Upstream.{isSome, wordSeen, hardwareView, SameHardware}
+use Rattle.model.specs.UpstreamStep.{withMemory, answerAt}
+use Rattle.model.specs.UpstreamRun.{clearedAt, clearCalls, HardwareRun, stop, go}
 use Rattle.model.proofs.UpstreamFollows.{same-hardware}
 
 -- a page cleared, word by word
@@ -52,22 +52,23 @@ clear-seen memory page address = rw (length-clear memory page) (⊎-elim cleared
     kept : eqb (address / PAGE-WORDS) page ≡ false → goal
     kept f = rw (f, word-kept memory page address f)
 
+-- memory alone is another
+pub memory-only : (t : Tables) (before after : List ℕ) (now : ℕ → Option ℕ) → ((address : ℕ) → wordSeen after address ≡ now address) → SameHardware (hardwareView (record { tables = t; memory = after })) (withMemory (hardwareView (record { tables = t; memory = before })) now)
+memory-only t before after now e =
+    record {
+      tlb = λ cpu vm gpa c v g. refl;
+      s2map = λ vm gpa v g. refl;
+      iommu-tlb = λ cpu vm gpa c v g. refl;
+      iommu-s2map = λ vm gpa v g. refl;
+      memory = e;
+      active-vm = λ cpu c. refl;
+    }
+
 -- pages cleared one after another, whatever the tables
 pub clear-run : (t : Tables) (pages memory : List ℕ) → HardwareRun (clearCalls pages) (hardwareView (record { tables = t; memory = memory })) (hardwareView (record { tables = t; memory = clearedPages pages memory }))
 unfolding clearedPages
 clear-run t [] memory = stop (same-hardware _)
-clear-run t (page ∷ pages) memory = go (one page) (clear-run t pages (clearPage memory page))
-  where
-    one : (page : ℕ) → ClearStep page (hardwareView (record { tables = t; memory = memory })) (hardwareView (record { tables = t; memory = clearPage memory page }))
-    one page =
-        record {
-          tlb = λ cpu vm gpa c v g. refl;
-          s2map = λ vm gpa v g. refl;
-          iommu-tlb = λ cpu vm gpa c v g. refl;
-          iommu-s2map = λ vm gpa v g. refl;
-          memory = λ address. clear-seen memory page address;
-          active-vm = λ cpu c. refl;
-        }
+clear-run t (page ∷ pages) memory = go (memory-only t memory (clearPage memory page) _ (clear-seen memory page)) (clear-run t pages (clearPage memory page))
 
 -- ---- a word
 pub word-backed : (memory : List ℕ) (address : ℕ) → address < length memory → isSome (wordSeen memory address) ≡ true

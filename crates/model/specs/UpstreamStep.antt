@@ -189,13 +189,28 @@ abbrev pub RemoveEnabled : (Region → Bool) → Side → Region → SoftwareVie
 RemoveEnabled assignable Cpu region s = RemoveRegionEnabled assignable region s
 RemoveEnabled assignable Dma region s = IommuRemoveRegionEnabled assignable region s
 
+-- pages from the pool to the VM, and entries into the map; and back
+abbrev pub inserted : Side → Region → SoftwareView → SoftwareView
+inserted side region s =
+    let vm = region .vm .0 in
+    let pooled = withPoolOf side s (withoutPages (s .hypervisor-owned) region) in
+    let owned = withSetsOf side pooled (withSet (setsOf side s) vm (withPages (setsOf side s .pages vm) region)) in
+    withMapOf side owned (unionRight (mapOf side s) (entriesOf region))
+
+abbrev pub removed : Side → Region → SoftwareView → SoftwareView
+removed side region s =
+    let vm = region .vm .0 in
+    let pooled = withPoolOf side s (withPages (s .hypervisor-owned) region) in
+    let owned = withSetsOf side pooled (withSet (setsOf side s) vm (withoutPages (setsOf side s .pages vm) region)) in
+    withMapOf side owned (withoutKeys (mapOf side s) (entriesOf region))
+
 pub record InsertRegionStep (assignable : Region → Bool) (side : Side) (region : Region) (s s′ : SoftwareView) : Type 0 where
   pub enabled : InsertEnabled assignable side region s
-  pub next : SameSoftware s′ (withMapOf side (withSetsOf side (withPoolOf side s (withoutPages (s .hypervisor-owned) region)) (withSet (setsOf side s) (region .vm .0) (withPages (setsOf side s .pages (region .vm .0)) region))) (unionRight (mapOf side s) (entriesOf region)))
+  pub next : SameSoftware s′ (inserted side region s)
 
 pub record RemoveRegionStep (assignable : Region → Bool) (side : Side) (region : Region) (s s′ : SoftwareView) : Type 0 where
   pub enabled : RemoveEnabled assignable side region s
-  pub next : SameSoftware s′ (withMapOf side (withSetsOf side (withPoolOf side s (withPages (s .hypervisor-owned) region)) (withSet (setsOf side s) (region .vm .0) (withoutPages (setsOf side s .pages (region .vm .0)) region))) (withoutKeys (mapOf side s) (entriesOf region)))
+  pub next : SameSoftware s′ (removed side region s)
 
 -- ---- hardware: tlb and s2map for CPU, iommu_tlb and iommu_s2map for DMA
 abbrev pub walkOf : Side → HardwareView → S2Map
