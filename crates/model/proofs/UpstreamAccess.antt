@@ -24,7 +24,8 @@ use Rattle.model.proofs.GoodAccess.{access-passed, reached}
 use Rattle.model.proofs.UpstreamFollows.{same-software, same-hardware, hardware-once, decided-follows}
 use Rattle.model.proofs.UpstreamMemory.{memory-only, word-backed, write-seen}
 
-word-below : (ports cache walker : List ℕ) (bit port guest word : ℕ) {dropped read : ℕ} → accessAnswer ports cache walker bit port guest word ≡ Accepted dropped read → word < PAGE-WORDS
+word-below : (ports cache walker : List ℕ) (bit port guest word : ℕ) {dropped read : ℕ} → accessAnswer ports cache walker bit port guest word ≡ Accepted dropped read →
+    word < PAGE-WORDS
 unfolding accessAnswer
 word-below ports cache walker bit port guest word e =
     let (a, b) = past (not (isPort port && isGuest guest && isWord word)) _ _ _ e in
@@ -32,7 +33,8 @@ word-below ports cache walker bit port guest word e =
 
 module _ (s : State) (valid : Valid s) where
   -- the word lies in memory
-  backed : (side : Side) (bit port guest word : ℕ) {dropped read : ℕ} → accessAnswer (route side (s .tables) .ports) (route side (s .tables) .cache) (route side (s .tables) .walker) bit port guest word ≡ Accepted dropped read →
+  backed : (side : Side) (bit port guest word : ℕ) {dropped read : ℕ} →
+      accessAnswer (route side (s .tables) .ports) (route side (s .tables) .cache) (route side (s .tables) .walker) bit port guest word ≡ Accepted dropped read →
       addressIn (route side (s .tables)) port guest word < length (s .memory)
   backed side bit port guest word e =
       let r = route side (s .tables) in
@@ -46,13 +48,15 @@ module _ (s : State) (valid : Valid s) where
   write-step : (address value : ℕ) → address < length (s .memory) → MemWriteStep address value (hardwareView s) (hardwareView (record { tables = s .tables; memory = set (s .memory) address value }))
   write-step address value h = memory-only (s .tables) (s .memory) (set (s .memory) address value) _ (write-seen (s .memory) address value h)
 
-  pub read-follows : (side : Side) (port guest word : ℕ) → FollowsControl s (readControl side (s .tables) port guest word) [] (mem-read (addressIn (route side (s .tables)) port guest word) ∷ [])
+  pub read-follows : (side : Side) (port guest word : ℕ) →
+      FollowsControl s (readControl side (s .tables) port guest word) [] (mem-read (addressIn (route side (s .tables)) port guest word) ∷ [])
   unfolding readControl decided apply
   read-follows side port guest word =
       decided-follows s _ (s .tables) _ _ _
       (λ dropped read e. record { software = stop (same-software _); hardware = hardware-once (read-step _ (backed side READ port guest word e)) })
 
-  pub write-follows : (side : Side) (port guest word value : ℕ) → FollowsControl s (writeControl side (s .tables) port guest word value) [] (mem-write (addressIn (route side (s .tables)) port guest word) value ∷ [])
+  pub write-follows : (side : Side) (port guest word value : ℕ) →
+      FollowsControl s (writeControl side (s .tables) port guest word value) [] (mem-write (addressIn (route side (s .tables)) port guest word) value ∷ [])
   unfolding writeControl decided apply stored
   write-follows side port guest word value =
       decided-follows s _ (s .tables) _ _ _

@@ -58,7 +58,8 @@ module _ (keyOf : ℕ → ℕ) (empty : keyOf 0 ≡ 0) where
       let n : w ≡ 0 → ⊥ = λ z. let q : 0 ≡ k = sym empty ∙ rw z at e in omega arith in
       found-looked (put keyOf ws k w) k o ∙ rw (lookup-put-same keyOf ws k w i e p, ne-eqb w 0 n)
 
-  pub found-put-other : (ws : List ℕ) (k w other : ℕ) → keyOf w ≡ k → 0 < other → (k ≡ other → ⊥) → isFound (find keyOf (put keyOf ws k w) other) ≡ isFound (find keyOf ws other)
+  pub found-put-other : (ws : List ℕ) (k w other : ℕ) → keyOf w ≡ k → 0 < other → (k ≡ other → ⊥) →
+      isFound (find keyOf (put keyOf ws k w) other) ≡ isFound (find keyOf ws other)
   found-put-other ws k w other e o n = found-looked (put keyOf ws k w) other o ∙ rw (lookup-put-other keyOf empty ws k w other e o n) (sym (found-looked ws other o))
 
   pub found-erase-same : (ws : List ℕ) (k : ℕ) → 0 < k → isFound (find keyOf (erase keyOf ws k) k) ≡ false
@@ -102,7 +103,8 @@ key-parts w f =
     omega arith
 
 -- two slot keys are one where their three parts are
-pub slot-key-same : (port vm gpa port′ vm′ gpa′ : ℕ) → vm < 256 → vm′ < 256 → gpa < GUEST-PAGES → gpa′ < GUEST-PAGES → slotKey port vm gpa ≡ slotKey port′ vm′ gpa′ → (port ≡ port′) × (vm ≡ vm′) × (gpa ≡ gpa′)
+pub slot-key-same : (port vm gpa port′ vm′ gpa′ : ℕ) → vm < 256 → vm′ < 256 → gpa < GUEST-PAGES → gpa′ < GUEST-PAGES → slotKey port vm gpa ≡ slotKey port′ vm′ gpa′ →
+    (port ≡ port′) × (vm ≡ vm′) × (gpa ≡ gpa′)
 slot-key-same port vm gpa port′ vm′ gpa′ v v′ g g′ e =
     let a : (port * 256 + vm) * 65536 + gpa ≡ (port′ * 256 + vm′) * 65536 + gpa′ = omega arith in
     let b : port * 256 + vm ≡ port′ * 256 + vm′ = omega arith in
@@ -113,7 +115,8 @@ slot-key-same port vm gpa port′ vm′ gpa′ v v′ g g′ e =
 abbrev pub SamePair : ℕ → ℕ → ℕ → ℕ → ℕ → ℕ → Type 0
 SamePair left right page l r p = ((left ≡ l) × (right ≡ r) × (page ≡ p)) ⊎ ((left ≡ r) × (right ≡ l) × (page ≡ p))
 
-pub pair-ends : (left right page l r p : ℕ) → left < 65536 → right < 65536 → page < 4096 → l < 65536 → r < 65536 → p < 4096 → pairKey left right page ≡ pairKey l r p → SamePair left right page l r p
+pub pair-ends : (left right page l r p : ℕ) → left < 65536 → right < 65536 → page < 4096 → l < 65536 → r < 65536 → p < 4096 → pairKey left right page ≡ pairKey l r p →
+    SamePair left right page l r p
 pair-ends left right page l r p a b c a′ b′ c′ e =
     let (same, low, high) = pair-same left right page l r p a b c a′ b′ c′ e in
     ⊎-elim (λ q. inl (q, omega arith, same)) (λ q. inr (omega arith, omega arith, same)) (equal left l)
@@ -159,7 +162,8 @@ pub seen-same : (w u : ℕ) → (w ≡ 0 → ⊥) → (u ≡ 0 → ⊥) → entr
 seen-same w u n m e = rw (seen-is w n, seen-is u m, entry-same w u e)
 
 -- a key that a map shows is of a word in it
-pub map-word : (table : List ℕ) (vm gpa : ℕ) → vm < VMS → gpa < GUEST-PAGES → isSome (mapSeen table vm gpa) ≡ true → Has table (lookup keyOf table (key vm gpa)) × OfKey (lookup keyOf table (key vm gpa)) 0 vm gpa
+pub map-word : (table : List ℕ) (vm gpa : ℕ) → vm < VMS → gpa < GUEST-PAGES → isSome (mapSeen table vm gpa) ≡ true →
+    Has table (lookup keyOf table (key vm gpa)) × OfKey (lookup keyOf table (key vm gpa)) 0 vm gpa
 map-word table vm gpa v g e =
     let w = lookup keyOf table (key vm gpa) in
     let (h, k) = lookup-has keyOf table (key vm gpa) (eqb-false w 0 (not-true _ (sym (seen-filled w) ∙ e))) in
@@ -177,7 +181,8 @@ edge-parts left right page l r p e =
     (eqb-true _ _ (b .0), eqb-true _ _ (b .1), eqb-true _ _ (a .1))
 
 -- an edge or its reverse is told by the pair's key
-pub edge-key : (left right page l r p : ℕ) → left < VMS → right < VMS → page < PAGES → l < VMS → r < VMS → p < PAGES → (isEdge left right page l r p || isEdge right left page l r p) ≡ eqb (pairKey left right page) (pairKey l r p)
+pub edge-key : (left right page l r p : ℕ) → left < VMS → right < VMS → page < PAGES → l < VMS → r < VMS → p < PAGES →
+    (isEdge left right page l r p || isEdge right left page l r p) ≡ eqb (pairKey left right page) (pairKey l r p)
 edge-key left right page l r p a b c a′ b′ c′ = ⊎-elim same other (equal (pairKey left right page) (pairKey l r p))
   where
     goal : Type 0
@@ -213,7 +218,8 @@ key-test vm gpa v g h h′ = ⊎-elim same other (equal (key vm gpa) (key v g))
         rw (ne-eqb (key vm gpa) (key v g) n)
         (not-so _ (λ t. let q = both (eqb v vm) (eqb g gpa) t in n (rw (eqb-true v vm (q .0), eqb-true g gpa (q .1)))))
 
-pub slot-key-test : (port vm gpa p v g : ℕ) → vm < 256 → v < 256 → gpa < GUEST-PAGES → g < GUEST-PAGES → (eqb p port && (eqb v vm && eqb g gpa)) ≡ eqb (slotKey port vm gpa) (slotKey p v g)
+pub slot-key-test : (port vm gpa p v g : ℕ) → vm < 256 → v < 256 → gpa < GUEST-PAGES → g < GUEST-PAGES →
+    (eqb p port && (eqb v vm && eqb g gpa)) ≡ eqb (slotKey port vm gpa) (slotKey p v g)
 slot-key-test port vm gpa p v g l l′ h h′ = ⊎-elim same other (equal (slotKey port vm gpa) (slotKey p v g))
   where
     goal : Type 0

@@ -82,7 +82,8 @@ module _ {sets sets′ : List ℕ} {from to page : ℕ} (m : Moved sets sets′ 
   moved-to p l = ⊎-elim (λ q. rw (eq-eqb p page q) (rw q (m .arrived))) (λ n. rw (ne-eqb p page n) (m .other-pages to p l n)) (equal p page)
 
 -- one VM's set edited
-pub set-edited : (known vm : ℕ) (old new : ℕ → ℕ → Bool) (edit : ℕ → Bool) → knows known vm ≡ true → ((page : ℕ) → page < PAGES → new vm page ≡ edit page) → ((v page : ℕ) → v < VMS → page < PAGES → (v ≡ vm → ⊥) → new v page ≡ old v page) →
+pub set-edited : (known vm : ℕ) (old new : ℕ → ℕ → Bool) (edit : ℕ → Bool) → knows known vm ≡ true → ((page : ℕ) → page < PAGES → new vm page ≡ edit page) →
+    ((v page : ℕ) → v < VMS → page < PAGES → (v ≡ vm → ⊥) → new v page ≡ old v page) →
     SameSets (record { vms = knows known; pages = new }) (withSet (record { vms = knows known; pages = old }) vm edit)
 set-edited known vm old new edit k here there =
     record {
@@ -91,7 +92,8 @@ set-edited known vm old new edit k here there =
     }
 
 -- the pool and one VM's CPU pages edited, and no other row
-pub pool-edited : (t : Tables) (vm : ℕ) (sets : List ℕ) (pool edit : ℕ → Bool) → knows (t .known) vm ≡ true → ((page : ℕ) → page < PAGES → holds sets poolRow page ≡ pool page) → ((page : ℕ) → page < PAGES → holds sets (cpuRow vm) page ≡ edit page) →
+pub pool-edited : (t : Tables) (vm : ℕ) (sets : List ℕ) (pool edit : ℕ → Bool) → knows (t .known) vm ≡ true →
+    ((page : ℕ) → page < PAGES → holds sets poolRow page ≡ pool page) → ((page : ℕ) → page < PAGES → holds sets (cpuRow vm) page ≡ edit page) →
     ((row page : ℕ) → page < PAGES → (row ≡ poolRow → ⊥) → (row ≡ cpuRow vm → ⊥) → holds sets row page ≡ holds (t .sets) row page) →
     SameSoftware (softwareView (withSets t sets)) (withSetsOf Cpu (withPool (softwareView t) pool) (withSet (softwareView t .vm-owned) vm edit))
 pool-edited t vm sets pool edit k a b others =
@@ -113,7 +115,8 @@ module _ (pairs : List ℕ) (left right page : ℕ) (a : left < VMS) (b : right 
   unfolding paired
   paired-alike l r p e = rw e
 
-  put-same : (l r p : ℕ) → (paired pairs left right page ≡ false → 0 < freeEntries pairs) → pairKey left right page ≡ pairKey l r p → paired (sharePairs pairs left right page) l r p ≡ true
+  put-same : (l r p : ℕ) → (paired pairs left right page ≡ false → 0 < freeEntries pairs) → pairKey left right page ≡ pairKey l r p →
+      paired (sharePairs pairs left right page) l r p ≡ true
   unfolding sharePairs paired
   put-same l r p room e = ⊎-elim (λ y. rw y (sym (paired-alike l r p e) ∙ y)) new (cases (paired pairs left right page))
     where
@@ -131,7 +134,8 @@ module _ (pairs : List ℕ) (left right page : ℕ) (a : left < VMS) (b : right 
           rw f
           (found-put-other pairKeyOf refl pairs (pairKey left right page) (pairWord left right page) (pairKey l r p) (pair-key left right page (omega arith) (omega arith) (omega arith)) (omega arith) n)
 
-  pub share-seen : (paired pairs left right page ≡ false → 0 < freeEntries pairs) → (l r p : ℕ) → l < VMS → r < VMS → p < PAGES → paired (sharePairs pairs left right page) l r p ≡ plusEdge (paired pairs) left right page l r p
+  pub share-seen : (paired pairs left right page ≡ false → 0 < freeEntries pairs) → (l r p : ℕ) → l < VMS → r < VMS → p < PAGES →
+      paired (sharePairs pairs left right page) l r p ≡ plusEdge (paired pairs) left right page l r p
   share-seen room l r p a′ b′ c′ =
       rw (edge-key left right page l r p a b c a′ b′ c′)
       (⊎-elim (λ e. rw (eq-eqb (pairKey left right page) (pairKey l r p) e) (put-same l r p room e)) (λ n. rw (ne-eqb (pairKey left right page) (pairKey l r p) n) (put-other l r p n)) (equal (pairKey left right page) (pairKey l r p)))
@@ -163,7 +167,8 @@ module _ (s : State) (valid : ValidTables (s .tables)) where
       let v = ltb-true vm VMS (not-false _ (a .0)) in
       record { software = software-once (added vm v (b .0)); hardware = stop (same-hardware _) })
     where
-      added : (vm : ℕ) → vm < VMS → knows (s .tables .known) vm ≡ false → AddVmStep vm (softwareView (s .tables)) (softwareView (withKnown (s .tables) (withBit (s .tables .known) vm)))
+      added : (vm : ℕ) → vm < VMS → knows (s .tables .known) vm ≡ false →
+          AddVmStep vm (softwareView (s .tables)) (softwareView (withKnown (s .tables) (withBit (s .tables .known) vm)))
       added vm v f =
           let known = s .tables .known in
           record {
@@ -175,13 +180,15 @@ module _ (s : State) (valid : ValidTables (s .tables)) where
 
   -- ---- 2
   -- no mapping of the VM in the map of a side, none in its view
-  unmapped : (side : Side) (table : List ℕ) → MapGood side (s .tables .setup .pages) (s .tables .known) (s .tables .sets) (s .tables .pairs) table → (vm : ℕ) → hasMappings table vm ≡ false →
+  unmapped : (side : Side) (table : List ℕ) → MapGood side (s .tables .setup .pages) (s .tables .known) (s .tables .sets) (s .tables .pairs) table → (vm : ℕ) →
+      hasMappings table vm ≡ false →
       (v gpa : ℕ) → v < VMS → gpa < GUEST-PAGES → isSome (mapSeen table v gpa) ≡ true → v ≡ vm → ⊥
   unmapped side table g vm n v gpa h l e q =
       let (i, o) = map-word table v gpa h l e in
       no-mappings table vm _ n i (g .each _ i .filled) (o .vm-is ∙ q)
 
-  removable : (vm : ℕ) {dropped word : ℕ} → removeVmAnswer (s .tables .known) (s .tables .sets) (s .tables .pairs) (s .tables .cpu .map) (s .tables .dma .map) (s .tables .cpu .ports) (s .tables .dma .ports) vm ≡ Accepted dropped word → RemoveVmEnabled vm (softwareView (s .tables))
+  removable : (vm : ℕ) {dropped word : ℕ} →
+      removeVmAnswer (s .tables .known) (s .tables .sets) (s .tables .pairs) (s .tables .cpu .map) (s .tables .dma .map) (s .tables .cpu .ports) (s .tables .dma .ports) vm ≡ Accepted dropped word → RemoveVmEnabled vm (softwareView (s .tables))
   unfolding removeVmAnswer
   removable vm e =
       let (d, w, early, a) = then-passed (vmEarly (s .tables .known) vm) _ e in
@@ -209,7 +216,8 @@ module _ (s : State) (valid : ValidTables (s .tables)) where
       decided-follows s (removeVmAnswer (s .tables .known) (s .tables .sets) (s .tables .pairs) (s .tables .cpu .map) (s .tables .dma .map) (s .tables .cpu .ports) (s .tables .dma .ports) vm) _ quiet _ _
       (λ dropped word e. record { software = software-once (dropped-vm vm (removable vm e)); hardware = stop (same-hardware _) })
     where
-      dropped-vm : (vm : ℕ) → RemoveVmEnabled vm (softwareView (s .tables)) → RemoveVmStep vm (softwareView (s .tables)) (softwareView (withKnown (s .tables) (withoutBit (s .tables .known) vm)))
+      dropped-vm : (vm : ℕ) → RemoveVmEnabled vm (softwareView (s .tables)) →
+          RemoveVmStep vm (softwareView (s .tables)) (softwareView (withKnown (s .tables) (withoutBit (s .tables .known) vm)))
       dropped-vm vm g =
           let known = s .tables .known in
           record {
@@ -229,7 +237,8 @@ module _ (s : State) (valid : ValidTables (s .tables)) where
       let (alone, c) = past (claimedElsewhere Dma (s .tables .sets) vm page) _ _ _ b in
       record { software = software-once (assigned vm page r (not-false _ free) alone); hardware = stop (same-hardware _) })
     where
-      assigned : (vm page : ℕ) → PagePassed (s .tables .known) (s .tables .setup .pages) vm page → inPool (s .tables .sets) page ≡ true → claimedElsewhere Dma (s .tables .sets) vm page ≡ false →
+      assigned : (vm page : ℕ) → PagePassed (s .tables .known) (s .tables .setup .pages) vm page → inPool (s .tables .sets) page ≡ true →
+          claimedElsewhere Dma (s .tables .sets) vm page ≡ false →
           AssignPageStep vm page (softwareView (s .tables)) (softwareView (withSets (s .tables) (assignSets (s .tables .sets) vm page)))
       assigned vm page r free alone =
           let h : page < PAGES = omega (arith, r .page-ok, valid .setup .most-pages) in
@@ -268,7 +277,9 @@ module _ (s : State) (valid : ValidTables (s .tables)) where
 
   -- ---- 5, 6
   -- an edit of the pairs alone
-  edges-edited : (pairs : List ℕ) (edges : ℕ → ℕ → ℕ → Bool) → ((left right page : ℕ) → left < VMS → right < VMS → page < PAGES → paired pairs left right page ≡ edges left right page) → SameSoftware (softwareView (withPairs (s .tables) pairs)) (withEdges (softwareView (s .tables)) edges)
+  edges-edited : (pairs : List ℕ) (edges : ℕ → ℕ → ℕ → Bool) →
+      ((left right page : ℕ) → left < VMS → right < VMS → page < PAGES → paired pairs left right page ≡ edges left right page) →
+      SameSoftware (softwareView (withPairs (s .tables) pairs)) (withEdges (softwareView (s .tables)) edges)
   edges-edited pairs edges e =
       record {
         all-vms = λ v h. refl;
@@ -284,7 +295,8 @@ module _ (s : State) (valid : ValidTables (s .tables)) where
   below-pages : (page : ℕ) → page < s .tables .setup .pages → page < PAGES
   below-pages page h = omega (arith, valid .setup .most-pages)
 
-  shared-step : (left right page : ℕ) {dropped word : ℕ} → shareAnswer (s .tables .known) (s .tables .setup .pages) (s .tables .sets) (s .tables .pairs) left right page ≡ Accepted dropped word →
+  shared-step : (left right page : ℕ) {dropped word : ℕ} →
+      shareAnswer (s .tables .known) (s .tables .setup .pages) (s .tables .sets) (s .tables .pairs) left right page ≡ Accepted dropped word →
       SharePageStep left right page (softwareView (s .tables)) (softwareView (withPairs (s .tables) (sharePairs (s .tables .pairs) left right page)))
   unfolding shareAnswer
   shared-step left right page e =
@@ -307,7 +319,8 @@ module _ (s : State) (valid : ValidTables (s .tables)) where
       decided-follows s (shareAnswer (s .tables .known) (s .tables .setup .pages) (s .tables .sets) (s .tables .pairs) left right page) _ quiet _ _
       (λ dropped word e. record { software = software-once (shared-step left right page e); hardware = stop (same-hardware _) })
 
-  unshared-step : (left right page : ℕ) {dropped word : ℕ} → unshareAnswer (s .tables .known) (s .tables .setup .pages) (s .tables .sets) (s .tables .pairs) (s .tables .cpu .map) left right page ≡ Accepted dropped word →
+  unshared-step : (left right page : ℕ) {dropped word : ℕ} →
+      unshareAnswer (s .tables .known) (s .tables .setup .pages) (s .tables .sets) (s .tables .pairs) (s .tables .cpu .map) left right page ≡ Accepted dropped word →
       UnsharePageStep left right page (softwareView (s .tables)) (softwareView (withPairs (s .tables) (unsharePairs (s .tables .pairs) left right page)))
   unfolding unshareAnswer
   unshared-step left right page e =

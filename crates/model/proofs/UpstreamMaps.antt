@@ -39,7 +39,8 @@ use Rattle.model.proofs.UpstreamRoutes.{shown, with-own, map-of, walk-o
 
 -- ---- what the views show after an edit
 -- the entry of a word just made
-pub entry-shown : (vm gpa page access generation : ℕ) → vm < VMS → gpa < GUEST-PAGES → page < PAGES → access < ACCESSES → generation < GENERATIONS → seen (mapWord vm gpa (entry page access generation)) ≡ some (entryOf page access generation)
+pub entry-shown : (vm gpa page access generation : ℕ) → vm < VMS → gpa < GUEST-PAGES → page < PAGES → access < ACCESSES → generation < GENERATIONS →
+    seen (mapWord vm gpa (entry page access generation)) ≡ some (entryOf page access generation)
 entry-shown vm gpa page access generation v g p a n =
     let v′ : vm < 256 = omega arith in
     let p′ : page < 4096 = omega arith in
@@ -50,13 +51,15 @@ entry-shown vm gpa page access generation v g p a n =
     seen-is (mapWord vm gpa (entry page access generation)) (λ z. omega arith) ∙ rw (i, j, k)
 
 -- a table with one key's word replaced
-at-key : (table table′ : List ℕ) (vm gpa : ℕ) (answer : Option S2Entry) → gpa < GUEST-PAGES → seen (lookup keyOf table′ (key vm gpa)) ≡ answer → ((other : ℕ) → 0 < other → (key vm gpa ≡ other → ⊥) → lookup keyOf table′ other ≡ lookup keyOf table other) →
+at-key : (table table′ : List ℕ) (vm gpa : ℕ) (answer : Option S2Entry) → gpa < GUEST-PAGES → seen (lookup keyOf table′ (key vm gpa)) ≡ answer →
+    ((other : ℕ) → 0 < other → (key vm gpa ≡ other → ⊥) → lookup keyOf table′ other ≡ lookup keyOf table other) →
     SameS2Map (mapSeen table′) (mapAt (mapSeen table) vm gpa answer)
 at-key table table′ vm gpa answer h here there v g l h′ =
     rw (key-test vm gpa v g h h′)
     (⊎-elim (λ e. rw (eq-eqb (key vm gpa) (key v g) e) (rw (← e) here)) (λ n. rw (ne-eqb (key vm gpa) (key v g) n) (ap seen (there (key v g) (omega arith) n))) (equal (key vm gpa) (key v g)))
 
-pub put-seen : (table : List ℕ) (vm gpa page access generation i : ℕ) → vm < VMS → gpa < GUEST-PAGES → page < PAGES → access < ACCESSES → generation < GENERATIONS → place keyOf table (key vm gpa) ≡ At i →
+pub put-seen : (table : List ℕ) (vm gpa page access generation i : ℕ) → vm < VMS → gpa < GUEST-PAGES → page < PAGES → access < ACCESSES → generation < GENERATIONS →
+    place keyOf table (key vm gpa) ≡ At i →
     SameS2Map (mapSeen (mapTable table vm gpa page access generation)) (mapAt (mapSeen table) vm gpa (some (entryOf page access generation)))
 unfolding mapTable
 put-seen table vm gpa page access generation i v g p a n at =
@@ -101,7 +104,8 @@ module _ (side : Side) (t : Tables) (memory : List ℕ) (r : Route) where
       (route-hardware side t memory r (unmapRoute r vm gpa) _ _ refl (erase-seen (r .walker) vm gpa g) (slots-seen (r .cache) vm gpa g))
 
   -- a key that the walker lacks is in no slot, so dropping its slots drops none
-  slots-none : (vm gpa : ℕ) → vm < VMS → gpa < GUEST-PAGES → CacheGood (r .walker) (r .cache) → isFound (find keyOf (r .walker) (key vm gpa)) ≡ false → SameTlb (tlbSeen (withoutSlots (r .cache) vm gpa)) (tlbSeen (r .cache))
+  slots-none : (vm gpa : ℕ) → vm < VMS → gpa < GUEST-PAGES → CacheGood (r .walker) (r .cache) → isFound (find keyOf (r .walker) (key vm gpa)) ≡ false →
+      SameTlb (tlbSeen (withoutSlots (r .cache) vm gpa)) (tlbSeen (r .cache))
   slots-none vm gpa l h good f c v g c′ v′ g′ = slots-seen (r .cache) vm gpa h c v g c′ v′ g′ ∙ ⊎-elim (λ e. rw e (sym (none-there e))) (λ e. rw e) (cases (eqb v vm && eqb g gpa))
     where
       absent : (eqb v vm && eqb g gpa) ≡ true → isSome (mapSeen (r .walker) v g) ≡ false
@@ -138,7 +142,8 @@ module _ (side : Side) (t : Tables) (memory : List ℕ) (r : Route) where
               (λ c u q c′ u′ q′. refl));
         }
 
-    pub map-run : CacheGood (r .walker) (r .cache) → HardwareRun (mapCalls side r vm gpa (entryOf page access generation)) (shown side t memory r) (shown side t memory (mapRoute r vm gpa page access generation))
+    pub map-run : CacheGood (r .walker) (r .cache) →
+        HardwareRun (mapCalls side r vm gpa (entryOf page access generation)) (shown side t memory r) (shown side t memory (mapRoute r vm gpa page access generation))
     map-run good =
         ⊎-elim (λ y. rw y (go (unmap-step vm gpa g) (go reach-again (stop (same-hardware _))))) (λ f. rw f (go (reach-new good f) (stop (same-hardware _)))) (cases (isFound (find keyOf (r .walker) (key vm gpa))))
 
@@ -154,7 +159,8 @@ module _ (side : Side) (s : State) (valid : ValidTables (s .tables)) where
   below-pages : (page : ℕ) → page < s .tables .setup .pages → page < PAGES
   below-pages page h = omega (arith, valid .setup .most-pages)
 
-  map-software : (vm gpa page access generation : ℕ) → MapAllPassed side (s .tables .known) (s .tables .setup .pages) (s .tables .sets) (s .tables .pairs) (route side (s .tables) .map) vm gpa page access generation →
+  map-software : (vm gpa page access generation : ℕ) →
+      MapAllPassed side (s .tables .known) (s .tables .setup .pages) (s .tables .sets) (s .tables .pairs) (route side (s .tables) .map) vm gpa page access generation →
       MapStep side vm gpa (entryOf page access generation) (softwareView (s .tables)) (softwareView (withRoute side (s .tables) (mapRoute (route side (s .tables)) vm gpa page access generation)))
   map-software vm gpa page access generation a =
       let r = route side (s .tables) in
@@ -168,7 +174,8 @@ module _ (side : Side) (s : State) (valid : ValidTables (s .tables)) where
             (put-seen (r .map) vm gpa page access generation (a .spot) (f .vm-ok) (f .guest-ok) (below-pages page (f .page-ok)) (f .access-ok) (f .generation-ok) (a .placed)));
       }
 
-  map-both : (vm gpa page access generation : ℕ) → MapAllPassed side (s .tables .known) (s .tables .setup .pages) (s .tables .sets) (s .tables .pairs) (route side (s .tables) .map) vm gpa page access generation →
+  map-both : (vm gpa page access generation : ℕ) →
+      MapAllPassed side (s .tables .known) (s .tables .setup .pages) (s .tables .sets) (s .tables .pairs) (route side (s .tables) .map) vm gpa page access generation →
       Follows s (record { tables = withRoute side (s .tables) (mapRoute (route side (s .tables)) vm gpa page access generation); memory = s .memory }) (map side vm gpa (entryOf page access generation) ∷ []) (mapCalls side (route side (s .tables)) vm gpa (entryOf page access generation))
   map-both vm gpa page access generation a =
       let f = a .early in
@@ -189,7 +196,8 @@ module _ (side : Side) (s : State) (valid : ValidTables (s .tables)) where
         next = rw (map-of side (s .tables)) (route-software side (s .tables) (unmapRoute r vm gpa) _ (erase-seen (r .map) vm gpa g));
       }
 
-  unmap-both : (vm gpa : ℕ) {dropped word : ℕ} → unmapAnswer (s .tables .known) (route side (s .tables) .map) (route side (s .tables) .cache) vm gpa ≡ Accepted dropped word →
+  unmap-both : (vm gpa : ℕ) {dropped word : ℕ} →
+      unmapAnswer (s .tables .known) (route side (s .tables) .map) (route side (s .tables) .cache) vm gpa ≡ Accepted dropped word →
       Follows s (record { tables = withRoute side (s .tables) (unmapRoute (route side (s .tables)) vm gpa); memory = s .memory }) (unmap side vm gpa ∷ []) (unmap-invalidate side vm gpa ∷ [])
   unfolding unmapAnswer
   unmap-both vm gpa e =

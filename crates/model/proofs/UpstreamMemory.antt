@@ -75,7 +75,8 @@ pub word-backed : (memory : List ℕ) (address : ℕ) → address < length memor
 unfolding wordSeen
 word-backed memory address h = rw (lt-ltb address (length memory) h)
 
-pub write-seen : (memory : List ℕ) (at value : ℕ) → at < length memory → (address : ℕ) → wordSeen (set memory at value) address ≡ answerAt (wordSeen memory) at (some value) address
+pub write-seen : (memory : List ℕ) (at value : ℕ) → at < length memory → (address : ℕ) →
+    wordSeen (set memory at value) address ≡ answerAt (wordSeen memory) at (some value) address
 unfolding wordSeen
 write-seen memory at value h address =
     rw (length-set memory at value)

@@ -74,14 +74,16 @@ module _ (ws : List ℕ) (i : ℕ) (once : Distinct keyOf ws) (h : i < length ws
 -- ---- what a cache shows after an edit
 -- with one key's slot replaced
 at-slot : (cache cache′ : List ℕ) (port vm gpa : ℕ) (answer : Option S2Entry) → vm < 256 → gpa < GUEST-PAGES → seen (lookup keyOf cache′ (slotKey port vm gpa)) ≡ answer →
-    ((other : ℕ) → 0 < other → (slotKey port vm gpa ≡ other → ⊥) → lookup keyOf cache′ other ≡ lookup keyOf cache other) → SameTlb (tlbSeen cache′) (tlbAt (tlbSeen cache) port vm gpa answer)
+    ((other : ℕ) → 0 < other → (slotKey port vm gpa ≡ other → ⊥) → lookup keyOf cache′ other ≡ lookup keyOf cache other) →
+    SameTlb (tlbSeen cache′) (tlbAt (tlbSeen cache) port vm gpa answer)
 at-slot cache cache′ port vm gpa answer v g here there c u q c′ u′ q′ =
     rw (slot-key-test port vm gpa c u q v (omega arith) g q′)
     (⊎-elim (λ e. rw (eq-eqb (slotKey port vm gpa) (slotKey c u q) e) (rw (← e) here)) (λ n. rw (ne-eqb (slotKey port vm gpa) (slotKey c u q) n) (ap seen (there (slotKey c u q) (omega arith) n))) (equal (slotKey port vm gpa) (slotKey c u q)))
 
 module _ (walker cache : List ℕ) (good : CacheGood walker cache) where
   -- emptied
-  forget-seen : (i : ℕ) → i < length cache → (getD cache i 0 ≡ 0 → ⊥) → SameTlb (tlbSeen (set cache i 0)) (tlbAt (tlbSeen cache) (portOf (getD cache i 0)) (vmOf (getD cache i 0)) (guestOf (getD cache i 0)) none)
+  forget-seen : (i : ℕ) → i < length cache → (getD cache i 0 ≡ 0 → ⊥) →
+      SameTlb (tlbSeen (set cache i 0)) (tlbAt (tlbSeen cache) (portOf (getD cache i 0)) (vmOf (getD cache i 0)) (guestOf (getD cache i 0)) none)
   unfolding seen
   forget-seen i h n =
       let w = getD cache i 0 in
@@ -93,7 +95,8 @@ module _ (walker cache : List ℕ) (good : CacheGood walker cache) where
       (λ other p d. emptied-other cache i (good .once) h o other p (λ q. d (sym k ∙ q)))
 
 -- filled at a place that is the key's, or is empty where the key is nowhere
-fill-seen : (walker cache : List ℕ) (port vm gpa i : ℕ) → port < PORTS → vm < VMS → gpa < GUEST-PAGES → (lookup keyOf walker (key vm gpa) ≡ 0 → ⊥) → SlotGood walker (slotWord port vm gpa (entryOf (lookup keyOf walker (key vm gpa)))) → IsPlace keyOf cache (slotKey port vm gpa) i →
+fill-seen : (walker cache : List ℕ) (port vm gpa i : ℕ) → port < PORTS → vm < VMS → gpa < GUEST-PAGES → (lookup keyOf walker (key vm gpa) ≡ 0 → ⊥) →
+    SlotGood walker (slotWord port vm gpa (entryOf (lookup keyOf walker (key vm gpa)))) → IsPlace keyOf cache (slotKey port vm gpa) i →
     SameTlb (tlbSeen (set cache i (slotWord port vm gpa (entryOf (lookup keyOf walker (key vm gpa)))))) (tlbAt (tlbSeen cache) port vm gpa (mapSeen walker vm gpa))
 fill-seen walker cache port vm gpa i c v g walks made at =
     let u = lookup keyOf walker (key vm gpa) in
@@ -107,7 +110,8 @@ fill-seen walker cache port vm gpa i c v g walks made at =
 
 -- ---- steps of a side's cache
 module _ (side : Side) (t : Tables) (memory : List ℕ) (r : Route) where
-  forget-step : (cache : List ℕ) (hand w : ℕ) → SameTlb (tlbSeen cache) (tlbAt (tlbSeen (r .cache)) (portOf w) (vmOf w) (guestOf w) none) → HardwareStep (forgetCall side w) (shown side t memory r) (shown side t memory (withCache r cache hand))
+  forget-step : (cache : List ℕ) (hand w : ℕ) → SameTlb (tlbSeen cache) (tlbAt (tlbSeen (r .cache)) (portOf w) (vmOf w) (guestOf w) none) →
+      HardwareStep (forgetCall side w) (shown side t memory r) (shown side t memory (withCache r cache hand))
   forget-step cache hand w e =
       rw (walk-of side t memory r, tlb-of side t memory r)
       (route-hardware side t memory r (withCache r cache hand) _ _ refl (λ vm gpa v g. refl) e)
@@ -116,7 +120,8 @@ active-is : (ports : List ℕ) (port : ℕ) → vmOn ports port < VMS → active
 unfolding activeSeen
 active-is ports port v = rw (lt-ltb (vmOn ports port) VMS v)
 
-fill-step : (side : Side) (t : Tables) (memory : List ℕ) (r : Route) (cache : List ℕ) (hand port gpa : ℕ) → vmOn (r .ports) port < VMS → (lookup keyOf (r .walker) (key (vmOn (r .ports) port) gpa) ≡ 0 → ⊥) →
+fill-step : (side : Side) (t : Tables) (memory : List ℕ) (r : Route) (cache : List ℕ) (hand port gpa : ℕ) → vmOn (r .ports) port < VMS →
+    (lookup keyOf (r .walker) (key (vmOn (r .ports) port) gpa) ≡ 0 → ⊥) →
     SameTlb (tlbSeen cache) (tlbAt (tlbSeen (r .cache)) port (vmOn (r .ports) port) gpa (mapSeen (r .walker) (vmOn (r .ports) port) gpa)) → HardwareStep (fillCall side port (vmOn (r .ports) port) gpa) (shown side t memory r) (shown side t memory (withCache r cache hand))
 fill-step Cpu t memory r cache hand port gpa v n e =
     record {
@@ -190,7 +195,8 @@ empty-run side t memory r slot good h = ⊎-elim none some (equal (getD (r .cach
         (hardware-once (forget-step side t memory r (set (r .cache) slot 0) (r .hand) _ (forget-seen (r .walker) (r .cache) good slot h n)))
 
 -- ---- a CPU switched
-active-set : (ports : List ℕ) (port n : ℕ) → port < length ports → (cpu : ℕ) → activeSeen (set ports port n) cpu ≡ answerAt (activeSeen ports) port (if isIdle n then none else some n) cpu
+active-set : (ports : List ℕ) (port n : ℕ) → port < length ports → (cpu : ℕ) →
+    activeSeen (set ports port n) cpu ≡ answerAt (activeSeen ports) port (if isIdle n then none else some n) cpu
 unfolding activeSeen
 active-set ports port n h cpu =
     ⊎-elim (λ q. rw (eq-eqb cpu port q) (rw (q, getD-set-same ports port n IDLE h))) (λ d. rw (ne-eqb cpu port d, getD-set-other ports port cpu n IDLE d)) (equal cpu port)
@@ -224,7 +230,8 @@ unfolding emptyAnswer
 slot-below slot e = ltb-true slot SLOTS (not-false _ (past (not (isSlot slot)) _ _ _ e .0))
 
 -- a run of hardware steps that leaves the side's maps and ports
-cache-only : (side : Side) (s : State) (cache : List ℕ) (hand : ℕ) (calls : List HardwareCall) → HardwareRun calls (shown side (s .tables) (s .memory) (route side (s .tables))) (shown side (s .tables) (s .memory) (withCache (route side (s .tables)) cache hand)) →
+cache-only : (side : Side) (s : State) (cache : List ℕ) (hand : ℕ) (calls : List HardwareCall) →
+    HardwareRun calls (shown side (s .tables) (s .memory) (route side (s .tables))) (shown side (s .tables) (s .memory) (withCache (route side (s .tables)) cache hand)) →
     Follows s (record { tables = withRoute side (s .tables) (withCache (route side (s .tables)) cache hand); memory = s .memory }) [] calls
 cache-only Cpu s cache hand calls run = record { software = stop (same-software _); hardware = run }
 cache-only Dma s cache hand calls run = record { software = stop (same-software _); hardware = run }
@@ -257,6 +264,7 @@ module _ (side : Side) (s : State) (valid : ValidTables (s .tables)) where
       cache-only side s _ _ _ (empty-run side (s .tables) (s .memory) r slot (route-of side (s .tables) valid .cache) (rw (lengths-of side (s .tables) valid .cache) (slot-below slot e))))
 
 -- a barrier, of either kind
-pub barrier-follows : (s : State) (call : HardwareCall) → HardwareStep call (hardwareView s) (hardwareView s) → FollowsControl s (barrierControl (s .tables)) [] (call ∷ [])
+pub barrier-follows : (s : State) (call : HardwareCall) → HardwareStep call (hardwareView s) (hardwareView s) →
+    FollowsControl s (barrierControl (s .tables)) [] (call ∷ [])
 unfolding decided apply clearedPages
 barrier-follows s call same = record { software = stop (same-software _); hardware = hardware-once same }

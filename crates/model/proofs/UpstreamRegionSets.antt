@@ -30,13 +30,15 @@ span-outside : (region : Region) (page : ℕ) → pagesOf region page ≡ false 
 span-outside region page f l = ⊎-elim (λ h. absurd (true≢false (sym (span-in (region .page .0) (region .count) page l h) ∙ f))) (λ h. h) (below-or page (region .page .0 + region .count))
 
 module _ (side : Side) (region : Region) (sets sets′ : List ℕ) where
-  pub claims-given : Edited side (region .vm .0) true (region .page .0) (region .count) sets sets′ → (page : ℕ) → page < PAGES → claims side sets′ (region .vm .0) page ≡ withPages (claims side sets (region .vm .0)) region page
+  pub claims-given : Edited side (region .vm .0) true (region .page .0) (region .count) sets sets′ → (page : ℕ) → page < PAGES →
+      claims side sets′ (region .vm .0) page ≡ withPages (claims side sets (region .vm .0)) region page
   claims-given r page h =
       ⊎-elim (λ t. rw t (let q = in-span (region .page .0) (region .count) page t in r .inside page (q .0) (q .1)))
       (λ f. rw f (r .outside side (region .vm .0) page h (λ a b. span-outside region page f)))
       (cases (pagesOf region page))
 
-  pub claims-taken : Edited side (region .vm .0) false (region .page .0) (region .count) sets sets′ → (page : ℕ) → page < PAGES → claims side sets′ (region .vm .0) page ≡ withoutPages (claims side sets (region .vm .0)) region page
+  pub claims-taken : Edited side (region .vm .0) false (region .page .0) (region .count) sets sets′ → (page : ℕ) → page < PAGES →
+      claims side sets′ (region .vm .0) page ≡ withoutPages (claims side sets (region .vm .0)) region page
   claims-taken r page h =
       ⊎-elim (λ t. rw t (let q = in-span (region .page .0) (region .count) page t in r .inside page (q .0) (q .1)))
       (λ f. rw f (r .outside side (region .vm .0) page h (λ a b. span-outside region page f)))
@@ -44,7 +46,8 @@ module _ (side : Side) (region : Region) (sets sets′ : List ℕ) where
 
 -- ---- the pool: a CPU region's pages leave it and come back
 module _ (pages base count known : ℕ) (region : Region) (v : region .vm .0 < VMS) (fits : region .page .0 + region .count ≤ pages) (sets sets′ : List ℕ) (g : PagesGood pages base count known sets) (g′ : PagesGood pages base count known sets′) where
-  pub pool-given : Edited Cpu (region .vm .0) true (region .page .0) (region .count) sets sets′ → (page : ℕ) → page < PAGES → inPool sets′ page ≡ withoutPages (inPool sets) region page
+  pub pool-given : Edited Cpu (region .vm .0) true (region .page .0) (region .count) sets sets′ → (page : ℕ) → page < PAGES →
+      inPool sets′ page ≡ withoutPages (inPool sets) region page
   pool-given r page h = ⊎-elim mine (λ f. rw f (r .pool page h (span-outside region page f))) (cases (pagesOf region page))
     where
       mine : pagesOf region page ≡ true → inPool sets′ page ≡ withoutPages (inPool sets) region page
@@ -52,7 +55,8 @@ module _ (pages base count known : ℕ) (region : Region) (v : region .vm .0 < V
           let (l, b) = in-span (region .page .0) (region .count) page t in
           rw t (not-so _ (λ e. let q = g′ .one-home poolRow (cpuRow (region .vm .0)) page pool (cpu (region .vm .0) v) (omega arith) e (r .inside page l b) in omega arith))
 
-  pub pool-taken : ((page : ℕ) → pagesOf region page ≡ true → owns sets (region .vm .0) page ≡ true) → Edited Cpu (region .vm .0) false (region .page .0) (region .count) sets sets′ → (page : ℕ) → page < PAGES → inPool sets′ page ≡ withPages (inPool sets) region page
+  pub pool-taken : ((page : ℕ) → pagesOf region page ≡ true → owns sets (region .vm .0) page ≡ true) →
+      Edited Cpu (region .vm .0) false (region .page .0) (region .count) sets sets′ → (page : ℕ) → page < PAGES → inPool sets′ page ≡ withPages (inPool sets) region page
   pool-taken held r page h = ⊎-elim mine (λ f. rw f (r .pool page h (span-outside region page f))) (cases (pagesOf region page))
     where
       -- its new home is neither the shared span nor a VM's
@@ -102,7 +106,8 @@ sets-of Dma t = refl
 
 module _ (t : Tables) (r : Route) (sets : List ℕ) (vm : ℕ) (k : knows (t .known) vm ≡ true) (free edit : ℕ → Bool) (map : S2Map) (m : SameS2Map (mapSeen (r .map)) map)
     (span : (page : ℕ) → page < PAGES → inShared sets page ≡ inShared (t .sets) page) where
-  pub region-software : (side : Side) → ((page : ℕ) → page < PAGES → claims side sets vm page ≡ edit page) → ((s : Side) (other page : ℕ) → page < PAGES → (s ≡ side → other ≡ vm → ⊥) → claims s sets other page ≡ claims s (t .sets) other page) →
+  pub region-software : (side : Side) → ((page : ℕ) → page < PAGES → claims side sets vm page ≡ edit page) →
+      ((s : Side) (other page : ℕ) → page < PAGES → (s ≡ side → other ≡ vm → ⊥) → claims s sets other page ≡ claims s (t .sets) other page) →
       ((page : ℕ) → page < PAGES → inPool sets page ≡ poolNow side (inPool (t .sets)) free page) →
       SameSoftware (softwareView (withSets (withRoute side t r) sets)) (withMapOf side (withSetsOf side (withPoolOf side (softwareView t) free) (withSet (record { vms = knows (t .known); pages = claims side (t .sets) }) vm edit)) map)
   region-software Cpu own others pooled =

@@ -59,7 +59,8 @@ goes : (region : Region) (w port vm gpa : ℕ) → OfKey w port vm gpa → fille
 goes region w port vm gpa o f =
     rw (eq-eqb (filledOf w) 1 f, o .vm-is, o .guest-is) (and-assoc (eqb vm (region .vm .0)) (leb (region .guest .0) gpa) (ltb gpa (region .guest .0 + region .count)))
 
-wiped-word : (region : Region) (w vm gpa : ℕ) → ((w ≡ 0 → ⊥) → inRegion region w ≡ hasEntry region vm gpa) → seen (cleared (inRegion region) w) ≡ (if hasEntry region vm gpa then none else seen w)
+wiped-word : (region : Region) (w vm gpa : ℕ) → ((w ≡ 0 → ⊥) → inRegion region w ≡ hasEntry region vm gpa) →
+    seen (cleared (inRegion region) w) ≡ (if hasEntry region vm gpa then none else seen w)
 unfolding seen
 wiped-word region w vm gpa same = ⊎-elim empty filled (equal w 0)
   where
@@ -72,14 +73,16 @@ wiped-word region w vm gpa same = ⊎-elim empty filled (equal w 0)
     filled : (w ≡ 0 → ⊥) → goal
     filled n = rw (same n) (⊎-elim (λ t. rw t) (λ f. rw f) (cases (hasEntry region vm gpa)))
 
-pub map-wiped : (region : Region) (table : List ℕ) (vm gpa : ℕ) → Distinct keyOf table → vm < VMS → gpa < GUEST-PAGES → mapSeen (removeTable table region) vm gpa ≡ (if hasEntry region vm gpa then none else mapSeen table vm gpa)
+pub map-wiped : (region : Region) (table : List ℕ) (vm gpa : ℕ) → Distinct keyOf table → vm < VMS → gpa < GUEST-PAGES →
+    mapSeen (removeTable table region) vm gpa ≡ (if hasEntry region vm gpa then none else mapSeen table vm gpa)
 unfolding removeTable
 map-wiped region table vm gpa once v g =
     ap seen (lookup-wipe keyOf refl (inRegion region) table (key vm gpa) (omega arith) once)
     ∙ wiped-word region (lookup keyOf table (key vm gpa)) vm gpa
     (λ n. let e = lookup-has keyOf table (key vm gpa) n .1 in goes region _ 0 vm gpa (of-key _ vm gpa v g e) (omega arith))
 
-pub tlb-wiped : (region : Region) (cache : List ℕ) (port vm gpa : ℕ) → Distinct keyOf cache → vm < VMS → gpa < GUEST-PAGES → tlbSeen (removeTable cache region) port vm gpa ≡ (if hasEntry region vm gpa then none else tlbSeen cache port vm gpa)
+pub tlb-wiped : (region : Region) (cache : List ℕ) (port vm gpa : ℕ) → Distinct keyOf cache → vm < VMS → gpa < GUEST-PAGES →
+    tlbSeen (removeTable cache region) port vm gpa ≡ (if hasEntry region vm gpa then none else tlbSeen cache port vm gpa)
 unfolding removeTable
 tlb-wiped region cache port vm gpa once v g =
     ap seen (lookup-wipe keyOf refl (inRegion region) cache (slotKey port vm gpa) (omega arith) once)
@@ -191,7 +194,8 @@ span-more base k n = ⊎-elim (λ q. rw (eq-eqb n (base + k) q) (span-in base (s
         less : inSpan base k n ≡ false → inSpan base (suc k) n ≡ inSpan base k n
         less f = rw f (not-so _ (λ t. let (l, h) = in-span base (suc k) n t in true≢false (sym (span-in base k n l (omega arith)) ∙ f)))
 
-entry-more : (region : Region) (k vm gpa : ℕ) → hasEntry (upTo region (suc k)) vm gpa ≡ ((eqb vm (region .vm .0) && eqb gpa (guestIn region k)) || hasEntry (upTo region k) vm gpa)
+entry-more : (region : Region) (k vm gpa : ℕ) →
+    hasEntry (upTo region (suc k)) vm gpa ≡ ((eqb vm (region .vm .0) && eqb gpa (guestIn region k)) || hasEntry (upTo region k) vm gpa)
 entry-more region k vm gpa = rw (span-more (region .guest .0) k gpa) (and-or-distrib-left (eqb vm (region .vm .0)) _ _)
 
 none-either : {A : Type 0} (a b : Bool) (x : Option A) → (if a || b then none else x) ≡ (if a then none else if b then none else x)
@@ -200,12 +204,14 @@ none-either false b x = refl
 
 -- one page more is one key unmapped, in a walker and in a cache
 module _ (region : Region) (k vm gpa : ℕ) (v : vm < VMS) (g : gpa < GUEST-PAGES) where
-  pub map-wiped-more : (table : List ℕ) → Distinct keyOf table → mapSeen (removeTable table (upTo region (suc k))) vm gpa ≡ mapAt (mapSeen (removeTable table (upTo region k))) (region .vm .0) (guestIn region k) none vm gpa
+  pub map-wiped-more : (table : List ℕ) → Distinct keyOf table →
+      mapSeen (removeTable table (upTo region (suc k))) vm gpa ≡ mapAt (mapSeen (removeTable table (upTo region k))) (region .vm .0) (guestIn region k) none vm gpa
   map-wiped-more table once =
       map-wiped (upTo region (suc k)) table vm gpa once v g
       ∙ rw (entry-more region k vm gpa, map-wiped (upTo region k) table vm gpa once v g) (none-either (eqb vm (region .vm .0) && eqb gpa (guestIn region k)) _ _)
 
-  pub tlb-wiped-more : (cache : List ℕ) (port : ℕ) → Distinct keyOf cache → tlbSeen (removeTable cache (upTo region (suc k))) port vm gpa ≡ flushed (tlbSeen (removeTable cache (upTo region k))) (region .vm .0) (guestIn region k) port vm gpa
+  pub tlb-wiped-more : (cache : List ℕ) (port : ℕ) → Distinct keyOf cache →
+      tlbSeen (removeTable cache (upTo region (suc k))) port vm gpa ≡ flushed (tlbSeen (removeTable cache (upTo region k))) (region .vm .0) (guestIn region k) port vm gpa
   tlb-wiped-more cache port once =
       tlb-wiped (upTo region (suc k)) cache port vm gpa once v g
       ∙ rw (entry-more region k vm gpa, tlb-wiped (upTo region k) cache port vm gpa once v g) (none-either (eqb vm (region .vm .0) && eqb gpa (guestIn region k)) _ _)

@@ -45,7 +45,8 @@ use Rattle.model.proofs.UpstreamRegionViews.{span-in, page-place, entry
 use Rattle.model.proofs.UpstreamRegionSets.{claims-given, claims-taken, pool-given, pool-taken, pool-left, pool-kept, poolNow, sets-of, region-software}
 
 -- ---- the unit
-insert-unit : (side : Side) (known pages : ℕ) (units : List Unit) (n : ℕ) (sets map : List ℕ) (region : Region) {dropped word : ℕ} → insertAnswer side known pages units n sets map region ≡ Accepted dropped word → assignable units n side region ≡ true
+insert-unit : (side : Side) (known pages : ℕ) (units : List Unit) (n : ℕ) (sets map : List ℕ) (region : Region) {dropped word : ℕ} →
+    insertAnswer side known pages units n sets map region ≡ Accepted dropped word → assignable units n side region ≡ true
 unfolding insertAnswer
 insert-unit side known pages units n sets map region e =
     let (d, w, early, a) = then-passed (regionEarly known pages region) _ e in
@@ -67,7 +68,8 @@ module _ (t : Tables) (valid : ValidTables t) (region : Region) where
       map-found table vm gpa ∙ rw (a, b) (absent k h)
 
   -- no other VM claims a page of a DMA region on either side, and it is not in the shared span
-  unclaimed-dma : NoneFails (claimed Dma (t .sets) region) region → (page : ℕ) → pagesOf region page ≡ true → (claimedElsewhere Dma (t .sets) (region .vm .0) page ≡ false) × (claimedElsewhere Cpu (t .sets) (region .vm .0) page ≡ false) × (inShared (t .sets) page ≡ false)
+  unclaimed-dma : NoneFails (claimed Dma (t .sets) region) region → (page : ℕ) → pagesOf region page ≡ true →
+      (claimedElsewhere Dma (t .sets) (region .vm .0) page ≡ false) × (claimedElsewhere Cpu (t .sets) (region .vm .0) page ≡ false) × (inShared (t .sets) page ≡ false)
   unclaimed-dma passes page e =
       let (k, h, q) = page-place region page e in
       let dma = claimedElsewhere Dma (t .sets) (region .vm .0) page in
@@ -76,7 +78,8 @@ module _ (t : Tables) (valid : ValidTables t) (region : Region) where
       let (a, b) = neither dma cpu others in
       (a, b, apart)
 
-  insert-enabled : (side : Side) → InsertPassed side (t .known) (t .setup .pages) (t .sets) (route side t .map) region → (assign : Region → Bool) → assign region ≡ true → InsertEnabled assign side region (softwareView t)
+  insert-enabled : (side : Side) → InsertPassed side (t .known) (t .setup .pages) (t .sets) (route side t .map) region → (assign : Region → Bool) → assign region ≡ true →
+      InsertEnabled assign side region (softwareView t)
   insert-enabled Cpu p assign unit =
       let free : (page : ℕ) → pagesOf region page ≡ true → inPool (t .sets) page ≡ true = each-page _ (λ k h. not-false _ (p .free k h)) in
       record {
@@ -165,14 +168,16 @@ module _ (side : Side) (t : Tables) (memory : List ℕ) (r : Route) (known pages
       let h : k < region .count = omega arith in
       go (reach-one k ms ws h a) (insert-from (suc k) n (omega arith) (putIn k ms) (putIn k ws) (ready-next k ws h a))
 
-  pub insert-run : region .count ≤ freeEntries (r .walker) → NoneFails (present (r .walker) region) region → HardwareRun (insertCalls side region 0 (region .count)) (shown side t memory r) (shown side t memory (insertRoute r region))
+  pub insert-run : region .count ≤ freeEntries (r .walker) → NoneFails (present (r .walker) region) region →
+      HardwareRun (insertCalls side region 0 (region .count)) (shown side t memory r) (shown side t memory (insertRoute r region))
   unfolding insertTable
   insert-run room absent =
       insert-from 0 (region .count) (omega arith) (r .map) (r .walker)
       (record { room = omega arith; absent = λ j l h. eqb-true _ 0 (not-false _ (sym (found-looked keyOf refl (r .walker) (keyIn region j) (omega arith)) ∙ absent j h)) })
 
 -- ---- remove: what upstream asks for
-remove-unit : (side : Side) (known pages : ℕ) (units : List Unit) (n : ℕ) (sets pairs map cache : List ℕ) (region : Region) {dropped word : ℕ} → removeAnswer side known pages units n sets pairs map cache region ≡ Accepted dropped word → assignable units n side region ≡ true
+remove-unit : (side : Side) (known pages : ℕ) (units : List Unit) (n : ℕ) (sets pairs map cache : List ℕ) (region : Region) {dropped word : ℕ} →
+    removeAnswer side known pages units n sets pairs map cache region ≡ Accepted dropped word → assignable units n side region ≡ true
 unfolding removeAnswer
 remove-unit side known pages units n sets pairs map cache region e =
     let (d, w, early, a) = then-passed (regionEarly known pages region) _ e in
@@ -180,7 +185,8 @@ remove-unit side known pages units n sets pairs map cache region e =
 
 module _ (t : Tables) (valid : ValidTables t) (region : Region) (early : RegionPassed (t .known) (t .setup .pages) region) where
   -- each key has the region's entry
-  has-entries : (table : List ℕ) → NoneFails (differs table region) region → (vm gpa : ℕ) → isSome (entriesOf region vm gpa) ≡ true → mapSeen table vm gpa ≡ entriesOf region vm gpa
+  has-entries : (table : List ℕ) → NoneFails (differs table region) region → (vm gpa : ℕ) → isSome (entriesOf region vm gpa) ≡ true →
+      mapSeen table vm gpa ≡ entriesOf region vm gpa
   has-entries table same vm gpa e = let (k, h, a, b) = key-place region vm gpa (sym (entry-some region vm gpa) ∙ e) in at k h a b
     where
       at : (k : ℕ) → k < region .count → vm ≡ region .vm .0 → gpa ≡ guestIn region k → mapSeen table vm gpa ≡ entriesOf region vm gpa
@@ -189,7 +195,8 @@ module _ (t : Tables) (valid : ValidTables t) (region : Region) (early : RegionP
           rw (a, b) (ap seen f ∙ entry-in (t .known) (t .setup .pages) region early (valid .setup .most-pages) k h)
 
   -- no other key targets one of its pages
-  no-others : (side : Side) (table : List ℕ) → MapGood side (t .setup .pages) (t .known) (t .sets) (t .pairs) table → ((k : ℕ) → k < region .count → targeted (butKey (keyIn region k)) table (pageIn region k) ≡ false) →
+  no-others : (side : Side) (table : List ℕ) → MapGood side (t .setup .pages) (t .known) (t .sets) (t .pairs) table →
+      ((k : ℕ) → k < region .count → targeted (butKey (keyIn region k)) table (pageIn region k) ≡ false) →
       (vm gpa : ℕ) (e : S2Entry) → vm < VMS → gpa < GUEST-PAGES → mapSeen table vm gpa ≡ some e → isSome (entriesOf region vm gpa) ≡ false → pagesOf region (e .page) ≡ false
   no-others side table good unused vm gpa e v g q f = not-so _ (λ x. let (k, h, i) = page-place region (e .page) x in clash k h i)
     where
@@ -204,10 +211,12 @@ module _ (t : Tables) (valid : ValidTables t) (region : Region) (early : RegionP
           true≢false (sym (rw (a, b) (rw (eq-eqb (region .vm .0) (region .vm .0) refl) (span-in (region .guest .0) (region .count) (guestIn region k) (omega arith) (omega arith)))) ∙ sym (entry-some region vm gpa) ∙ f) in
           not-targeted (butKey (keyIn region k)) table (pageIn region k) w (unused k h) there (rw (ne-eqb (keyOf w) (keyIn region k) differs)) (good .each w there .filled) (ap (λ (x : S2Entry). x .page) same ∙ sym i)
 
-  owned-pages : (side : Side) → NoneFails (notHeld side (t .sets) region) region → (page : ℕ) → pagesOf region page ≡ true → claims side (t .sets) (region .vm .0) page ≡ true
+  owned-pages : (side : Side) → NoneFails (notHeld side (t .sets) region) region → (page : ℕ) → pagesOf region page ≡ true →
+      claims side (t .sets) (region .vm .0) page ≡ true
   owned-pages side held page e = let (k, h, q) = page-place region page e in rw q at (not-false (claims side (t .sets) (region .vm .0) (pageIn region k)) (held k h))
 
-  remove-enabled : (side : Side) → RemovePassed side (t .known) (t .setup .pages) (t .sets) (t .pairs) (route side t .map) region → (assign : Region → Bool) → assign region ≡ true → RemoveEnabled assign side region (softwareView t)
+  remove-enabled : (side : Side) → RemovePassed side (t .known) (t .setup .pages) (t .sets) (t .pairs) (route side t .map) region → (assign : Region → Bool) →
+      assign region ≡ true → RemoveEnabled assign side region (softwareView t)
   remove-enabled Cpu p assign unit =
       let split : (k : ℕ) → k < region .count → (targeted (butKey (keyIn region k)) (t .cpu .map) (pageIn region k) ≡ false) × (edgeOn (t .pairs) (pageIn region k) ≡ false) = λ k h. neither _ _ (p .unused k h) in
       record {
@@ -220,7 +229,8 @@ module _ (t : Tables) (valid : ValidTables t) (region : Region) (early : RegionP
         no-edge = λ left right page l r h e. not-so _ (λ x. let (k, b, q) = page-place region page x in edge-free left right page k l r h e q (split k b .1));
       }
     where
-      edge-free : (left right page k : ℕ) → left < VMS → right < VMS → page < PAGES → paired (t .pairs) left right page ≡ true → pageIn region k ≡ page → edgeOn (t .pairs) (pageIn region k) ≡ false → ⊥
+      edge-free : (left right page k : ℕ) → left < VMS → right < VMS → page < PAGES → paired (t .pairs) left right page ≡ true → pageIn region k ≡ page →
+          edgeOn (t .pairs) (pageIn region k) ≡ false → ⊥
       edge-free left right page k l r h e q f =
           let (w, i, good, same) = edge-pair t valid left right page l r h e in
           let on : pageOf w ≡ page = ⊎-elim (λ x. x .2) (λ x. x .2) same in
@@ -241,13 +251,15 @@ module _ (t : Tables) (valid : ValidTables t) (region : Region) (early : RegionP
   remove-turned side held =
       remove-sets (t .setup .pages) (t .setup .sharedBase) (t .setup .sharedCount) (t .known) (t .sets) region (valid .lengths .sets) (valid .setup .most-pages) early (valid .pages) side held
 
-  remove-pool : (side : Side) → NoneFails (notHeld side (t .sets) region) region → (page : ℕ) → page < PAGES → inPool (removeSets side (t .sets) region) page ≡ poolNow side (inPool (t .sets)) (withPages (inPool (t .sets)) region) page
+  remove-pool : (side : Side) → NoneFails (notHeld side (t .sets) region) region → (page : ℕ) → page < PAGES →
+      inPool (removeSets side (t .sets) region) page ≡ poolNow side (inPool (t .sets)) (withPages (inPool (t .sets)) region) page
   remove-pool Cpu held =
       let r = remove-turned Cpu held in
       pool-taken (t .setup .pages) (t .setup .sharedBase) (t .setup .sharedCount) (t .known) region (early .vm-ok) (early .page-ok) (t .sets) _ (valid .pages) (r .good) (owned-pages Cpu held) (r .edited)
   remove-pool Dma held = pool-kept region (omega (arith, early .page-ok, valid .setup .most-pages)) (t .sets)
 
-  remove-step : (side : Side) (assign : Region → Bool) → assign region ≡ true → RemovePassed side (t .known) (t .setup .pages) (t .sets) (t .pairs) (route side t .map) region →
+  remove-step : (side : Side) (assign : Region → Bool) → assign region ≡ true →
+      RemovePassed side (t .known) (t .setup .pages) (t .sets) (t .pairs) (route side t .map) region →
       RemoveRegionStep assign side region (softwareView t) (softwareView (withSets (withRoute side t (removeRoute (route side t) region)) (removeSets side (t .sets) region)))
   remove-step side assign unit p =
       let r = remove-turned side (p .held) .edited in
@@ -275,7 +287,8 @@ module _ (side : Side) (t : Tables) (memory : List ℕ) (r : Route) (region : Re
   remove-from k zero e calls h rest = let q : k ≡ region .count = omega arith in rw q rest
   remove-from k (suc n) e calls h rest = go (unmap-one k) (remove-from (suc k) n (omega arith) calls h rest)
 
-  pub remove-run : (calls : List HardwareCall) (h : HardwareView) → HardwareRun calls (shown side t memory (removeRoute r region)) h → HardwareRun (removeCalls side region 0 (region .count) ++ calls) (shown side t memory r) h
+  pub remove-run : (calls : List HardwareCall) (h : HardwareView) → HardwareRun calls (shown side t memory (removeRoute r region)) h →
+      HardwareRun (removeCalls side region 0 (region .count) ++ calls) (shown side t memory r) h
   remove-run calls h rest =
       rw (removed-none region (r .map), removed-none region (r .walker), removed-none region (r .cache)) at (remove-from 0 (region .count) (omega arith) calls h rest)
 

@@ -34,12 +34,14 @@ pub tlb-of : (side : Side) (t : Tables) (memory : List ℕ) (r : Route) → tlbO
 tlb-of Cpu t memory r = refl
 tlb-of Dma t memory r = refl
 
-pub may-target : (side : Side) (t : Tables) → ValidTables t → (vm page : ℕ) → knows (t .known) vm ≡ true → mayMap side (t .sets) (t .pairs) vm page ≡ true → MayTarget side (softwareView t) vm page
+pub may-target : (side : Side) (t : Tables) → ValidTables t → (vm page : ℕ) → knows (t .known) vm ≡ true → mayMap side (t .sets) (t .pairs) vm page ≡ true →
+    MayTarget side (softwareView t) vm page
 may-target Cpu t valid vm page k m = may-cpu t valid vm page k m
 may-target Dma t valid vm page k m = (k, may-dma t valid vm page m)
 
 -- the software map replaced, the walker and cache replaced
-pub route-software : (side : Side) (t : Tables) (r : Route) (map : S2Map) → SameS2Map (mapSeen (r .map)) map → SameSoftware (softwareView (withRoute side t r)) (withMapOf side (softwareView t) map)
+pub route-software : (side : Side) (t : Tables) (r : Route) (map : S2Map) → SameS2Map (mapSeen (r .map)) map →
+    SameSoftware (softwareView (withRoute side t r)) (withMapOf side (softwareView t) map)
 route-software Cpu t r map e =
     record {
       all-vms = λ vm v. refl;
@@ -63,7 +65,8 @@ route-software Dma t r map e =
       iommu-shared = λ page h. refl;
     }
 
-pub route-hardware : (side : Side) (t : Tables) (memory : List ℕ) (r r′ : Route) (map : S2Map) (tlb : Tlb) → r′ .ports ≡ r .ports → SameS2Map (mapSeen (r′ .walker)) map → SameTlb (tlbSeen (r′ .cache)) tlb →
+pub route-hardware : (side : Side) (t : Tables) (memory : List ℕ) (r r′ : Route) (map : S2Map) (tlb : Tlb) → r′ .ports ≡ r .ports → SameS2Map (mapSeen (r′ .walker)) map →
+    SameTlb (tlbSeen (r′ .cache)) tlb →
     SameHardware (shown side t memory r′) (withWalk side (shown side t memory r) map tlb)
 route-hardware Cpu t memory r r′ map tlb p e f =
     record {

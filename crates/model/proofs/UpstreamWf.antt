@@ -32,7 +32,8 @@ module _ (t : Tables) (valid : ValidTables t) where
       ⊎-elim (λ l. ltb-true page _ l) (λ f. absurd (true≢false (sym e ∙ valid .pages .inside row page r h (ltb-false page _ f)))) (cases (ltb page (t .setup .pages)))
 
   -- in one home a page is in no other
-  elsewhere : (row row′ page : ℕ) → Home row → Home row′ → row < SETS → page < PAGES → (row ≡ row′ → ⊥) → holds (t .sets) row page ≡ true → holds (t .sets) row′ page ≡ false
+  elsewhere : (row row′ page : ℕ) → Home row → Home row′ → row < SETS → page < PAGES → (row ≡ row′ → ⊥) → holds (t .sets) row page ≡ true →
+      holds (t .sets) row′ page ≡ false
   elsewhere row row′ page a b r h n e = not-so _ (λ e′. n (valid .pages .one-home row row′ page a b (held-below row page r h e) e e′))
 
   pub cpu-apart : (vm vm′ page : ℕ) → vm < VMS → vm′ < VMS → page < PAGES → (vm ≡ vm′ → ⊥) → owns (t .sets) vm page ≡ true → owns (t .sets) vm′ page ≡ false
@@ -59,7 +60,8 @@ module _ (t : Tables) (valid : ValidTables t) where
       }
 
   -- what follows both where its VM owns a page and where it lies in the pool follows of every DMA page
-  dma-case : (vm page : ℕ) {P : Type 0} → vm < VMS → page < PAGES → holdsDma (t .sets) vm page ≡ true → (owns (t .sets) vm page ≡ true → P) → (inPool (t .sets) page ≡ true → P) → P
+  dma-case : (vm page : ℕ) {P : Type 0} → vm < VMS → page < PAGES → holdsDma (t .sets) vm page ≡ true → (owns (t .sets) vm page ≡ true → P) →
+      (inPool (t .sets) page ≡ true → P) → P
   dma-case vm page v h e own free = ⊎-elim own free (valid .pages .dma-home vm page v (held-below (dmaRow vm) page (omega arith) h e) e)
 
   iommu-ownership : IommuOwnershipWf (softwareView t)
@@ -77,7 +79,8 @@ module _ (t : Tables) (valid : ValidTables t) where
   known-below vm e = knows-below (t .known) vm (valid .known) e
 
   -- an edge is a pair that joins its ends, in one order or the other
-  pub edge-pair : (left right page : ℕ) → left < VMS → right < VMS → page < PAGES → paired (t .pairs) left right page ≡ true → (w : ℕ) × Has (t .pairs) w × PairGood (t .setup .pages) (t .known) (t .sets) w × SamePair (leftOf w) (rightOf w) (pageOf w) left right page
+  pub edge-pair : (left right page : ℕ) → left < VMS → right < VMS → page < PAGES → paired (t .pairs) left right page ≡ true →
+      (w : ℕ) × Has (t .pairs) w × PairGood (t .setup .pages) (t .known) (t .sets) w × SamePair (leftOf w) (rightOf w) (pageOf w) left right page
   edge-pair left right page l r h e =
       let (w, j) = paired-joins (t .pairs) left right page e in
       let g = valid .pairs .each w (j .there) in
@@ -117,7 +120,8 @@ module _ (t : Tables) (valid : ValidTables t) where
 
   -- ---- mappings
   -- what a side's map shows is an entry in it
-  pub entry-seen : (side : Side) (table : List ℕ) (vm gpa : ℕ) (e : S2Entry) → MapGood side (t .setup .pages) (t .known) (t .sets) (t .pairs) table → vm < VMS → gpa < GUEST-PAGES → mapSeen table vm gpa ≡ some e →
+  pub entry-seen : (side : Side) (table : List ℕ) (vm gpa : ℕ) (e : S2Entry) → MapGood side (t .setup .pages) (t .known) (t .sets) (t .pairs) table → vm < VMS →
+      gpa < GUEST-PAGES → mapSeen table vm gpa ≡ some e →
       (knows (t .known) vm ≡ true) × (mayMap side (t .sets) (t .pairs) vm (e .page) ≡ true)
   entry-seen side table vm gpa e g v l q =
       let w = lookup keyOf table (key vm gpa) in
@@ -162,7 +166,8 @@ module _ (t : Tables) (valid : ValidTables t) where
 
 -- ---- and the hardware's
 -- a slot that is filled shows what the walker shows
-pub slot-seen : (walker cache : List ℕ) → CacheGood walker cache → (port vm gpa : ℕ) → vm < VMS → gpa < GUEST-PAGES → isSome (tlbSeen cache port vm gpa) ≡ true → tlbSeen cache port vm gpa ≡ mapSeen walker vm gpa
+pub slot-seen : (walker cache : List ℕ) → CacheGood walker cache → (port vm gpa : ℕ) → vm < VMS → gpa < GUEST-PAGES → isSome (tlbSeen cache port vm gpa) ≡ true →
+    tlbSeen cache port vm gpa ≡ mapSeen walker vm gpa
 slot-seen walker cache good port vm gpa v l q =
     let w = lookup keyOf cache (slotKey port vm gpa) in
     let n : w ≡ 0 → ⊥ = eqb-false w 0 (not-true _ (sym (seen-filled w) ∙ q)) in

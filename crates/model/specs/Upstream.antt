@@ -217,7 +217,8 @@ OwnedOrSpan s vm page = (s .iommu-owned .pages vm page ≡ true) ⊎ (s .iommu-s
 -- ---- software/state.rs: wf
 pub record OwnershipWf (s : SoftwareView) : Type 0 where
   pub dom : (vm : ℕ) → vm < VMS → s .vm-owned .vms vm ≡ s .all-vms vm
-  pub apart : (vm vm′ page : ℕ) → vm < VMS → vm′ < VMS → page < PAGES → s .all-vms vm ≡ true → s .all-vms vm′ ≡ true → (vm ≡ vm′ → ⊥) → s .vm-owned .pages vm page ≡ true → s .vm-owned .pages vm′ page ≡ false
+  pub apart : (vm vm′ page : ℕ) → vm < VMS → vm′ < VMS → page < PAGES → s .all-vms vm ≡ true → s .all-vms vm′ ≡ true → (vm ≡ vm′ → ⊥) → s .vm-owned .pages vm page ≡ true →
+      s .vm-owned .pages vm′ page ≡ false
   pub pool : (vm page : ℕ) → vm < VMS → page < PAGES → s .all-vms vm ≡ true → s .vm-owned .pages vm page ≡ true → s .hypervisor-owned page ≡ false
 
 pub record EdgeWf (s : SoftwareView) (left right page : ℕ) : Type 0 where
@@ -235,8 +236,10 @@ pub record TranslationWf (s : SoftwareView) : Type 0 where
 
 pub record IommuOwnershipWf (s : SoftwareView) : Type 0 where
   pub dom : (vm : ℕ) → vm < VMS → s .iommu-owned .vms vm ≡ s .all-vms vm
-  pub apart : (vm vm′ page : ℕ) → vm < VMS → vm′ < VMS → page < PAGES → s .all-vms vm ≡ true → s .all-vms vm′ ≡ true → (vm ≡ vm′ → ⊥) → s .iommu-owned .pages vm page ≡ true → s .iommu-owned .pages vm′ page ≡ false
-  pub cpu-apart : (vm vm′ page : ℕ) → vm < VMS → vm′ < VMS → page < PAGES → s .all-vms vm ≡ true → s .all-vms vm′ ≡ true → (vm ≡ vm′ → ⊥) → s .iommu-owned .pages vm page ≡ true → s .vm-owned .pages vm′ page ≡ false
+  pub apart : (vm vm′ page : ℕ) → vm < VMS → vm′ < VMS → page < PAGES → s .all-vms vm ≡ true → s .all-vms vm′ ≡ true → (vm ≡ vm′ → ⊥) →
+      s .iommu-owned .pages vm page ≡ true → s .iommu-owned .pages vm′ page ≡ false
+  pub cpu-apart : (vm vm′ page : ℕ) → vm < VMS → vm′ < VMS → page < PAGES → s .all-vms vm ≡ true → s .all-vms vm′ ≡ true → (vm ≡ vm′ → ⊥) →
+      s .iommu-owned .pages vm page ≡ true → s .vm-owned .pages vm′ page ≡ false
   pub span : (vm page : ℕ) → vm < VMS → page < PAGES → s .all-vms vm ≡ true → s .iommu-owned .pages vm page ≡ true → s .iommu-shared page ≡ false
   pub cpu-span : (vm page : ℕ) → vm < VMS → page < PAGES → s .all-vms vm ≡ true → s .vm-owned .pages vm page ≡ true → s .iommu-shared page ≡ false
 

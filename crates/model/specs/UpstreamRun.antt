@@ -161,7 +161,8 @@ HardwareStep (clear page) h h′ = ClearStep page h h′
 -- ---- runs: no step leaves an equal view
 pub data SoftwareRun (setup : Setup) : List SoftwareCall → SoftwareView → SoftwareView → Type 0 where
   stop : {a b : SoftwareView} → SameSoftware b a → SoftwareRun setup [] a b
-  go : {call : SoftwareCall} {calls : List SoftwareCall} {a b c : SoftwareView} → SoftwareStep setup call a b → SoftwareRun setup calls b c → SoftwareRun setup (call ∷ calls) a c
+  go : {call : SoftwareCall} {calls : List SoftwareCall} {a b c : SoftwareView} → SoftwareStep setup call a b → SoftwareRun setup calls b c →
+      SoftwareRun setup (call ∷ calls) a c
 
 pub data HardwareRun : List HardwareCall → HardwareView → HardwareView → Type 0 where
   stop : {a b : HardwareView} → SameHardware b a → HardwareRun [] a b

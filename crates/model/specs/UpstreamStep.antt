@@ -149,7 +149,8 @@ module _ (assignable : Region → Bool) where
     pub known : s .all-vms (region .vm .0) ≡ true
     pub assign : assignable region ≡ true
     pub no-key : (vm gpa : ℕ) → vm < VMS → gpa < GUEST-PAGES → isSome (entriesOf region vm gpa) ≡ true → isSome (s .iommu-s2-map vm gpa) ≡ false
-    pub no-other : (page v : ℕ) → page < PAGES → v < VMS → pagesOf region page ≡ true → s .all-vms v ≡ true → (v ≡ region .vm .0 → ⊥) → (s .iommu-owned .pages v page ≡ false) × (s .vm-owned .pages v page ≡ false)
+    pub no-other : (page v : ℕ) → page < PAGES → v < VMS → pagesOf region page ≡ true → s .all-vms v ≡ true → (v ≡ region .vm .0 → ⊥) →
+        (s .iommu-owned .pages v page ≡ false) × (s .vm-owned .pages v page ≡ false)
     pub no-span : (page : ℕ) → page < PAGES → pagesOf region page ≡ true → s .iommu-shared page ≡ false
 
   -- ---- remove_region_enabled, iommu_remove_region_enabled
@@ -159,7 +160,8 @@ module _ (assignable : Region → Bool) where
     pub assign : assignable region ≡ true
     pub owned : (page : ℕ) → page < PAGES → pagesOf region page ≡ true → s .vm-owned .pages (region .vm .0) page ≡ true
     pub installed : (vm gpa : ℕ) → vm < VMS → gpa < GUEST-PAGES → isSome (entriesOf region vm gpa) ≡ true → s .s2-map vm gpa ≡ entriesOf region vm gpa
-    pub no-other : (vm gpa : ℕ) (e : S2Entry) → vm < VMS → gpa < GUEST-PAGES → s .s2-map vm gpa ≡ some e → isSome (entriesOf region vm gpa) ≡ false → pagesOf region (e .page) ≡ false
+    pub no-other : (vm gpa : ℕ) (e : S2Entry) → vm < VMS → gpa < GUEST-PAGES → s .s2-map vm gpa ≡ some e → isSome (entriesOf region vm gpa) ≡ false →
+        pagesOf region (e .page) ≡ false
     pub no-edge : (left right page : ℕ) → left < VMS → right < VMS → page < PAGES → s .shared-pages left right page ≡ true → pagesOf region page ≡ false
 
   pub record IommuRemoveRegionEnabled (region : Region) (s : SoftwareView) : Type 0 where
@@ -168,7 +170,8 @@ module _ (assignable : Region → Bool) where
     pub assign : assignable region ≡ true
     pub owned : (page : ℕ) → page < PAGES → pagesOf region page ≡ true → s .iommu-owned .pages (region .vm .0) page ≡ true
     pub installed : (vm gpa : ℕ) → vm < VMS → gpa < GUEST-PAGES → isSome (entriesOf region vm gpa) ≡ true → s .iommu-s2-map vm gpa ≡ entriesOf region vm gpa
-    pub no-other : (vm gpa : ℕ) (e : S2Entry) → vm < VMS → gpa < GUEST-PAGES → s .iommu-s2-map vm gpa ≡ some e → isSome (entriesOf region vm gpa) ≡ false → pagesOf region (e .page) ≡ false
+    pub no-other : (vm gpa : ℕ) (e : S2Entry) → vm < VMS → gpa < GUEST-PAGES → s .iommu-s2-map vm gpa ≡ some e → isSome (entriesOf region vm gpa) ≡ false →
+        pagesOf region (e .page) ≡ false
 
 -- a set with the region's pages, and without them; a DMA region leaves the pool alone
 abbrev pub withPages : (ℕ → Bool) → Region → ℕ → Bool
