@@ -45,7 +45,8 @@ module _ (s : State) (valid : Valid s) where
   read-step : (address : ℕ) → address < length (s .memory) → MemReadStep address (hardwareView s) (hardwareView s)
   read-step address h = record { backed = word-backed (s .memory) address h; next = same-hardware _ }
 
-  write-step : (address value : ℕ) → address < length (s .memory) → MemWriteStep address value (hardwareView s) (hardwareView (record { tables = s .tables; memory = set (s .memory) address value }))
+  write-step : (address value : ℕ) → address < length (s .memory) → MemWriteStep address value (hardwareView s)
+      (hardwareView (record { tables = s .tables; memory = set (s .memory) address value }))
   write-step address value h = memory-only (s .tables) (s .memory) (set (s .memory) address value) _ (write-seen (s .memory) address value h)
 
   pub read-follows : (side : Side) (port guest word : ℕ) →

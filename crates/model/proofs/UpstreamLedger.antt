@@ -48,18 +48,21 @@ knows-minus known vm v =
     ⊎-elim (λ q. rw (eq-eqb v vm q) (rw q (hasBit-without-same known vm))) (λ n. rw (ne-eqb v vm n) (hasBit-without-other known vm v n)) (equal v vm)
 
 -- the sets with an empty one more, and with one less
-set-added : (known vm : ℕ) (pages : ℕ → ℕ → Bool) → ((page : ℕ) → page < PAGES → pages vm page ≡ false) → SameSets (record { vms = knows (withBit known vm); pages = pages }) (withSet (record { vms = knows known; pages = pages }) vm noPages)
+set-added : (known vm : ℕ) (pages : ℕ → ℕ → Bool) → ((page : ℕ) → page < PAGES → pages vm page ≡ false) →
+    SameSets (record { vms = knows (withBit known vm); pages = pages }) (withSet (record { vms = knows known; pages = pages }) vm noPages)
 set-added known vm pages none =
     record {
       vms = λ v h. knows-plus known vm v;
       pages = λ v page h l e. ⊎-elim (λ q. rw (eq-eqb v vm q) (rw q (none page l))) (λ n. rw (ne-eqb v vm n)) (equal v vm);
     }
 
-set-dropped : (known vm : ℕ) (pages : ℕ → ℕ → Bool) → SameSets (record { vms = knows (withoutBit known vm); pages = pages }) (withoutSet (record { vms = knows known; pages = pages }) vm)
+set-dropped : (known vm : ℕ) (pages : ℕ → ℕ → Bool) → SameSets (record { vms = knows (withoutBit known vm); pages = pages })
+    (withoutSet (record { vms = knows known; pages = pages }) vm)
 set-dropped known vm pages = record { vms = λ v h. knows-minus known vm v; pages = λ v page h l e. refl }
 
 -- known VMs and their sets edited
-known-edited : (t : Tables) (known : ℕ) (vms : ℕ → Bool) (cpu dma : PageSets) → ((vm : ℕ) → knows known vm ≡ vms vm) → SameSets (record { vms = knows known; pages = owns (t .sets) }) cpu → SameSets (record { vms = knows known; pages = holdsDma (t .sets) }) dma →
+known-edited : (t : Tables) (known : ℕ) (vms : ℕ → Bool) (cpu dma : PageSets) → ((vm : ℕ) → knows known vm ≡ vms vm) →
+    SameSets (record { vms = knows known; pages = owns (t .sets) }) cpu → SameSets (record { vms = knows known; pages = holdsDma (t .sets) }) dma →
     SameSoftware (softwareView (withKnown t known)) (withSetsOf Dma (withSetsOf Cpu (withVms (softwareView t) vms) cpu) dma)
 known-edited t known vms cpu dma e c d =
     record {
@@ -123,7 +126,8 @@ module _ (pairs : List ℕ) (left right page : ℕ) (a : left < VMS) (b : right 
       new : paired pairs left right page ≡ false → paired (sharePairs pairs left right page) l r p ≡ true
       new f =
           let (i, at) = place-room pairKeyOf pairs (pairKey left right page) (λ q. room f) in
-          rw (f, ← e) (found-put-same pairKeyOf refl pairs (pairKey left right page) (pairWord left right page) i (omega arith) (pair-key left right page (omega arith) (omega arith) (omega arith)) at)
+          rw (f, ← e) (found-put-same pairKeyOf refl pairs (pairKey left right page) (pairWord left right page) i (omega arith)
+          (pair-key left right page (omega arith) (omega arith) (omega arith)) at)
 
   put-other : (l r p : ℕ) → (pairKey left right page ≡ pairKey l r p → ⊥) → paired (sharePairs pairs left right page) l r p ≡ paired pairs l r p
   unfolding sharePairs paired
@@ -132,19 +136,24 @@ module _ (pairs : List ℕ) (left right page : ℕ) (a : left < VMS) (b : right 
       new : paired pairs left right page ≡ false → paired (sharePairs pairs left right page) l r p ≡ paired pairs l r p
       new f =
           rw f
-          (found-put-other pairKeyOf refl pairs (pairKey left right page) (pairWord left right page) (pairKey l r p) (pair-key left right page (omega arith) (omega arith) (omega arith)) (omega arith) n)
+          (found-put-other pairKeyOf refl pairs (pairKey left right page) (pairWord left right page) (pairKey l r p)
+          (pair-key left right page (omega arith) (omega arith) (omega arith)) (omega arith) n)
 
   pub share-seen : (paired pairs left right page ≡ false → 0 < freeEntries pairs) → (l r p : ℕ) → l < VMS → r < VMS → p < PAGES →
       paired (sharePairs pairs left right page) l r p ≡ plusEdge (paired pairs) left right page l r p
   share-seen room l r p a′ b′ c′ =
       rw (edge-key left right page l r p a b c a′ b′ c′)
-      (⊎-elim (λ e. rw (eq-eqb (pairKey left right page) (pairKey l r p) e) (put-same l r p room e)) (λ n. rw (ne-eqb (pairKey left right page) (pairKey l r p) n) (put-other l r p n)) (equal (pairKey left right page) (pairKey l r p)))
+      (⊎-elim (λ e. rw (eq-eqb (pairKey left right page) (pairKey l r p) e) (put-same l r p room e))
+      (λ n. rw (ne-eqb (pairKey left right page) (pairKey l r p) n) (put-other l r p n)) (equal (pairKey left right page) (pairKey l r p)))
 
   pub unshare-seen : (l r p : ℕ) → l < VMS → r < VMS → p < PAGES → paired (unsharePairs pairs left right page) l r p ≡ minusEdge (paired pairs) left right page l r p
   unfolding unsharePairs paired
   unshare-seen l r p a′ b′ c′ =
       rw (edge-key left right page l r p a b c a′ b′ c′)
-      (⊎-elim (λ e. rw (eq-eqb (pairKey left right page) (pairKey l r p) e) (rw (← e) (found-erase-same pairKeyOf refl pairs (pairKey left right page) (omega arith)))) (λ n. rw (ne-eqb (pairKey left right page) (pairKey l r p) n) (found-erase-other pairKeyOf refl pairs (pairKey left right page) (pairKey l r p) (omega arith) n)) (equal (pairKey left right page) (pairKey l r p)))
+      (⊎-elim (λ e. rw (eq-eqb (pairKey left right page) (pairKey l r p) e)
+      (rw (← e) (found-erase-same pairKeyOf refl pairs (pairKey left right page) (omega arith))))
+      (λ n. rw (ne-eqb (pairKey left right page) (pairKey l r p) n)
+      (found-erase-other pairKeyOf refl pairs (pairKey left right page) (pairKey l r p) (omega arith) n)) (equal (pairKey left right page) (pairKey l r p)))
 
 module _ (s : State) (valid : ValidTables (s .tables)) where
   -- an id that is not known holds no page, on either side
@@ -188,7 +197,8 @@ module _ (s : State) (valid : ValidTables (s .tables)) where
       no-mappings table vm _ n i (g .each _ i .filled) (o .vm-is ∙ q)
 
   removable : (vm : ℕ) {dropped word : ℕ} →
-      removeVmAnswer (s .tables .known) (s .tables .sets) (s .tables .pairs) (s .tables .cpu .map) (s .tables .dma .map) (s .tables .cpu .ports) (s .tables .dma .ports) vm ≡ Accepted dropped word → RemoveVmEnabled vm (softwareView (s .tables))
+      removeVmAnswer (s .tables .known) (s .tables .sets) (s .tables .pairs) (s .tables .cpu .map) (s .tables .dma .map) (s .tables .cpu .ports)
+      (s .tables .dma .ports) vm ≡ Accepted dropped word → RemoveVmEnabled vm (softwareView (s .tables))
   unfolding removeVmAnswer
   removable vm e =
       let (d, w, early, a) = then-passed (vmEarly (s .tables .known) vm) _ e in
@@ -213,7 +223,8 @@ module _ (s : State) (valid : ValidTables (s .tables)) where
   pub remove-vm-follows : (vm : ℕ) → FollowsControl s (removeVmControl (s .tables) vm) (remove-vm vm ∷ []) []
   unfolding removeVmControl decided apply clearedPages
   remove-vm-follows vm =
-      decided-follows s (removeVmAnswer (s .tables .known) (s .tables .sets) (s .tables .pairs) (s .tables .cpu .map) (s .tables .dma .map) (s .tables .cpu .ports) (s .tables .dma .ports) vm) _ quiet _ _
+      decided-follows s (removeVmAnswer (s .tables .known) (s .tables .sets) (s .tables .pairs) (s .tables .cpu .map) (s .tables .dma .map) (s .tables .cpu .ports)
+      (s .tables .dma .ports) vm) _ quiet _ _
       (λ dropped word e. record { software = software-once (dropped-vm vm (removable vm e)); hardware = stop (same-hardware _) })
     where
       dropped-vm : (vm : ℕ) → RemoveVmEnabled vm (softwareView (s .tables)) →
@@ -222,7 +233,9 @@ module _ (s : State) (valid : ValidTables (s .tables)) where
           let known = s .tables .known in
           record {
             enabled = g;
-            next = known-edited (s .tables) (withoutBit known vm) _ _ _ (knows-minus known vm) (set-dropped known vm (owns (s .tables .sets))) (set-dropped known vm (holdsDma (s .tables .sets)));
+            next =
+                known-edited (s .tables) (withoutBit known vm) _ _ _ (knows-minus known vm) (set-dropped known vm (owns (s .tables .sets)))
+                (set-dropped known vm (holdsDma (s .tables .sets)));
           }
 
   -- ---- 3
@@ -255,7 +268,8 @@ module _ (s : State) (valid : ValidTables (s .tables)) where
   pub reclaim-follows : (vm page : ℕ) → FollowsControl s (reclaimControl (s .tables) vm page) (reclaim-page vm page ∷ []) (clearCalls (reclaimClears (s .tables .sets) vm page))
   unfolding reclaimControl reclaimAnswer decided apply
   reclaim-follows vm page =
-      decided-follows s (reclaimAnswer (s .tables .known) (s .tables .setup .pages) (s .tables .sets) (s .tables .pairs) (s .tables .cpu .map) vm page) _ (clears (reclaimClears (s .tables .sets) vm page)) _ _
+      decided-follows s (reclaimAnswer (s .tables .known) (s .tables .setup .pages) (s .tables .sets) (s .tables .pairs) (s .tables .cpu .map) vm page) _
+      (clears (reclaimClears (s .tables .sets) vm page)) _ _
       (λ dropped word e.
       let (d, w, early, a) = then-passed (pageEarly (s .tables .known) (s .tables .setup .pages) vm page) _ e in
       let r = page-passed (s .tables .known) (s .tables .setup .pages) vm page early in
@@ -305,7 +319,8 @@ module _ (s : State) (valid : ValidTables (s .tables)) where
       let (apart, b) = past (eqb left right) _ _ _ a in
       let (own, c) = past (not (owns (s .tables .sets) left page)) _ _ _ b in
       let (room, f) = past (not (paired (s .tables .pairs) left right page || roomFor (s .tables .pairs) 1)) _ _ _ c in
-      let place : paired (s .tables .pairs) left right page ≡ false → 0 < freeEntries (s .tables .pairs) = λ q. leb-true _ _ (rw q at (not-false (paired (s .tables .pairs) left right page || roomFor (s .tables .pairs) 1) room)) in
+      let either = not-false (paired (s .tables .pairs) left right page || roomFor (s .tables .pairs) 1) room in
+      let place : paired (s .tables .pairs) left right page ≡ false → 0 < freeEntries (s .tables .pairs) = λ q. leb-true _ _ (rw q at either) in
       record {
         apart = eqb-false left right apart;
         known = (r .knows-left, r .knows-right);

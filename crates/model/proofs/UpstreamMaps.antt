@@ -56,7 +56,8 @@ at-key : (table table′ : List ℕ) (vm gpa : ℕ) (answer : Option S2Entry) �
     SameS2Map (mapSeen table′) (mapAt (mapSeen table) vm gpa answer)
 at-key table table′ vm gpa answer h here there v g l h′ =
     rw (key-test vm gpa v g h h′)
-    (⊎-elim (λ e. rw (eq-eqb (key vm gpa) (key v g) e) (rw (← e) here)) (λ n. rw (ne-eqb (key vm gpa) (key v g) n) (ap seen (there (key v g) (omega arith) n))) (equal (key vm gpa) (key v g)))
+    (⊎-elim (λ e. rw (eq-eqb (key vm gpa) (key v g) e) (rw (← e) here)) (λ n. rw (ne-eqb (key vm gpa) (key v g) n) (ap seen (there (key v g) (omega arith) n)))
+    (equal (key vm gpa) (key v g)))
 
 pub put-seen : (table : List ℕ) (vm gpa page access generation i : ℕ) → vm < VMS → gpa < GUEST-PAGES → page < PAGES → access < ACCESSES → generation < GENERATIONS →
     place keyOf table (key vm gpa) ≡ At i →
@@ -89,12 +90,17 @@ slots-seen cache vm gpa h c v g l l′ h′ = rw (key-test vm gpa v g h h′) (�
 
     dropped : key vm gpa ≡ key v g → goal
     dropped e =
-        rw (eq-eqb (key vm gpa) (key v g) e, lookup-wipe-same keyOf refl (hasKey addressOf (key vm gpa)) cache (slotKey c v g) (omega arith) (λ w q. eq-eqb (addressOf w) (key vm gpa) (address w q ∙ sym e)))
+        rw (
+          eq-eqb (key vm gpa) (key v g) e,
+          lookup-wipe-same keyOf refl (hasKey addressOf (key vm gpa)) cache (slotKey c v g) (omega arith)
+              (λ w q. eq-eqb (addressOf w) (key vm gpa) (address w q ∙ sym e)),
+        )
 
     kept : (key vm gpa ≡ key v g → ⊥) → goal
     kept n =
         rw (ne-eqb (key vm gpa) (key v g) n)
-        (ap seen (lookup-wipe-other keyOf refl (hasKey addressOf (key vm gpa)) cache (slotKey c v g) (omega arith) (λ w q. ne-eqb (addressOf w) (key vm gpa) (λ z. n (sym z ∙ address w q)))))
+        (ap seen (lookup-wipe-other keyOf refl (hasKey addressOf (key vm gpa)) cache (slotKey c v g) (omega arith)
+        (λ w q. ne-eqb (addressOf w) (key vm gpa) (λ z. n (sym z ∙ address w q)))))
 
 -- ---- hardware
 module _ (side : Side) (t : Tables) (memory : List ℕ) (r : Route) where
@@ -114,7 +120,8 @@ module _ (side : Side) (t : Tables) (memory : List ℕ) (r : Route) where
       none-there : (eqb v vm && eqb g gpa) ≡ true → tlbSeen (r .cache) c v g ≡ none
       none-there e = not-some _ (not-so _ (λ s. true≢false (sym s ∙ ap isSome (slot-seen (r .walker) (r .cache) good c v g v′ g′ s) ∙ absent e)))
 
-  module _ (vm gpa page access generation i : ℕ) (v : vm < VMS) (g : gpa < GUEST-PAGES) (p : page < PAGES) (a : access < ACCESSES) (n : generation < GENERATIONS) (at : place keyOf (r .walker) (key vm gpa) ≡ At i) where
+  module _ (vm gpa page access generation i : ℕ) (v : vm < VMS) (g : gpa < GUEST-PAGES) (p : page < PAGES) (a : access < ACCESSES) (n : generation < GENERATIONS)
+      (at : place keyOf (r .walker) (key vm gpa) ≡ At i) where
     -- onto an absent key; and onto one that has just been unmapped and invalidated
     reach-new : CacheGood (r .walker) (r .cache) → isFound (find keyOf (r .walker) (key vm gpa)) ≡ false →
         HardwareMapStep side vm gpa (entryOf page access generation) (shown side t memory r) (shown side t memory (mapRoute r vm gpa page access generation))
@@ -123,16 +130,19 @@ module _ (side : Side) (t : Tables) (memory : List ℕ) (r : Route) where
           absent = rw (walk-of side t memory r) (map-found (r .walker) vm gpa ∙ f);
           next =
               rw (walk-of side t memory r, tlb-of side t memory r)
-              (route-hardware side t memory r (mapRoute r vm gpa page access generation) _ _ refl (put-seen (r .walker) vm gpa page access generation i v g p a n at) (slots-none vm gpa v g good f));
+              (route-hardware side t memory r (mapRoute r vm gpa page access generation) _ _ refl
+              (put-seen (r .walker) vm gpa page access generation i v g p a n at) (slots-none vm gpa v g good f));
         }
 
-    reach-again : HardwareMapStep side vm gpa (entryOf page access generation) (shown side t memory (unmapRoute r vm gpa)) (shown side t memory (mapRoute r vm gpa page access generation))
+    reach-again : HardwareMapStep side vm gpa (entryOf page access generation) (shown side t memory (unmapRoute r vm gpa))
+        (shown side t memory (mapRoute r vm gpa page access generation))
     unfolding mapTable unmapTable
     reach-again =
         let w = mapWord vm gpa (entry page access generation) in
         let k = entry-key vm gpa page access generation v g p a n in
         record {
-          absent = rw (walk-of side t memory (unmapRoute r vm gpa)) (map-found (unmapTable (r .walker) vm gpa) vm gpa ∙ found-erase-same keyOf refl (r .walker) (key vm gpa) (omega arith));
+          absent =
+              rw (walk-of side t memory (unmapRoute r vm gpa)) (map-found (unmapTable (r .walker) vm gpa) vm gpa ∙ found-erase-same keyOf refl (r .walker) (key vm gpa) (omega arith));
           next =
               rw (walk-of side t memory (unmapRoute r vm gpa), tlb-of side t memory (unmapRoute r vm gpa))
               (route-hardware side t memory (unmapRoute r vm gpa) (mapRoute r vm gpa page access generation) _ _ refl
@@ -145,7 +155,8 @@ module _ (side : Side) (t : Tables) (memory : List ℕ) (r : Route) where
     pub map-run : CacheGood (r .walker) (r .cache) →
         HardwareRun (mapCalls side r vm gpa (entryOf page access generation)) (shown side t memory r) (shown side t memory (mapRoute r vm gpa page access generation))
     map-run good =
-        ⊎-elim (λ y. rw y (go (unmap-step vm gpa g) (go reach-again (stop (same-hardware _))))) (λ f. rw f (go (reach-new good f) (stop (same-hardware _)))) (cases (isFound (find keyOf (r .walker) (key vm gpa))))
+        ⊎-elim (λ y. rw y (go (unmap-step vm gpa g) (go reach-again (stop (same-hardware _))))) (λ f. rw f (go (reach-new good f) (stop (same-hardware _))))
+        (cases (isFound (find keyOf (r .walker) (key vm gpa))))
 
 -- ---- the operations
 module _ (side : Side) (s : State) (valid : ValidTables (s .tables)) where
@@ -154,14 +165,16 @@ module _ (side : Side) (s : State) (valid : ValidTables (s .tables)) where
   unfolding SameMap
   walker-place k i o p =
       let m = maps-of side (s .tables) valid in
-      agree-place keyOf refl (route side (s .tables) .map) (route side (s .tables) .walker) k i o (m .as-long) (λ w h. key-filled w (m .walker .each w h .filled)) (m .walker .once) (m .same) p
+      agree-place keyOf refl (route side (s .tables) .map) (route side (s .tables) .walker) k i o (m .as-long) (λ w h. key-filled w (m .walker .each w h .filled))
+      (m .walker .once) (m .same) p
 
   below-pages : (page : ℕ) → page < s .tables .setup .pages → page < PAGES
   below-pages page h = omega (arith, valid .setup .most-pages)
 
   map-software : (vm gpa page access generation : ℕ) →
       MapAllPassed side (s .tables .known) (s .tables .setup .pages) (s .tables .sets) (s .tables .pairs) (route side (s .tables) .map) vm gpa page access generation →
-      MapStep side vm gpa (entryOf page access generation) (softwareView (s .tables)) (softwareView (withRoute side (s .tables) (mapRoute (route side (s .tables)) vm gpa page access generation)))
+      MapStep side vm gpa (entryOf page access generation) (softwareView (s .tables))
+      (softwareView (withRoute side (s .tables) (mapRoute (route side (s .tables)) vm gpa page access generation)))
   map-software vm gpa page access generation a =
       let r = route side (s .tables) in
       let f = a .early in
@@ -176,7 +189,8 @@ module _ (side : Side) (s : State) (valid : ValidTables (s .tables)) where
 
   map-both : (vm gpa page access generation : ℕ) →
       MapAllPassed side (s .tables .known) (s .tables .setup .pages) (s .tables .sets) (s .tables .pairs) (route side (s .tables) .map) vm gpa page access generation →
-      Follows s (record { tables = withRoute side (s .tables) (mapRoute (route side (s .tables)) vm gpa page access generation); memory = s .memory }) (map side vm gpa (entryOf page access generation) ∷ []) (mapCalls side (route side (s .tables)) vm gpa (entryOf page access generation))
+      Follows s (record { tables = withRoute side (s .tables) (mapRoute (route side (s .tables)) vm gpa page access generation); memory = s .memory })
+      (map side vm gpa (entryOf page access generation) ∷ []) (mapCalls side (route side (s .tables)) vm gpa (entryOf page access generation))
   map-both vm gpa page access generation a =
       let f = a .early in
       let (j, p) = walker-place (key vm gpa) (a .spot) (omega arith) (a .placed) in
@@ -184,7 +198,8 @@ module _ (side : Side) (s : State) (valid : ValidTables (s .tables)) where
         software = software-once (map-software vm gpa page access generation a);
         hardware =
             rw (with-own side (s .tables)) at
-            (map-run side (s .tables) (s .memory) (route side (s .tables)) vm gpa page access generation j (f .vm-ok) (f .guest-ok) (below-pages page (f .page-ok)) (f .access-ok) (f .generation-ok) p (route-of side (s .tables) valid .cache));
+            (map-run side (s .tables) (s .memory) (route side (s .tables)) vm gpa page access generation j (f .vm-ok) (f .guest-ok) (below-pages page (f .page-ok))
+            (f .access-ok) (f .generation-ok) p (route-of side (s .tables) valid .cache));
       }
 
   unmap-software : (vm gpa : ℕ) → gpa < GUEST-PAGES → isFound (find keyOf (route side (s .tables) .map) (key vm gpa)) ≡ true →
@@ -198,7 +213,8 @@ module _ (side : Side) (s : State) (valid : ValidTables (s .tables)) where
 
   unmap-both : (vm gpa : ℕ) {dropped word : ℕ} →
       unmapAnswer (s .tables .known) (route side (s .tables) .map) (route side (s .tables) .cache) vm gpa ≡ Accepted dropped word →
-      Follows s (record { tables = withRoute side (s .tables) (unmapRoute (route side (s .tables)) vm gpa); memory = s .memory }) (unmap side vm gpa ∷ []) (unmap-invalidate side vm gpa ∷ [])
+      Follows s (record { tables = withRoute side (s .tables) (unmapRoute (route side (s .tables)) vm gpa); memory = s .memory }) (unmap side vm gpa ∷ [])
+      (unmap-invalidate side vm gpa ∷ [])
   unfolding unmapAnswer
   unmap-both vm gpa e =
       let (d, w, early, a) = then-passed (unmapEarly (s .tables .known) vm gpa) _ e in
@@ -210,13 +226,15 @@ module _ (side : Side) (s : State) (valid : ValidTables (s .tables)) where
       }
 
   pub map-follows : (vm gpa page access generation : ℕ) →
-      FollowsControl s (mapControl side (s .tables) vm gpa page access generation) (map side vm gpa (entryOf page access generation) ∷ []) (mapCalls side (route side (s .tables)) vm gpa (entryOf page access generation))
+      FollowsControl s (mapControl side (s .tables) vm gpa page access generation) (map side vm gpa (entryOf page access generation) ∷ [])
+      (mapCalls side (route side (s .tables)) vm gpa (entryOf page access generation))
   unfolding mapControl decided apply clearedPages
   map-follows vm gpa page access generation =
       decided-follows s _ _ quiet _ _
       (λ dropped word e.
       map-both vm gpa page access generation
-      (map-all-passed side (s .tables .known) (s .tables .setup .pages) (s .tables .sets) (s .tables .pairs) (route side (s .tables) .map) (route side (s .tables) .cache) vm gpa page access generation e))
+      (map-all-passed side (s .tables .known) (s .tables .setup .pages) (s .tables .sets) (s .tables .pairs) (route side (s .tables) .map)
+      (route side (s .tables) .cache) vm gpa page access generation e))
 
   pub unmap-follows : (vm gpa : ℕ) → FollowsControl s (unmapControl side (s .tables) vm gpa) (unmap side vm gpa ∷ []) (unmap-invalidate side vm gpa ∷ [])
   unfolding unmapControl decided apply clearedPages

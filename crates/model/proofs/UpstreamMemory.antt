@@ -37,7 +37,8 @@ word-kept : (memory : List ℕ) (page address : ℕ) → eqb (address / PAGE-WOR
 unfolding clearPage
 word-kept memory page address f =
     let n = eqb-false (address / PAGE-WORDS) page f in
-    ⊎-elim (λ l. zeroed-before (memoryIndex page 0) PAGE-WORDS memory address l) (λ l. zeroed-behind (memoryIndex page 0) PAGE-WORDS memory address (omega arith)) (below-or address (memoryIndex page 0))
+    ⊎-elim (λ l. zeroed-before (memoryIndex page 0) PAGE-WORDS memory address l) (λ l. zeroed-behind (memoryIndex page 0) PAGE-WORDS memory address (omega arith))
+    (below-or address (memoryIndex page 0))
 
 clear-seen : (memory : List ℕ) (page address : ℕ) → wordSeen (clearPage memory page) address ≡ clearedAt (wordSeen memory) page address
 unfolding wordSeen
@@ -53,7 +54,8 @@ clear-seen memory page address = rw (length-clear memory page) (⊎-elim cleared
     kept f = rw (f, word-kept memory page address f)
 
 -- memory alone is another
-pub memory-only : (t : Tables) (before after : List ℕ) (now : ℕ → Option ℕ) → ((address : ℕ) → wordSeen after address ≡ now address) → SameHardware (hardwareView (record { tables = t; memory = after })) (withMemory (hardwareView (record { tables = t; memory = before })) now)
+pub memory-only : (t : Tables) (before after : List ℕ) (now : ℕ → Option ℕ) → ((address : ℕ) → wordSeen after address ≡ now address) →
+    SameHardware (hardwareView (record { tables = t; memory = after })) (withMemory (hardwareView (record { tables = t; memory = before })) now)
 memory-only t before after now e =
     record {
       tlb = λ cpu vm gpa c v g. refl;
@@ -65,7 +67,8 @@ memory-only t before after now e =
     }
 
 -- pages cleared one after another, whatever the tables
-pub clear-run : (t : Tables) (pages memory : List ℕ) → HardwareRun (clearCalls pages) (hardwareView (record { tables = t; memory = memory })) (hardwareView (record { tables = t; memory = clearedPages pages memory }))
+pub clear-run : (t : Tables) (pages memory : List ℕ) → HardwareRun (clearCalls pages) (hardwareView (record { tables = t; memory = memory }))
+    (hardwareView (record { tables = t; memory = clearedPages pages memory }))
 unfolding clearedPages
 clear-run t [] memory = stop (same-hardware _)
 clear-run t (page ∷ pages) memory = go (memory-only t memory (clearPage memory page) _ (clear-seen memory page)) (clear-run t pages (clearPage memory page))
@@ -80,4 +83,5 @@ pub write-seen : (memory : List ℕ) (at value : ℕ) → at < length memory →
 unfolding wordSeen
 write-seen memory at value h address =
     rw (length-set memory at value)
-    (⊎-elim (λ q. rw (eq-eqb address at q) (rw (q, lt-ltb at (length memory) h, getD-set-same memory at value 0 h))) (λ d. rw (ne-eqb address at d, getD-set-other memory at address value 0 d)) (equal address at))
+    (⊎-elim (λ q. rw (eq-eqb address at q) (rw (q, lt-ltb at (length memory) h, getD-set-same memory at value 0 h)))
+    (λ d. rw (ne-eqb address at d, getD-set-other memory at address value 0 d)) (equal address at))

@@ -78,7 +78,8 @@ at-slot : (cache cache′ : List ℕ) (port vm gpa : ℕ) (answer : Option S2Ent
     SameTlb (tlbSeen cache′) (tlbAt (tlbSeen cache) port vm gpa answer)
 at-slot cache cache′ port vm gpa answer v g here there c u q c′ u′ q′ =
     rw (slot-key-test port vm gpa c u q v (omega arith) g q′)
-    (⊎-elim (λ e. rw (eq-eqb (slotKey port vm gpa) (slotKey c u q) e) (rw (← e) here)) (λ n. rw (ne-eqb (slotKey port vm gpa) (slotKey c u q) n) (ap seen (there (slotKey c u q) (omega arith) n))) (equal (slotKey port vm gpa) (slotKey c u q)))
+    (⊎-elim (λ e. rw (eq-eqb (slotKey port vm gpa) (slotKey c u q) e) (rw (← e) here))
+    (λ n. rw (ne-eqb (slotKey port vm gpa) (slotKey c u q) n) (ap seen (there (slotKey c u q) (omega arith) n))) (equal (slotKey port vm gpa) (slotKey c u q)))
 
 module _ (walker cache : List ℕ) (good : CacheGood walker cache) where
   -- emptied
@@ -122,7 +123,8 @@ active-is ports port v = rw (lt-ltb (vmOn ports port) VMS v)
 
 fill-step : (side : Side) (t : Tables) (memory : List ℕ) (r : Route) (cache : List ℕ) (hand port gpa : ℕ) → vmOn (r .ports) port < VMS →
     (lookup keyOf (r .walker) (key (vmOn (r .ports) port) gpa) ≡ 0 → ⊥) →
-    SameTlb (tlbSeen cache) (tlbAt (tlbSeen (r .cache)) port (vmOn (r .ports) port) gpa (mapSeen (r .walker) (vmOn (r .ports) port) gpa)) → HardwareStep (fillCall side port (vmOn (r .ports) port) gpa) (shown side t memory r) (shown side t memory (withCache r cache hand))
+    SameTlb (tlbSeen cache) (tlbAt (tlbSeen (r .cache)) port (vmOn (r .ports) port) gpa (mapSeen (r .walker) (vmOn (r .ports) port) gpa)) →
+    HardwareStep (fillCall side port (vmOn (r .ports) port) gpa) (shown side t memory r) (shown side t memory (withCache r cache hand))
 fill-step Cpu t memory r cache hand port gpa v n e =
     record {
       active = active-is (r .ports) port v;
@@ -154,11 +156,13 @@ given-up ws k i e h =
 module _ (side : Side) (t : Tables) (memory : List ℕ) (r : Route) (good : CacheGood (r .walker) (r .cache)) (long : length (r .cache) ≡ SLOTS) (low : r .hand < SLOTS)
     (port gpa : ℕ) (a : FillPassed (r .ports) (r .walker) port gpa) where
   filled-at : (cache : List ℕ) (i hand : ℕ) → IsPlace keyOf cache (slotKey port (vmOn (r .ports) port) gpa) i →
-      HardwareStep (fillCall side port (vmOn (r .ports) port) gpa) (shown side t memory (withCache r cache (r .hand))) (shown side t memory (withCache r (set cache i (slotWord port (vmOn (r .ports) port) gpa (entryOf (lookup keyOf (r .walker) (key (vmOn (r .ports) port) gpa))))) hand))
+      HardwareStep (fillCall side port (vmOn (r .ports) port) gpa) (shown side t memory (withCache r cache (r .hand)))
+      (shown side t memory (withCache r (set cache i (slotWord port (vmOn (r .ports) port) gpa (entryOf (lookup keyOf (r .walker) (key (vmOn (r .ports) port) gpa))))) hand))
   filled-at cache i hand at =
       let vm = vmOn (r .ports) port in
       fill-step side t memory (withCache r cache (r .hand)) _ hand port gpa (a .vm-ok) (a .walks)
-      (fill-seen (r .walker) cache port vm gpa i (a .port-ok) (a .vm-ok) (a .guest-ok) (a .walks) (slot-made (r .walker) port vm gpa (a .port-ok) (a .vm-ok) (a .guest-ok) (a .walks)) at)
+      (fill-seen (r .walker) cache port vm gpa i (a .port-ok) (a .vm-ok) (a .guest-ok) (a .walks)
+      (slot-made (r .walker) port vm gpa (a .port-ok) (a .vm-ok) (a .guest-ok) (a .walks)) at)
 
   pub fill-run : HardwareRun (fillCalls side r port gpa) (shown side t memory r) (shown side t memory (fillRoute r port gpa))
   unfolding fillCache fillPlace
@@ -201,7 +205,8 @@ unfolding activeSeen
 active-set ports port n h cpu =
     ⊎-elim (λ q. rw (eq-eqb cpu port q) (rw (q, getD-set-same ports port n IDLE h))) (λ d. rw (ne-eqb cpu port d, getD-set-other ports port cpu n IDLE d)) (equal cpu port)
 
-ports-hardware : (s : State) (ports : List ℕ) (active : ℕ → Option ℕ) → ((cpu : ℕ) → activeSeen ports cpu ≡ active cpu) → SameHardware (hardwareView (record { tables = withRoute Cpu (s .tables) (withPorts (s .tables .cpu) ports); memory = s .memory })) (withActive (hardwareView s) active)
+ports-hardware : (s : State) (ports : List ℕ) (active : ℕ → Option ℕ) → ((cpu : ℕ) → activeSeen ports cpu ≡ active cpu) →
+    SameHardware (hardwareView (record { tables = withRoute Cpu (s .tables) (withPorts (s .tables .cpu) ports); memory = s .memory })) (withActive (hardwareView s) active)
 ports-hardware s ports active e =
     record {
       tlb = λ cpu vm gpa c v g. refl;
@@ -213,7 +218,8 @@ ports-hardware s ports active e =
     }
 
 switch-run : (s : State) (port : ℕ) (target : Target) → port < length (s .tables .cpu .ports) → isTarget target ≡ true →
-    HardwareRun (portCalls Cpu port target) (hardwareView s) (hardwareView (record { tables = withRoute Cpu (s .tables) (withPorts (s .tables .cpu) (portPorts (s .tables .cpu .ports) port target)); memory = s .memory }))
+    HardwareRun (portCalls Cpu port target) (hardwareView s)
+    (hardwareView (record { tables = withRoute Cpu (s .tables) (withPorts (s .tables .cpu) (portPorts (s .tables .cpu .ports) port target)); memory = s .memory }))
 switch-run s port Idle h e = hardware-once (ports-hardware s (set (s .tables .cpu .ports) port IDLE) _ (active-set (s .tables .cpu .ports) port IDLE h))
 switch-run s port (Vm vm) h e =
     hardware-once (ports-hardware s (set (s .tables .cpu .ports) port (vm .0)) _ (λ cpu. active-set (s .tables .cpu .ports) port (vm .0) h cpu ∙ rw e))
@@ -221,7 +227,11 @@ switch-run s port (Vm vm) h e =
 -- ---- the operations
 -- what a device is bound to is in neither view
 port-run : (side : Side) (s : State) (port : ℕ) (target : Target) → port < length (route side (s .tables) .ports) → isTarget target ≡ true →
-    Follows s (record { tables = withRoute side (s .tables) (withPorts (route side (s .tables)) (portPorts (route side (s .tables) .ports) port target)); memory = s .memory }) [] (portCalls side port target)
+    Follows s (record {
+      tables = withRoute side (s .tables)
+          (withPorts (route side (s .tables)) (portPorts (route side (s .tables) .ports) port target));
+      memory = s .memory;
+    }) [] (portCalls side port target)
 port-run Cpu s port target h e = record { software = stop (same-software _); hardware = switch-run s port target h e }
 port-run Dma s port target h e = record { software = stop (same-software _); hardware = stop (same-hardware _) }
 
@@ -253,7 +263,8 @@ module _ (side : Side) (s : State) (valid : ValidTables (s .tables)) where
       let g = route-of side (s .tables) valid in
       decided-follows s (fillAnswer (r .ports) (r .walker) port gpa) _ quiet _ _
       (λ dropped word e.
-      cache-only side s _ _ _ (fill-run side (s .tables) (s .memory) r (g .cache) (lengths-of side (s .tables) valid .cache) (g .hand) port gpa (fill-passed (r .ports) (r .walker) port gpa e)))
+      cache-only side s _ _ _ (fill-run side (s .tables) (s .memory) r (g .cache) (lengths-of side (s .tables) valid .cache) (g .hand) port gpa
+      (fill-passed (r .ports) (r .walker) port gpa e)))
 
   pub empty-follows : (slot : ℕ) → FollowsControl s (emptyControl side (s .tables) slot) [] (emptyCalls side (route side (s .tables)) slot)
   unfolding emptyControl decided apply clearedPages
@@ -261,7 +272,8 @@ module _ (side : Side) (s : State) (valid : ValidTables (s .tables)) where
       let r = route side (s .tables) in
       decided-follows s (emptyAnswer slot) _ quiet _ _
       (λ dropped word e.
-      cache-only side s _ _ _ (empty-run side (s .tables) (s .memory) r slot (route-of side (s .tables) valid .cache) (rw (lengths-of side (s .tables) valid .cache) (slot-below slot e))))
+      cache-only side s _ _ _ (empty-run side (s .tables) (s .memory) r slot (route-of side (s .tables) valid .cache)
+      (rw (lengths-of side (s .tables) valid .cache) (slot-below slot e))))
 
 -- a barrier, of either kind
 pub barrier-follows : (s : State) (call : HardwareCall) → HardwareStep call (hardwareView s) (hardwareView s) →

@@ -27,7 +27,8 @@ use Rattle.model.proofs.UpstreamRegionViews.{in-span, span-in}
 
 -- ---- the VM's claims, given and taken
 span-outside : (region : Region) (page : ℕ) → pagesOf region page ≡ false → Outside (region .page .0) (region .count) page
-span-outside region page f l = ⊎-elim (λ h. absurd (true≢false (sym (span-in (region .page .0) (region .count) page l h) ∙ f))) (λ h. h) (below-or page (region .page .0 + region .count))
+span-outside region page f l =
+    ⊎-elim (λ h. absurd (true≢false (sym (span-in (region .page .0) (region .count) page l h) ∙ f))) (λ h. h) (below-or page (region .page .0 + region .count))
 
 module _ (side : Side) (region : Region) (sets sets′ : List ℕ) where
   pub claims-given : Edited side (region .vm .0) true (region .page .0) (region .count) sets sets′ → (page : ℕ) → page < PAGES →
@@ -45,7 +46,8 @@ module _ (side : Side) (region : Region) (sets sets′ : List ℕ) where
       (cases (pagesOf region page))
 
 -- ---- the pool: a CPU region's pages leave it and come back
-module _ (pages base count known : ℕ) (region : Region) (v : region .vm .0 < VMS) (fits : region .page .0 + region .count ≤ pages) (sets sets′ : List ℕ) (g : PagesGood pages base count known sets) (g′ : PagesGood pages base count known sets′) where
+module _ (pages base count known : ℕ) (region : Region) (v : region .vm .0 < VMS) (fits : region .page .0 + region .count ≤ pages) (sets sets′ : List ℕ)
+    (g : PagesGood pages base count known sets) (g′ : PagesGood pages base count known sets′) where
   pub pool-given : Edited Cpu (region .vm .0) true (region .page .0) (region .count) sets sets′ → (page : ℕ) → page < PAGES →
       inPool sets′ page ≡ withoutPages (inPool sets) region page
   pool-given r page h = ⊎-elim mine (λ f. rw f (r .pool page h (span-outside region page f))) (cases (pagesOf region page))
@@ -68,7 +70,8 @@ module _ (pages base count known : ℕ) (region : Region) (v : region .vm .0 < V
       home row (cpu vm w) l e t =
           let (a, b) = in-span (region .page .0) (region .count) page t in
           ⊎-elim (λ q. absurd (true≢false (sym e ∙ rw q (r .inside page a b))))
-          (λ n. let o = sym (r .outside Cpu vm page h (λ s q. absurd (n q))) ∙ e in absurd (let q = g .one-home (cpuRow vm) (cpuRow (region .vm .0)) page (cpu vm w) (cpu (region .vm .0) v) l o (held page t) in n (omega arith)))
+          (λ n. let o = sym (r .outside Cpu vm page h (λ s q. absurd (n q))) ∙ e in absurd (let q = g .one-home (cpuRow vm) (cpuRow (region .vm .0)) page (cpu vm w)
+          (cpu (region .vm .0) v) l o (held page t) in n (omega arith)))
           (equal vm (region .vm .0))
 
       mine : pagesOf region page ≡ true → inPool sets′ page ≡ withPages (inPool sets) region page
@@ -109,7 +112,8 @@ module _ (t : Tables) (r : Route) (sets : List ℕ) (vm : ℕ) (k : knows (t .kn
   pub region-software : (side : Side) → ((page : ℕ) → page < PAGES → claims side sets vm page ≡ edit page) →
       ((s : Side) (other page : ℕ) → page < PAGES → (s ≡ side → other ≡ vm → ⊥) → claims s sets other page ≡ claims s (t .sets) other page) →
       ((page : ℕ) → page < PAGES → inPool sets page ≡ poolNow side (inPool (t .sets)) free page) →
-      SameSoftware (softwareView (withSets (withRoute side t r) sets)) (withMapOf side (withSetsOf side (withPoolOf side (softwareView t) free) (withSet (record { vms = knows (t .known); pages = claims side (t .sets) }) vm edit)) map)
+      SameSoftware (softwareView (withSets (withRoute side t r) sets))
+      (withMapOf side (withSetsOf side (withPoolOf side (softwareView t) free) (withSet (record { vms = knows (t .known); pages = claims side (t .sets) }) vm edit)) map)
   region-software Cpu own others pooled =
       record {
         all-vms = λ v h. refl;

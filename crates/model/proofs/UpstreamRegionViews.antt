@@ -126,7 +126,8 @@ module _ (known pages : ℕ) (region : Region) (early : RegionPassed known pages
       }
     where
       earlier : (j : ℕ) → j < k → (j ≡ k → ⊥) → lookup keyOf (put keyOf ws (keyIn region k) (regionEntry region k)) (keyIn region j) ≡ regionEntry region j
-      earlier j l n = lookup-put-other keyOf refl ws (keyIn region k) (regionEntry region k) (keyIn region j) (entry-key-in k h) (omega arith) (keys-apart k j h (omega arith) n) ∙ r .inside j l
+      earlier j l n =
+          lookup-put-other keyOf refl ws (keyIn region k) (regionEntry region k) (keyIn region j) (entry-key-in k h) (omega arith) (keys-apart k j h (omega arith) n) ∙ r .inside j l
 
   -- all of them
   all-put : (table : List ℕ) → region .count ≤ freeEntries table → Puts table (region .count) (insertTable table region)

@@ -88,7 +88,8 @@ module _ (t : Tables) (valid : ValidTables t) (region : Region) where
         assign = unit;
         free = λ page h e. free page e;
         no-key = λ vm gpa v g e. lacks-keys (t .cpu .map) (p .absent) vm gpa e;
-        no-dma = λ page v h l e k n. not-elsewhere Dma (t .sets) (region .vm .0) page v (each-page (λ x. claimedElsewhere Dma (t .sets) (region .vm .0) x ≡ false) (p .unclaimed) page e) l n;
+        no-dma =
+            λ page v h l e k n. not-elsewhere Dma (t .sets) (region .vm .0) page v (each-page (λ x. claimedElsewhere Dma (t .sets) (region .vm .0) x ≡ false) (p .unclaimed) page e) l n;
         no-span = λ page h e. pool-no-span t valid page h (free page e);
       }
   insert-enabled Dma p assign unit =
@@ -107,13 +108,15 @@ module _ (t : Tables) (valid : ValidTables t) (region : Region) where
   insert-turned : (side : Side) → InsertPassed side (t .known) (t .setup .pages) (t .sets) (route side t .map) region →
       Turned side true (t .setup .pages) (t .setup .sharedBase) (t .setup .sharedCount) (t .known) region (t .sets) (region .count) (insertSets side (t .sets) region)
   insert-turned side p =
-      insert-sets (t .setup .pages) (t .setup .sharedBase) (t .setup .sharedCount) (t .known) (t .sets) region (valid .lengths .sets) (valid .setup .most-pages) (p .early) (valid .pages) side (p .free) (p .unclaimed)
+      insert-sets (t .setup .pages) (t .setup .sharedBase) (t .setup .sharedCount) (t .known) (t .sets) region (valid .lengths .sets) (valid .setup .most-pages)
+      (p .early) (valid .pages) side (p .free) (p .unclaimed)
 
   insert-pool : (side : Side) → InsertPassed side (t .known) (t .setup .pages) (t .sets) (route side t .map) region → (page : ℕ) → page < PAGES →
       inPool (insertSets side (t .sets) region) page ≡ poolNow side (inPool (t .sets)) (withoutPages (inPool (t .sets)) region) page
   insert-pool Cpu p =
       let r = insert-turned Cpu p in
-      pool-given (t .setup .pages) (t .setup .sharedBase) (t .setup .sharedCount) (t .known) region (p .early .vm-ok) (p .early .page-ok) (t .sets) _ (valid .pages) (r .good) (r .edited)
+      pool-given (t .setup .pages) (t .setup .sharedBase) (t .setup .sharedCount) (t .known) region (p .early .vm-ok) (p .early .page-ok) (t .sets) _ (valid .pages)
+      (r .good) (r .edited)
   insert-pool Dma p = pool-left region (omega (arith, p .early .page-ok, valid .setup .most-pages)) (t .sets)
 
   insert-step : (side : Side) (assign : Region → Bool) → assign region ≡ true → InsertPassed side (t .known) (t .setup .pages) (t .sets) (route side t .map) region →
@@ -125,7 +128,8 @@ module _ (t : Tables) (valid : ValidTables t) (region : Region) where
         enabled = insert-enabled side p assign unit;
         next =
             rw (sets-of side t, map-of side t)
-            (region-software t (insertRoute (route side t) region) (insertSets side (t .sets) region) (region .vm .0) (p .early .knows-vm) _ _ _ map (r .shared) side (claims-given side region (t .sets) _ r)
+            (region-software t (insertRoute (route side t) region) (insertSets side (t .sets) region) (region .vm .0) (p .early .knows-vm) _ _ _ map
+            (r .shared) side (claims-given side region (t .sets) _ r)
             (λ s other page h n. r .outside s other page h (λ e q. absurd (n e q))) (insert-pool side p));
       }
 
@@ -143,11 +147,14 @@ module _ (side : Side) (t : Tables) (memory : List ℕ) (r : Route) (known pages
   ready-next k ws h a =
       record {
         room = omega (arith, a .room, free-put keyOf ws (keyIn region k) (regionEntry region k));
-        absent = λ j l b. lookup-put-other keyOf refl ws (keyIn region k) (regionEntry region k) (keyIn region j) (entry-key-in known pages region early most k h) (omega arith) (keys-apart known pages region early most k j h b (λ q. omega arith)) ∙ a .absent j (omega arith) b;
+        absent =
+            λ j l b. lookup-put-other keyOf refl ws (keyIn region k) (regionEntry region k) (keyIn region j) (entry-key-in known pages region early most k h)
+            (omega arith) (keys-apart known pages region early most k j h b (λ q. omega arith)) ∙ a .absent j (omega arith) b;
       }
 
   reach-one : (k : ℕ) (ms ws : List ℕ) → k < region .count → Ready k ws →
-      HardwareMapStep side (region .vm .0) (guestIn region k) (entryOf (pageIn region k) (region .access) 0) (shown side t memory (withMaps r ms ws (r .cache))) (shown side t memory (withMaps r (putIn k ms) (putIn k ws) (r .cache)))
+      HardwareMapStep side (region .vm .0) (guestIn region k) (entryOf (pageIn region k) (region .access) 0) (shown side t memory (withMaps r ms ws (r .cache)))
+      (shown side t memory (withMaps r (putIn k ms) (putIn k ws) (r .cache)))
   unfolding mapTable
   reach-one k ms ws h a =
       let free : 0 < freeEntries ws = omega (arith, a .room) in
@@ -157,12 +164,14 @@ module _ (side : Side) (t : Tables) (memory : List ℕ) (r : Route) (known pages
         next =
             rw (walk-of side t memory (withMaps r ms ws (r .cache)), tlb-of side t memory (withMaps r ms ws (r .cache)))
             (route-hardware side t memory (withMaps r ms ws (r .cache)) (withMaps r (putIn k ms) (putIn k ws) (r .cache)) _ _ refl
-            (put-seen ws (region .vm .0) (guestIn region k) (pageIn region k) (region .access) 0 i (early .vm-ok) (omega (arith, early .guest-ok)) (omega (arith, early .page-ok)) (early .access-ok) (omega arith) at)
+            (put-seen ws (region .vm .0) (guestIn region k) (pageIn region k) (region .access) 0 i (early .vm-ok) (omega (arith, early .guest-ok))
+            (omega (arith, early .page-ok)) (early .access-ok) (omega arith) at)
             (λ c v g c′ v′ g′. refl));
       }
 
   insert-from : (k n : ℕ) → k + n ≡ region .count → (ms ws : List ℕ) → Ready k ws →
-      HardwareRun (insertCalls side region k n) (shown side t memory (withMaps r ms ws (r .cache))) (shown side t memory (withMaps r (repeat putIn k n ms) (repeat putIn k n ws) (r .cache)))
+      HardwareRun (insertCalls side region k n) (shown side t memory (withMaps r ms ws (r .cache)))
+      (shown side t memory (withMaps r (repeat putIn k n ms) (repeat putIn k n ws) (r .cache)))
   insert-from k zero e ms ws a = stop (same-hardware _)
   insert-from k (suc n) e ms ws a =
       let h : k < region .count = omega arith in
@@ -208,8 +217,10 @@ module _ (t : Tables) (valid : ValidTables t) (region : Region) (early : RegionP
           let (n, same) = seen-some w e q in
           let (there, key-is) = lookup-has keyOf table (key vm gpa) n in
           let differs : keyOf w ≡ keyIn region k → ⊥ = λ z. let (a, b) = key-same vm gpa (region .vm .0) (guestIn region k) g (omega (arith, early .guest-ok)) (sym key-is ∙ z) in
-          true≢false (sym (rw (a, b) (rw (eq-eqb (region .vm .0) (region .vm .0) refl) (span-in (region .guest .0) (region .count) (guestIn region k) (omega arith) (omega arith)))) ∙ sym (entry-some region vm gpa) ∙ f) in
-          not-targeted (butKey (keyIn region k)) table (pageIn region k) w (unused k h) there (rw (ne-eqb (keyOf w) (keyIn region k) differs)) (good .each w there .filled) (ap (λ (x : S2Entry). x .page) same ∙ sym i)
+          true≢false (sym (rw (a, b) (rw (eq-eqb (region .vm .0) (region .vm .0) refl)
+          (span-in (region .guest .0) (region .count) (guestIn region k) (omega arith) (omega arith)))) ∙ sym (entry-some region vm gpa) ∙ f) in
+          not-targeted (butKey (keyIn region k)) table (pageIn region k) w (unused k h) there (rw (ne-eqb (keyOf w) (keyIn region k) differs))
+          (good .each w there .filled) (ap (λ (x : S2Entry). x .page) same ∙ sym i)
 
   owned-pages : (side : Side) → NoneFails (notHeld side (t .sets) region) region → (page : ℕ) → pagesOf region page ≡ true →
       claims side (t .sets) (region .vm .0) page ≡ true
@@ -218,7 +229,8 @@ module _ (t : Tables) (valid : ValidTables t) (region : Region) (early : RegionP
   remove-enabled : (side : Side) → RemovePassed side (t .known) (t .setup .pages) (t .sets) (t .pairs) (route side t .map) region → (assign : Region → Bool) →
       assign region ≡ true → RemoveEnabled assign side region (softwareView t)
   remove-enabled Cpu p assign unit =
-      let split : (k : ℕ) → k < region .count → (targeted (butKey (keyIn region k)) (t .cpu .map) (pageIn region k) ≡ false) × (edgeOn (t .pairs) (pageIn region k) ≡ false) = λ k h. neither _ _ (p .unused k h) in
+      let alone : ℕ → Bool = λ k. targeted (butKey (keyIn region k)) (t .cpu .map) (pageIn region k) in
+      let split : (k : ℕ) → k < region .count → (alone k ≡ false) × (edgeOn (t .pairs) (pageIn region k) ≡ false) = λ k h. neither _ _ (p .unused k h) in
       record {
         wf = early .some-page;
         known = early .knows-vm;
@@ -249,13 +261,15 @@ module _ (t : Tables) (valid : ValidTables t) (region : Region) (early : RegionP
   remove-turned : (side : Side) → NoneFails (notHeld side (t .sets) region) region →
       Turned side false (t .setup .pages) (t .setup .sharedBase) (t .setup .sharedCount) (t .known) region (t .sets) (region .count) (removeSets side (t .sets) region)
   remove-turned side held =
-      remove-sets (t .setup .pages) (t .setup .sharedBase) (t .setup .sharedCount) (t .known) (t .sets) region (valid .lengths .sets) (valid .setup .most-pages) early (valid .pages) side held
+      remove-sets (t .setup .pages) (t .setup .sharedBase) (t .setup .sharedCount) (t .known) (t .sets) region (valid .lengths .sets)
+      (valid .setup .most-pages) early (valid .pages) side held
 
   remove-pool : (side : Side) → NoneFails (notHeld side (t .sets) region) region → (page : ℕ) → page < PAGES →
       inPool (removeSets side (t .sets) region) page ≡ poolNow side (inPool (t .sets)) (withPages (inPool (t .sets)) region) page
   remove-pool Cpu held =
       let r = remove-turned Cpu held in
-      pool-taken (t .setup .pages) (t .setup .sharedBase) (t .setup .sharedCount) (t .known) region (early .vm-ok) (early .page-ok) (t .sets) _ (valid .pages) (r .good) (owned-pages Cpu held) (r .edited)
+      pool-taken (t .setup .pages) (t .setup .sharedBase) (t .setup .sharedCount) (t .known) region (early .vm-ok) (early .page-ok) (t .sets) _ (valid .pages)
+      (r .good) (owned-pages Cpu held) (r .edited)
   remove-pool Dma held = pool-kept region (omega (arith, early .page-ok, valid .setup .most-pages)) (t .sets)
 
   remove-step : (side : Side) (assign : Region → Bool) → assign region ≡ true →
@@ -275,7 +289,8 @@ module _ (t : Tables) (valid : ValidTables t) (region : Region) (early : RegionP
 
 -- ---- remove: one hardware step for each page, then what follows
 module _ (side : Side) (t : Tables) (memory : List ℕ) (r : Route) (region : Region) (once : Distinct keyOf (r .walker)) (once′ : Distinct keyOf (r .cache)) where
-  unmap-one : (k : ℕ) → UnmapInvalidateStep side (region .vm .0) (guestIn region k) (shown side t memory (removeRoute r (upTo region k))) (shown side t memory (removeRoute r (upTo region (suc k))))
+  unmap-one : (k : ℕ) → UnmapInvalidateStep side (region .vm .0) (guestIn region k) (shown side t memory (removeRoute r (upTo region k)))
+      (shown side t memory (removeRoute r (upTo region (suc k))))
   unmap-one k =
       rw (walk-of side t memory (removeRoute r (upTo region k)), tlb-of side t memory (removeRoute r (upTo region k)))
       (route-hardware side t memory (removeRoute r (upTo region k)) (removeRoute r (upTo region (suc k))) _ _ refl
@@ -294,23 +309,40 @@ module _ (side : Side) (t : Tables) (memory : List ℕ) (r : Route) (region : Re
 
 -- ---- the operations
 module _ (side : Side) (s : State) (valid : ValidTables (s .tables)) (region : Region) where
-  insert-both : {dropped word : ℕ} → insertAnswer side (s .tables .known) (s .tables .setup .pages) (s .tables .setup .units) (s .tables .setup .unitCount) (s .tables .sets) (route side (s .tables) .map) region ≡ Accepted dropped word →
-      Follows s (record { tables = withSets (withRoute side (s .tables) (insertRoute (route side (s .tables)) region)) (insertSets side (s .tables .sets) region); memory = s .memory }) (insert-region side region ∷ []) (insertCalls side region 0 (region .count))
+  insert-both : {dropped word : ℕ} → insertAnswer side (s .tables .known) (s .tables .setup .pages) (s .tables .setup .units) (s .tables .setup .unitCount)
+      (s .tables .sets) (route side (s .tables) .map) region ≡ Accepted dropped word →
+      Follows s (record {
+        tables = withSets (withRoute side (s .tables) (insertRoute (route side (s .tables)) region))
+            (insertSets side (s .tables .sets) region);
+        memory = s .memory;
+      }) (insert-region side region ∷ []) (insertCalls side region 0 (region .count))
   unfolding SameMap
   insert-both e =
       let t = s .tables in
       let p = insert-passed side (t .known) (t .setup .pages) (t .setup .units) (t .setup .unitCount) (t .sets) (route side t .map) region e in
       let m = maps-of side t valid in
       let unit = insert-unit side (t .known) (t .setup .pages) (t .setup .units) (t .setup .unitCount) (t .sets) (route side t .map) region e in
-      let room : region .count ≤ freeEntries (route side t .walker) = omega (arith, p .room, maps-free side (t .setup .pages) (t .known) (t .sets) (t .pairs) (route side t .map) (route side t .walker) m) in
-      let absent : NoneFails (present (route side t .walker) region) region = λ k h. found-looked keyOf refl (route side t .walker) (keyIn region k) (omega arith) ∙ rw (← m .same (keyIn region k) (omega arith)) (sym (found-looked keyOf refl (route side t .map) (keyIn region k) (omega arith)) ∙ p .absent k h) in
+      let room : region .count ≤ freeEntries (route side t .walker) = omega (
+        arith,
+        p .room,
+        maps-free side (t .setup .pages) (t .known) (t .sets) (t .pairs)
+            (route side t .map) (route side t .walker) m,
+      ) in
+      let absent : NoneFails (present (route side t .walker) region) region = λ k h. found-looked keyOf refl (route side t .walker) (keyIn region k)
+      (omega arith) ∙ rw (← m .same (keyIn region k) (omega arith)) (sym (found-looked keyOf refl (route side t .map) (keyIn region k) (omega arith)) ∙ p .absent k h) in
       record {
         software = software-once (insert-step t valid region side (assignable (t .setup .units) (t .setup .unitCount) side) unit p);
         hardware = rw (with-own side t) at (insert-run side t (s .memory) (route side t) (t .known) (t .setup .pages) region (p .early) (valid .setup .most-pages) room absent);
       }
 
-  remove-both : {dropped word : ℕ} → removeAnswer side (s .tables .known) (s .tables .setup .pages) (s .tables .setup .units) (s .tables .setup .unitCount) (s .tables .sets) (s .tables .pairs) (route side (s .tables) .map) (route side (s .tables) .cache) region ≡ Accepted dropped word →
-      Follows s (record { tables = withSets (withRoute side (s .tables) (removeRoute (route side (s .tables)) region)) (removeSets side (s .tables .sets) region); memory = clearedPages (removeClears side (s .tables .sets) region) (s .memory) }) (remove-region side region ∷ []) (removeCalls side region 0 (region .count) ++ clearCalls (removeClears side (s .tables .sets) region))
+  remove-both : {dropped word : ℕ} → removeAnswer side (s .tables .known) (s .tables .setup .pages) (s .tables .setup .units) (s .tables .setup .unitCount)
+      (s .tables .sets) (s .tables .pairs) (route side (s .tables) .map) (route side (s .tables) .cache) region ≡ Accepted dropped word →
+      Follows s (record {
+        tables = withSets (withRoute side (s .tables) (removeRoute (route side (s .tables)) region))
+            (removeSets side (s .tables .sets) region);
+        memory = clearedPages (removeClears side (s .tables .sets) region) (s .memory);
+      }) (remove-region side region ∷ [])
+      (removeCalls side region 0 (region .count) ++ clearCalls (removeClears side (s .tables .sets) region))
   remove-both e =
       let t = s .tables in
       let r = route side t in
@@ -321,13 +353,15 @@ module _ (side : Side) (s : State) (valid : ValidTables (s .tables)) (region : R
         software = software-once (remove-step t valid region (p .early) side (assignable (t .setup .units) (t .setup .unitCount) side) unit p);
         hardware =
             rw (with-own side t) at
-            (remove-run side t (s .memory) r region (good .walker .once) (good .cache .once) _ _ (clear-run (withRoute side t (removeRoute r region)) (removeClears side (t .sets) region) (s .memory)));
+            (remove-run side t (s .memory) r region (good .walker .once) (good .cache .once) _ _
+            (clear-run (withRoute side t (removeRoute r region)) (removeClears side (t .sets) region) (s .memory)));
       }
 
   pub insert-follows : FollowsControl s (insertControl side (s .tables) region) (insert-region side region ∷ []) (insertCalls side region 0 (region .count))
   unfolding insertControl decided apply clearedPages
   insert-follows = decided-follows s _ _ quiet _ _ (λ dropped word e. insert-both e)
 
-  pub remove-follows : FollowsControl s (removeControl side (s .tables) region) (remove-region side region ∷ []) (removeCalls side region 0 (region .count) ++ clearCalls (removeClears side (s .tables .sets) region))
+  pub remove-follows : FollowsControl s (removeControl side (s .tables) region) (remove-region side region ∷ [])
+      (removeCalls side region 0 (region .count) ++ clearCalls (removeClears side (s .tables .sets) region))
   unfolding removeControl decided apply
   remove-follows = decided-follows s _ _ (clears (removeClears side (s .tables .sets) region)) _ _ (λ dropped word e. remove-both e)
