@@ -37,14 +37,28 @@ use Rattle.model.specs.Upstream.{
 }
 
 -- ---- one field replaced, the seven others as they were
+-- the eight fields, in upstream's order
+abbrev pub software : (ℕ → Bool) → (ℕ → Bool) → PageSets → (ℕ → ℕ → ℕ → Bool) → S2Map → S2Map → PageSets → (ℕ → Bool) → SoftwareView
+software vms pool sets edges map dmaMap dmaSets span =
+    record {
+      all-vms = vms;
+      hypervisor-owned = pool;
+      vm-owned = sets;
+      shared-pages = edges;
+      s2-map = map;
+      iommu-s2-map = dmaMap;
+      iommu-owned = dmaSets;
+      iommu-shared = span;
+    }
+
 abbrev pub withVms : SoftwareView → (ℕ → Bool) → SoftwareView
-withVms s vms = record { all-vms = vms; hypervisor-owned = s .hypervisor-owned; vm-owned = s .vm-owned; shared-pages = s .shared-pages; s2-map = s .s2-map; iommu-s2-map = s .iommu-s2-map; iommu-owned = s .iommu-owned; iommu-shared = s .iommu-shared }
+withVms s vms = software vms (s .hypervisor-owned) (s .vm-owned) (s .shared-pages) (s .s2-map) (s .iommu-s2-map) (s .iommu-owned) (s .iommu-shared)
 
 abbrev pub withPool : SoftwareView → (ℕ → Bool) → SoftwareView
-withPool s pool = record { all-vms = s .all-vms; hypervisor-owned = pool; vm-owned = s .vm-owned; shared-pages = s .shared-pages; s2-map = s .s2-map; iommu-s2-map = s .iommu-s2-map; iommu-owned = s .iommu-owned; iommu-shared = s .iommu-shared }
+withPool s pool = software (s .all-vms) pool (s .vm-owned) (s .shared-pages) (s .s2-map) (s .iommu-s2-map) (s .iommu-owned) (s .iommu-shared)
 
 abbrev pub withEdges : SoftwareView → (ℕ → ℕ → ℕ → Bool) → SoftwareView
-withEdges s edges = record { all-vms = s .all-vms; hypervisor-owned = s .hypervisor-owned; vm-owned = s .vm-owned; shared-pages = edges; s2-map = s .s2-map; iommu-s2-map = s .iommu-s2-map; iommu-owned = s .iommu-owned; iommu-shared = s .iommu-shared }
+withEdges s edges = software (s .all-vms) (s .hypervisor-owned) (s .vm-owned) edges (s .s2-map) (s .iommu-s2-map) (s .iommu-owned) (s .iommu-shared)
 
 -- vm_owned and s2_map for CPU, iommu_owned and iommu_s2_map for DMA
 abbrev pub setsOf : Side → SoftwareView → PageSets
@@ -52,16 +66,16 @@ setsOf Cpu s = s .vm-owned
 setsOf Dma s = s .iommu-owned
 
 abbrev pub withSetsOf : Side → SoftwareView → PageSets → SoftwareView
-withSetsOf Cpu s sets = record { all-vms = s .all-vms; hypervisor-owned = s .hypervisor-owned; vm-owned = sets; shared-pages = s .shared-pages; s2-map = s .s2-map; iommu-s2-map = s .iommu-s2-map; iommu-owned = s .iommu-owned; iommu-shared = s .iommu-shared }
-withSetsOf Dma s sets = record { all-vms = s .all-vms; hypervisor-owned = s .hypervisor-owned; vm-owned = s .vm-owned; shared-pages = s .shared-pages; s2-map = s .s2-map; iommu-s2-map = s .iommu-s2-map; iommu-owned = sets; iommu-shared = s .iommu-shared }
+withSetsOf Cpu s sets = software (s .all-vms) (s .hypervisor-owned) sets (s .shared-pages) (s .s2-map) (s .iommu-s2-map) (s .iommu-owned) (s .iommu-shared)
+withSetsOf Dma s sets = software (s .all-vms) (s .hypervisor-owned) (s .vm-owned) (s .shared-pages) (s .s2-map) (s .iommu-s2-map) sets (s .iommu-shared)
 
 abbrev pub mapOf : Side → SoftwareView → S2Map
 mapOf Cpu s = s .s2-map
 mapOf Dma s = s .iommu-s2-map
 
 abbrev pub withMapOf : Side → SoftwareView → S2Map → SoftwareView
-withMapOf Cpu s map = record { all-vms = s .all-vms; hypervisor-owned = s .hypervisor-owned; vm-owned = s .vm-owned; shared-pages = s .shared-pages; s2-map = map; iommu-s2-map = s .iommu-s2-map; iommu-owned = s .iommu-owned; iommu-shared = s .iommu-shared }
-withMapOf Dma s map = record { all-vms = s .all-vms; hypervisor-owned = s .hypervisor-owned; vm-owned = s .vm-owned; shared-pages = s .shared-pages; s2-map = s .s2-map; iommu-s2-map = map; iommu-owned = s .iommu-owned; iommu-shared = s .iommu-shared }
+withMapOf Cpu s map = software (s .all-vms) (s .hypervisor-owned) (s .vm-owned) (s .shared-pages) map (s .iommu-s2-map) (s .iommu-owned) (s .iommu-shared)
+withMapOf Dma s map = software (s .all-vms) (s .hypervisor-owned) (s .vm-owned) (s .shared-pages) (s .s2-map) map (s .iommu-owned) (s .iommu-shared)
 
 -- ---- software/step.rs: map_step, iommu_map_step
 abbrev pub MayTarget : Side → SoftwareView → ℕ → ℕ → Type 0
