@@ -1,5 +1,8 @@
 -- Every operation on a valid state is a run of upstream's steps, and of the four that upstream lacks; a refused one is the
 -- run of none. Which steps an operation is stands in UpstreamRun.
+use Prim.Native.Nat.{ℕ}
+use mathlib.Core.List.{List}
+use mathlib.Core.Path.{_≡_}
 use Rattle.numbers.specs.declared.Operation.{Operation}
 use Rattle.numbers.specs.declared.Operation.the-variants.{
   AddVm,
@@ -33,7 +36,13 @@ use Rattle.numbers.specs.declared.Side.the-variants.{Cpu, Dma}
 use Rattle.model.specs.State.{State}
 use Rattle.model.specs.Step.{control, regionOf, step}
 use Rattle.model.specs.Valid.{Valid}
+use Rattle.model.specs.Effect.{accepted}
+use Rattle.model.specs.Start.{Told, Lent, startAnswer, start}
+use Rattle.model.specs.Sequence.{after}
+use Rattle.model.specs.Upstream.{WellFormed}
 use Rattle.model.specs.UpstreamRun.{dsb, isb, FollowsUpstream}
+use Rattle.model.proofs.Kept.{started-valid}
+use Rattle.model.proofs.UpstreamWf.{well-formed}
 use Rattle.model.proofs.UpstreamFollows.{same-hardware}
 use Rattle.model.proofs.UpstreamLedger.{add-vm-follows, remove-vm-follows, assign-follows, reclaim-follows, share-follows, unshare-follows}
 use Rattle.model.proofs.UpstreamMaps.{map-follows, unmap-follows}
@@ -69,3 +78,7 @@ follows-upstream s v (CpuWrite port guest word value) = write-follows s v Cpu po
 follows-upstream s v (DmaWrite port guest word value) = write-follows s v Dma port (guest .0) word value
 follows-upstream s v DataBarrier = barrier-follows s dsb (same-hardware _)
 follows-upstream s v InstructionBarrier = barrier-follows s isb (same-hardware _)
+
+-- ---- upstream's wf holds of every state that the machine comes to: after an accepted start, and however many rows follow
+pub reached-well-formed : (told : Told) (lent : Lent) → startAnswer told lent ≡ accepted → (rows room : List ℕ) (k : ℕ) → WellFormed (after rows k (record { state = start told lent .state; room = room }) .state)
+reached-well-formed told lent e rows room k = well-formed _ (started-valid told lent e rows room k .tables)

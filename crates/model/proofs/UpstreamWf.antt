@@ -20,7 +20,7 @@ use Rattle.pages.specs.Rows.{holds, poolRow, sharedRow, cpuRow, dmaRow}
 use Rattle.model.specs.State.{Tables, State}
 use Rattle.model.specs.Views.{knows, inPool, inShared, owns, holdsDma, paired, shares, mayMap}
 use Rattle.model.specs.Valid.{SameMap, Home, pool, shared, cpu, PairGood, MapGood, CacheGood, ValidTables}
-use Rattle.model.specs.Upstream.{S2Entry, seen, isSome, mapSeen, tlbSeen, softwareView, HardwareView, hardwareView, SameS2Map, SharedWith, OwnedOrShared, OwnedOrSpan, OwnershipWf, SharingWf, TranslationWf, IommuOwnershipWf, IommuTranslationWf, SoftwareWf, TlbSafe, HardwareWf}
+use Rattle.model.specs.Upstream.{S2Entry, seen, isSome, mapSeen, tlbSeen, softwareView, hardwareView, SharedWith, OwnedOrShared, OwnedOrSpan, OwnershipWf, SharingWf, TranslationWf, IommuOwnershipWf, IommuTranslationWf, SoftwareWf, TlbSafe, HardwareWf, Synced, WellFormed}
 use Rattle.model.proofs.ViewLaws.{not-so, paired-joins, shares-lends, may-either}
 use Rattle.model.proofs.UpstreamLaws.{seen-some, seen-filled, seen-same, has-found, of-key, of-slot-key, SamePair, pair-ends, knows-below}
 
@@ -192,15 +192,15 @@ hardware-wf s valid =
       iommu-tlb-safe = tlb-safe (s .tables .dma .walker) (s .tables .dma .cache) (valid .dma .cache);
     }
 
--- ---- and the two agree: the walker maps are the software maps
-pub record Synced (t : Tables) (h : HardwareView) : Type 0 where
-  pub cpu : SameS2Map (softwareView t .s2-map) (h .s2map)
-  pub dma : SameS2Map (softwareView t .iommu-s2-map) (h .iommu-s2map)
-
-pub synced : (s : State) → ValidTables (s .tables) → Synced (s .tables) (hardwareView s)
+-- ---- and the two agree
+pub synced : (s : State) → ValidTables (s .tables) → Synced s
 unfolding SameMap
 synced s valid =
     record {
       cpu = λ vm gpa v g. ap seen (valid .cpu .same (key vm gpa) (omega arith));
       dma = λ vm gpa v g. ap seen (valid .dma .same (key vm gpa) (omega arith));
     }
+
+-- ---- all of it, of every valid state
+pub well-formed : (s : State) → ValidTables (s .tables) → WellFormed s
+well-formed s valid = record { software = software-wf (s .tables) valid; hardware = hardware-wf s valid; sync = synced s valid }

@@ -267,3 +267,13 @@ pub record TlbSafe (tlb : Tlb) (s2map : S2Map) : Type 0 where
 pub record HardwareWf (h : HardwareView) : Type 0 where
   pub tlb-safe : TlbSafe (h .tlb) (h .s2map)
   pub iommu-tlb-safe : TlbSafe (h .iommu-tlb) (h .iommu-s2map)
+
+-- ---- both, and the agreement that upstream asks of a whole machine: the walkers reach what the software maps say
+pub record Synced (s : State) : Type 0 where
+  pub cpu : SameS2Map (softwareView (s .tables) .s2-map) (hardwareView s .s2map)
+  pub dma : SameS2Map (softwareView (s .tables) .iommu-s2-map) (hardwareView s .iommu-s2map)
+
+pub record WellFormed (s : State) : Type 0 where
+  pub software : SoftwareWf (softwareView (s .tables))
+  pub hardware : HardwareWf (hardwareView s)
+  pub sync : Synced s
