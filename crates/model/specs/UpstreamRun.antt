@@ -1,4 +1,5 @@
--- Which steps of upstream's an accepted operation is, and what it is to be a run of them.
+-- Which steps of upstream's an accepted operation is, and what it is to be a run of them. The numbers of an accepted operation
+-- are in range (EarlyLaws), so that nothing it does falls outside of what views are compared at.
 use Prim.Native.Nat.{ℕ, zero, suc, _/_}
 use mathlib.Core.Bool.{true}
 use mathlib.Core.List.{List, [], _∷_, _++_}
@@ -120,6 +121,7 @@ pub data SoftwareCall : Type 0 where
 pub data HardwareCall : Type 0 where
   tlb-fill : ℕ → ℕ → ℕ → HardwareCall
   unmap-invalidate : Side → ℕ → ℕ → HardwareCall
+  -- the hardware's map_step
   reach : Side → ℕ → ℕ → S2Entry → HardwareCall
   context-switch : ℕ → ℕ → HardwareCall
   dsb : HardwareCall
