@@ -34,12 +34,12 @@ use Rattle.model.proofs.RoutesKept.{slot-walks}
 use Rattle.model.proofs.OneRoute.{GoodRoute, route-of}
 
 -- ---- what an accepted access tells
-record AccessPassed (ports cache walker : List ℕ) (port guest : ℕ) : Type 0 where
-  guest-ok : guest < GUEST-PAGES
-  vm-ok : vmOn ports port < VMS
-  translates : translate cache walker port (vmOn ports port) guest ≡ 0 → ⊥
+pub record AccessPassed (ports cache walker : List ℕ) (port guest : ℕ) : Type 0 where
+  pub guest-ok : guest < GUEST-PAGES
+  pub vm-ok : vmOn ports port < VMS
+  pub translates : translate cache walker port (vmOn ports port) guest ≡ 0 → ⊥
 
-access-passed : (ports cache walker : List ℕ) (bit port guest word : ℕ) {dropped read : ℕ} → accessAnswer ports cache walker bit port guest word ≡ Accepted dropped read → AccessPassed ports cache walker port guest
+pub access-passed : (ports cache walker : List ℕ) (bit port guest word : ℕ) {dropped read : ℕ} → accessAnswer ports cache walker bit port guest word ≡ Accepted dropped read → AccessPassed ports cache walker port guest
 unfolding accessAnswer
 access-passed ports cache walker bit port guest word e =
     let (a, b) = past (not (isPort port && isGuest guest && isWord word)) _ _ _ e in
@@ -93,7 +93,7 @@ behind-reaches side t vm w v e =
     record { vm-ok = v; page-ok = rw (← e .page-is) (e .good .page); way = way side t vm (pageOf w) (rw (← e .page-is, ← e .vm-is) (e .good .may)) }
 
 -- the VM on the port, and the page that it gets to
-reached : (side : Side) (t : Tables) (r : Route) → GoodRoute side t r → (port guest : ℕ) → AccessPassed (r .ports) (r .cache) (r .walker) port guest →
+pub reached : (side : Side) (t : Tables) (r : Route) → GoodRoute side t r → (port guest : ℕ) → AccessPassed (r .ports) (r .cache) (r .walker) port guest →
     Reaches t (vmOn (r .ports) port) (pageOf (translate (r .cache) (r .walker) port (vmOn (r .ports) port) guest))
 reached side t r g port guest a =
     let vm = vmOn (r .ports) port in

@@ -27,13 +27,13 @@ use Rattle.model.proofs.OneRoute.{GoodRoute, route-of, maps-of, maps-ro
 
 -- ---- map
 -- what an accepted map tells
-record MapAllPassed (side : Side) (known pages : ℕ) (sets pairs map : List ℕ) (vm guest page access generation : ℕ) : Type 0 where
-  early : MapPassed known pages vm guest page access generation
-  may : mayMap side sets pairs vm page ≡ true
-  spot : ℕ
-  placed : place keyOf map (key vm guest) ≡ At spot
+pub record MapAllPassed (side : Side) (known pages : ℕ) (sets pairs map : List ℕ) (vm guest page access generation : ℕ) : Type 0 where
+  pub early : MapPassed known pages vm guest page access generation
+  pub may : mayMap side sets pairs vm page ≡ true
+  pub spot : ℕ
+  pub placed : place keyOf map (key vm guest) ≡ At spot
 
-map-all-passed : (side : Side) (known pages : ℕ) (sets pairs map cache : List ℕ) (vm guest page access generation : ℕ) {dropped word : ℕ} →
+pub map-all-passed : (side : Side) (known pages : ℕ) (sets pairs map cache : List ℕ) (vm guest page access generation : ℕ) {dropped word : ℕ} →
     mapAnswer side known pages sets pairs map cache vm guest page access generation ≡ Accepted dropped word → MapAllPassed side known pages sets pairs map vm guest page access generation
 unfolding mapAnswer
 map-all-passed side known pages sets pairs map cache vm guest page access generation e =

@@ -62,13 +62,13 @@ port-good side t v operation port target =
     (port-kept side t v port target (port-passed (t .known) port target e)))
 
 -- ---- a slot filled
-record FillPassed (ports walker : List ℕ) (port guest : ℕ) : Type 0 where
-  port-ok : port < PORTS
-  guest-ok : guest < GUEST-PAGES
-  vm-ok : vmOn ports port < VMS
-  walks : lookup keyOf walker (key (vmOn ports port) guest) ≡ 0 → ⊥
+pub record FillPassed (ports walker : List ℕ) (port guest : ℕ) : Type 0 where
+  pub port-ok : port < PORTS
+  pub guest-ok : guest < GUEST-PAGES
+  pub vm-ok : vmOn ports port < VMS
+  pub walks : lookup keyOf walker (key (vmOn ports port) guest) ≡ 0 → ⊥
 
-fill-passed : (ports walker : List ℕ) (port guest : ℕ) {dropped word : ℕ} → fillAnswer ports walker port guest ≡ Accepted dropped word → FillPassed ports walker port guest
+pub fill-passed : (ports walker : List ℕ) (port guest : ℕ) {dropped word : ℕ} → fillAnswer ports walker port guest ≡ Accepted dropped word → FillPassed ports walker port guest
 unfolding fillAnswer
 fill-passed ports walker port guest e =
     let (a, b) = past (not (isPort port && isGuest guest)) _ _ _ e in

@@ -17,9 +17,9 @@ pub mod RegionSets
 pub mod RegionTables
 pub mod GoodLedger
 pub mod GoodMaps
-pub mod GoodRegions
 pub mod GoodPorts
 pub mod GoodAccess
+pub mod GoodRegions
 pub mod Kept
 pub mod FullMaps
 pub mod Refusals
@@ -35,3 +35,16 @@ pub mod EffectLaws
 pub mod Secret
 pub mod Secrecy
 pub mod SecrecyCalls
+pub mod UpstreamLaws
+pub mod UpstreamWf
+pub mod UpstreamFollows
+pub mod UpstreamMemory
+pub mod UpstreamLedger
+pub mod UpstreamRoutes
+pub mod UpstreamMaps
+pub mod UpstreamPorts
+pub mod UpstreamAccess
+pub mod UpstreamRegionViews
+pub mod UpstreamRegionSets
+pub mod UpstreamRegions
+pub mod UpstreamSteps

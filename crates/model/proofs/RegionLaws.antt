@@ -50,6 +50,7 @@ insert-passed side known pages units unitCount sets map region e =
 pub record RemovePassed (side : Side) (known pages : ℕ) (sets pairs map : List ℕ) (region : Region) : Type 0 where
   pub early : RegionPassed known pages region
   pub held : NoneFails (notHeld side sets region) region
+  pub mapped : NoneFails (differs map region) region
   pub unused : NoneFails (inUse side pairs map region) region
 
 pub remove-passed : (side : Side) (known pages : ℕ) (units : List Unit) (unitCount : ℕ) (sets pairs map cache : List ℕ) (region : Region) {dropped word : ℕ} →
@@ -61,4 +62,4 @@ remove-passed side known pages units unitCount sets pairs map cache region e =
     let (held, f) = clash-passed (notHeld side sets region) region PageNotHeld _ c in
     let (same, g) = clash-passed (differs map region) region MappingDiffers _ f in
     let (unused, h) = clash-passed (inUse side pairs map region) region StillInUse _ g in
-    record { early = region-passed known pages region early; held = held; unused = unused }
+    record { early = region-passed known pages region early; held = held; mapped = same; unused = unused }

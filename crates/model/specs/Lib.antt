@@ -18,5 +18,8 @@ pub mod StartTold
 pub mod Sequence
 pub mod Good
 pub mod Entries
+pub mod Upstream
+pub mod UpstreamStep
+pub mod UpstreamRun
 pub mod Conditions
 pub mod Secrecy

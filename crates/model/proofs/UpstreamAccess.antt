@@ -1,0 +1,64 @@
+-- Operations 21 to 24 are upstream's memory steps, at the one word that the translation gives.
+use Prim.Native.Nat.{ℕ, _<_}
+use mathlib.Core.Bool.{not, _&&_}
+use mathlib.Core.List.{List, [], _∷_}
+use mathlib.Core.Path.{_≡_}
+use native.Mathlib.Omega.{arith}
+use lib.ListN.{length, set}
+use borrow.Author.Tests.{ltb-true}
+use Rattle.numbers.specs.Limits.{PAGE-WORDS, READ, WRITE}
+use Rattle.numbers.specs.declared.Answer.the-variants.{Accepted}
+use Rattle.numbers.specs.declared.Side.{Side}
+use Rattle.model.specs.State.{State, route}
+use Rattle.model.specs.Views.{isPort, isGuest, isWord}
+use Rattle.model.specs.Effect.{decided, apply, stored}
+use Rattle.model.specs.EarlyLaws.{past, hold}
+use Rattle.model.specs.Valid.{Valid}
+use Rattle.model.specs.Access.{accessAnswer}
+use Rattle.model.specs.Step.{readControl, writeControl}
+use Rattle.model.specs.Upstream.{hardwareView}
+use Rattle.model.specs.UpstreamStep.{MemReadStep, MemWriteStep}
+use Rattle.model.specs.UpstreamRun.{mem-read, mem-write, addressIn, stop, FollowsControl}
+use Rattle.model.proofs.OneRoute.{route-of}
+use Rattle.model.proofs.GoodAccess.{access-passed, reached}
+use Rattle.model.proofs.UpstreamFollows.{same-software, same-hardware, hardware-once, decided-follows}
+use Rattle.model.proofs.UpstreamMemory.{memory-only, word-backed, write-seen}
+
+word-below : (ports cache walker : List ℕ) (bit port guest word : ℕ) {dropped read : ℕ} → accessAnswer ports cache walker bit port guest word ≡ Accepted dropped read →
+    word < PAGE-WORDS
+unfolding accessAnswer
+word-below ports cache walker bit port guest word e =
+    let (a, b) = past (not (isPort port && isGuest guest && isWord word)) _ _ _ e in
+    ltb-true word PAGE-WORDS (hold (isPort port && isGuest guest) (isWord word) a .1)
+
+module _ (s : State) (valid : Valid s) where
+  -- the word lies in memory
+  backed : (side : Side) (bit port guest word : ℕ) {dropped read : ℕ} →
+      accessAnswer (route side (s .tables) .ports) (route side (s .tables) .cache) (route side (s .tables) .walker) bit port guest word ≡ Accepted dropped read →
+      addressIn (route side (s .tables)) port guest word < length (s .memory)
+  backed side bit port guest word e =
+      let r = route side (s .tables) in
+      let p = reached side (s .tables) r (route-of side (s .tables) (valid .tables)) port guest (access-passed (r .ports) (r .cache) (r .walker) bit port guest word e) .page-ok in
+      let w = word-below (r .ports) (r .cache) (r .walker) bit port guest word e in
+      omega (arith, valid .memory)
+
+  read-step : (address : ℕ) → address < length (s .memory) → MemReadStep address (hardwareView s) (hardwareView s)
+  read-step address h = record { backed = word-backed (s .memory) address h; next = same-hardware _ }
+
+  write-step : (address value : ℕ) → address < length (s .memory) → MemWriteStep address value (hardwareView s)
+      (hardwareView (record { tables = s .tables; memory = set (s .memory) address value }))
+  write-step address value h = memory-only (s .tables) (s .memory) (set (s .memory) address value) _ (write-seen (s .memory) address value h)
+
+  pub read-follows : (side : Side) (port guest word : ℕ) →
+      FollowsControl s (readControl side (s .tables) port guest word) [] (mem-read (addressIn (route side (s .tables)) port guest word) ∷ [])
+  unfolding readControl decided apply
+  read-follows side port guest word =
+      decided-follows s _ (s .tables) _ _ _
+      (λ dropped read e. record { software = stop (same-software _); hardware = hardware-once (read-step _ (backed side READ port guest word e)) })
+
+  pub write-follows : (side : Side) (port guest word value : ℕ) →
+      FollowsControl s (writeControl side (s .tables) port guest word value) [] (mem-write (addressIn (route side (s .tables)) port guest word) value ∷ [])
+  unfolding writeControl decided apply stored
+  write-follows side port guest word value =
+      decided-follows s _ (s .tables) _ _ _
+      (λ dropped read e. record { software = stop (same-software _); hardware = hardware-once (write-step _ value (backed side WRITE port guest word e)) })

@@ -1,0 +1,53 @@
+-- A view is equal to itself; a refused operation takes no step; and which edits of our tables a view does not see.
+use Prim.Native.Nat.{ℕ}
+use mathlib.Core.List.{List, [], _∷_}
+use mathlib.Core.Path.{_≡_, refl}
+use Rattle.numbers.specs.declared.Answer.{Answer}
+use Rattle.numbers.specs.declared.Answer.the-variants.{Accepted, Refused}
+use Rattle.model.specs.State.{Tables, Setup, State}
+use Rattle.model.specs.Effect.{Effect, decided, apply, clearedPages}
+use Rattle.model.specs.Upstream.{PageSets, SameSets, SoftwareView, HardwareView, SameSoftware, SameHardware}
+use Rattle.model.specs.UpstreamRun.{SoftwareCall, HardwareCall, SoftwareStep, HardwareStep, SoftwareRun, HardwareRun, stop, go, Follows, FollowsControl}
+
+pub same-sets : (a : PageSets) → SameSets a a
+same-sets a = record { vms = λ vm v. refl; pages = λ vm page v h e. refl }
+
+pub same-software : (s : SoftwareView) → SameSoftware s s
+same-software s =
+    record {
+      all-vms = λ vm v. refl;
+      hypervisor-owned = λ page h. refl;
+      vm-owned = same-sets (s .vm-owned);
+      shared-pages = λ left right page l r h. refl;
+      s2-map = λ vm gpa v g. refl;
+      iommu-s2-map = λ vm gpa v g. refl;
+      iommu-owned = same-sets (s .iommu-owned);
+      iommu-shared = λ page h. refl;
+    }
+
+pub same-hardware : (h : HardwareView) → SameHardware h h
+same-hardware h =
+    record {
+      tlb = λ cpu vm gpa c v g. refl;
+      s2map = λ vm gpa v g. refl;
+      iommu-tlb = λ cpu vm gpa c v g. refl;
+      iommu-s2map = λ vm gpa v g. refl;
+      memory = λ address. refl;
+      active-vm = λ cpu c. refl;
+    }
+
+-- runs of one step
+pub software-once : {setup : Setup} {call : SoftwareCall} {a b : SoftwareView} → SoftwareStep setup call a b → SoftwareRun setup (call ∷ []) a b
+software-once x = go x (stop (same-software _))
+
+pub hardware-once : {call : HardwareCall} {a b : HardwareView} → HardwareStep call a b → HardwareRun (call ∷ []) a b
+hardware-once x = go x (stop (same-hardware _))
+
+-- what an accepted operation leaves is all that is asked for
+pub decided-follows : (s : State) (answer : Answer) (new : Tables) (effect : Effect) (software : List SoftwareCall) (hardware : List HardwareCall) →
+    ((dropped word : ℕ) → answer ≡ Accepted dropped word → Follows s (record { tables = new; memory = apply effect (s .memory) }) software hardware) →
+    FollowsControl s (decided (s .tables) answer new effect) software hardware
+unfolding decided apply clearedPages
+decided-follows s (Accepted dropped word) new effect software hardware follows = follows dropped word refl
+decided-follows s (Refused refusal index) new effect software hardware follows =
+    record { software = stop (same-software _); hardware = stop (same-hardware _) }

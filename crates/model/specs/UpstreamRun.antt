@@ -1,0 +1,293 @@
+-- Which steps of upstream's an accepted operation is, and what it is to be a run of them. The numbers of an accepted operation
+-- are in range (EarlyLaws), so that nothing it does falls outside of what views are compared at.
+use Prim.Native.Nat.{ℕ, zero, suc, _/_}
+use mathlib.Core.Bool.{true}
+use mathlib.Core.List.{List, [], _∷_, _++_}
+use mathlib.Core.Option.{Option, none, some}
+use mathlib.Core.Path.{_≡_}
+use lib.Dec.{eqb}
+use lib.ListN.{getD}
+use Rattle.numbers.specs.Choice.{if_then_else_}
+use Rattle.numbers.specs.Limits.{PAGE-WORDS}
+use Rattle.numbers.specs.Packing.{key, slotKey, keyOf, portOf, vmOf, guestOf}
+use Rattle.numbers.specs.declared.Side.{Side}
+use Rattle.numbers.specs.declared.Side.the-variants.{Cpu, Dma}
+use Rattle.numbers.specs.declared.Target.{Target}
+use Rattle.numbers.specs.declared.Target.the-variants.{Idle, Vm}
+use Rattle.numbers.specs.declared.Operation.{Operation}
+use Rattle.numbers.specs.declared.Operation.the-variants.{
+  AddVm,
+  RemoveVm,
+  AssignPage,
+  ReclaimPage,
+  SharePage,
+  UnsharePage,
+  CpuMap,
+  DmaMap,
+  CpuUnmap,
+  DmaUnmap,
+  InsertRegion,
+  RemoveRegion,
+  DmaInsertRegion,
+  DmaRemoveRegion,
+  SwitchCpu,
+  BindDevice,
+  CpuFill,
+  DmaFill,
+  EmptyCpuSlot,
+  EmptyDmaSlot,
+  CpuRead,
+  DmaRead,
+  CpuWrite,
+  DmaWrite,
+  DataBarrier,
+  InstructionBarrier,
+}
+use Rattle.table.specs.Table.{find, place, isFound}
+use Rattle.units.specs.Units.{assignable}
+use Rattle.units.specs.declared.Region.{Region}
+use Rattle.model.specs.State.{Tables, Route, Setup, State}
+use Rattle.model.specs.Effect.{memoryIndex, kept, Control}
+use Rattle.model.specs.Ledger.{reclaimClears}
+use Rattle.model.specs.Regions.{guestIn, pageIn, removeClears}
+use Rattle.model.specs.Ports.{vmOn}
+use Rattle.model.specs.Access.{accessPlace}
+use Rattle.model.specs.Step.{control, carriedOut, regionOf, step}
+use Rattle.model.specs.Upstream.{S2Entry, permsOf, isSome, tlbAt, SoftwareView, HardwareView, softwareView, hardwareView, SameSoftware, SameHardware}
+use Rattle.model.specs.UpstreamStep.{
+  MapStep,
+  UnmapStep,
+  AssignPageStep,
+  ReclaimPageStep,
+  SharePageStep,
+  UnsharePageStep,
+  AddVmStep,
+  RemoveVmStep,
+  InsertRegionStep,
+  RemoveRegionStep,
+  walkOf,
+  tlbOf,
+  withWalk,
+  withActive,
+  withMemory,
+  answerAt,
+  TlbFillStep,
+  UnmapInvalidateStep,
+  HardwareMapStep,
+  ContextSwitchStep,
+  BarrierStep,
+  MemReadStep,
+  MemWriteStep,
+}
+
+-- ---- steps of ours that upstream lacks
+-- a cache forgets one key (N-10, N-11)
+abbrev pub ForgetStep : Side → ℕ → ℕ → ℕ → HardwareView → HardwareView → Type 0
+ForgetStep side port vm gpa h h′ = SameHardware h′ (withWalk side h (walkOf side h) (tlbAt (tlbOf side h) port vm gpa none))
+
+-- a device's cache is filled from its walker: the `fill` of the token machine, in hardware/spec.rs (N-09)
+pub record IommuFillStep (device vm gpa : ℕ) (h h′ : HardwareView) : Type 0 where
+  pub reachable : isSome (h .iommu-s2map vm gpa) ≡ true
+  pub next : SameHardware h′ (withWalk Dma h (h .iommu-s2map) (tlbAt (h .iommu-tlb) device vm gpa (h .iommu-s2map vm gpa)))
+
+-- a CPU runs nothing (N-08)
+abbrev pub IdleStep : ℕ → HardwareView → HardwareView → Type 0
+IdleStep cpu h h′ = SameHardware h′ (withActive h (answerAt (h .active-vm) cpu none))
+
+-- every word of a page becomes zero (N-13)
+abbrev pub zeroAt : Option ℕ → Option ℕ
+zeroAt none = none
+zeroAt (some word) = some 0
+
+abbrev pub clearedAt : (ℕ → Option ℕ) → ℕ → ℕ → Option ℕ
+clearedAt memory page address = if eqb (address / PAGE-WORDS) page then zeroAt (memory address) else memory address
+
+abbrev pub ClearStep : ℕ → HardwareView → HardwareView → Type 0
+ClearStep page h h′ = SameHardware h′ (withMemory h (clearedAt (h .memory) page))
+
+-- ---- what a step is called
+pub data SoftwareCall : Type 0 where
+  map : Side → ℕ → ℕ → S2Entry → SoftwareCall
+  unmap : Side → ℕ → ℕ → SoftwareCall
+  assign-page : ℕ → ℕ → SoftwareCall
+  reclaim-page : ℕ → ℕ → SoftwareCall
+  share-page : ℕ → ℕ → ℕ → SoftwareCall
+  unshare-page : ℕ → ℕ → ℕ → SoftwareCall
+  add-vm : ℕ → SoftwareCall
+  remove-vm : ℕ → SoftwareCall
+  insert-region : Side → Region → SoftwareCall
+  remove-region : Side → Region → SoftwareCall
+
+pub data HardwareCall : Type 0 where
+  tlb-fill : ℕ → ℕ → ℕ → HardwareCall
+  unmap-invalidate : Side → ℕ → ℕ → HardwareCall
+  -- the hardware's map_step
+  reach : Side → ℕ → ℕ → S2Entry → HardwareCall
+  context-switch : ℕ → ℕ → HardwareCall
+  dsb : HardwareCall
+  isb : HardwareCall
+  mem-read : ℕ → HardwareCall
+  mem-write : ℕ → ℕ → HardwareCall
+  -- ours
+  forget : Side → ℕ → ℕ → ℕ → HardwareCall
+  iommu-fill : ℕ → ℕ → ℕ → HardwareCall
+  idle : ℕ → HardwareCall
+  clear : ℕ → HardwareCall
+
+abbrev pub SoftwareStep : Setup → SoftwareCall → SoftwareView → SoftwareView → Type 0
+SoftwareStep setup (map side vm gpa entry) s s′ = MapStep side vm gpa entry s s′
+SoftwareStep setup (unmap side vm gpa) s s′ = UnmapStep side vm gpa s s′
+SoftwareStep setup (assign-page vm page) s s′ = AssignPageStep vm page s s′
+SoftwareStep setup (reclaim-page vm page) s s′ = ReclaimPageStep vm page s s′
+SoftwareStep setup (share-page left right page) s s′ = SharePageStep left right page s s′
+SoftwareStep setup (unshare-page left right page) s s′ = UnsharePageStep left right page s s′
+SoftwareStep setup (add-vm vm) s s′ = AddVmStep vm s s′
+SoftwareStep setup (remove-vm vm) s s′ = RemoveVmStep vm s s′
+SoftwareStep setup (insert-region side region) s s′ = InsertRegionStep (assignable (setup .units) (setup .unitCount) side) side region s s′
+SoftwareStep setup (remove-region side region) s s′ = RemoveRegionStep (assignable (setup .units) (setup .unitCount) side) side region s s′
+
+abbrev pub HardwareStep : HardwareCall → HardwareView → HardwareView → Type 0
+HardwareStep (tlb-fill cpu vm gpa) h h′ = TlbFillStep cpu vm gpa h h′
+HardwareStep (unmap-invalidate side vm gpa) h h′ = UnmapInvalidateStep side vm gpa h h′
+HardwareStep (reach side vm gpa entry) h h′ = HardwareMapStep side vm gpa entry h h′
+HardwareStep (context-switch cpu vm) h h′ = ContextSwitchStep cpu vm h h′
+HardwareStep dsb h h′ = BarrierStep h h′
+HardwareStep isb h h′ = BarrierStep h h′
+HardwareStep (mem-read address) h h′ = MemReadStep address h h′
+HardwareStep (mem-write address value) h h′ = MemWriteStep address value h h′
+HardwareStep (forget side port vm gpa) h h′ = ForgetStep side port vm gpa h h′
+HardwareStep (iommu-fill device vm gpa) h h′ = IommuFillStep device vm gpa h h′
+HardwareStep (idle cpu) h h′ = IdleStep cpu h h′
+HardwareStep (clear page) h h′ = ClearStep page h h′
+
+-- ---- runs: no step leaves an equal view
+pub data SoftwareRun (setup : Setup) : List SoftwareCall → SoftwareView → SoftwareView → Type 0 where
+  stop : {a b : SoftwareView} → SameSoftware b a → SoftwareRun setup [] a b
+  go : {call : SoftwareCall} {calls : List SoftwareCall} {a b c : SoftwareView} → SoftwareStep setup call a b → SoftwareRun setup calls b c →
+      SoftwareRun setup (call ∷ calls) a c
+
+pub data HardwareRun : List HardwareCall → HardwareView → HardwareView → Type 0 where
+  stop : {a b : HardwareView} → SameHardware b a → HardwareRun [] a b
+  go : {call : HardwareCall} {calls : List HardwareCall} {a b c : HardwareView} → HardwareStep call a b → HardwareRun calls b c → HardwareRun (call ∷ calls) a c
+
+-- ---- which steps an operation is, once it is accepted
+abbrev pub entryOf : ℕ → ℕ → ℕ → S2Entry
+entryOf page access generation = record { page = page; access = permsOf access; generation = generation }
+
+abbrev pub softwareCalls : Operation → List SoftwareCall
+softwareCalls (AddVm vm) = add-vm (vm .0) ∷ []
+softwareCalls (RemoveVm vm) = remove-vm (vm .0) ∷ []
+softwareCalls (AssignPage vm page) = assign-page (vm .0) (page .0) ∷ []
+softwareCalls (ReclaimPage vm page) = reclaim-page (vm .0) (page .0) ∷ []
+softwareCalls (SharePage left right page) = share-page (left .0) (right .0) (page .0) ∷ []
+softwareCalls (UnsharePage left right page) = unshare-page (left .0) (right .0) (page .0) ∷ []
+softwareCalls (CpuMap vm guest page access generation) = map Cpu (vm .0) (guest .0) (entryOf (page .0) access generation) ∷ []
+softwareCalls (DmaMap vm guest page access generation) = map Dma (vm .0) (guest .0) (entryOf (page .0) access generation) ∷ []
+softwareCalls (CpuUnmap vm guest) = unmap Cpu (vm .0) (guest .0) ∷ []
+softwareCalls (DmaUnmap vm guest) = unmap Dma (vm .0) (guest .0) ∷ []
+softwareCalls (InsertRegion vm guest page count access) = insert-region Cpu (regionOf vm guest page count access) ∷ []
+softwareCalls (RemoveRegion vm guest page count access) = remove-region Cpu (regionOf vm guest page count access) ∷ []
+softwareCalls (DmaInsertRegion vm guest page count access) = insert-region Dma (regionOf vm guest page count access) ∷ []
+softwareCalls (DmaRemoveRegion vm guest page count access) = remove-region Dma (regionOf vm guest page count access) ∷ []
+softwareCalls (SwitchCpu port target) = []
+softwareCalls (BindDevice port target) = []
+softwareCalls (CpuFill port guest) = []
+softwareCalls (DmaFill port guest) = []
+softwareCalls (EmptyCpuSlot slot) = []
+softwareCalls (EmptyDmaSlot slot) = []
+softwareCalls (CpuRead port guest word) = []
+softwareCalls (DmaRead port guest word) = []
+softwareCalls (CpuWrite port guest word value) = []
+softwareCalls (DmaWrite port guest word value) = []
+softwareCalls DataBarrier = []
+softwareCalls InstructionBarrier = []
+
+-- a present key is unmapped and invalidated first
+abbrev pub mapCalls : Side → Route → ℕ → ℕ → S2Entry → List HardwareCall
+mapCalls side r vm guest entry =
+    if isFound (find keyOf (r .walker) (key vm guest)) then unmap-invalidate side vm guest ∷ reach side vm guest entry ∷ []
+    else reach side vm guest entry ∷ []
+
+-- one step a page, from page k on
+abbrev pub insertCalls : Side → Region → ℕ → ℕ → List HardwareCall
+insertCalls side region k zero = []
+insertCalls side region k (suc n) = reach side (region .vm .0) (guestIn region k) (entryOf (pageIn region k) (region .access) 0) ∷ insertCalls side region (suc k) n
+
+abbrev pub removeCalls : Side → Region → ℕ → ℕ → List HardwareCall
+removeCalls side region k zero = []
+removeCalls side region k (suc n) = unmap-invalidate side (region .vm .0) (guestIn region k) ∷ removeCalls side region (suc k) n
+
+abbrev pub clearCalls : List ℕ → List HardwareCall
+clearCalls [] = []
+clearCalls (page ∷ pages) = clear page ∷ clearCalls pages
+
+-- HardwareView knows no device's VM
+abbrev pub portCalls : Side → ℕ → Target → List HardwareCall
+portCalls Cpu port Idle = idle port ∷ []
+portCalls Cpu port (Vm vm) = context-switch port (vm .0) ∷ []
+portCalls Dma port target = []
+
+abbrev pub fillCall : Side → ℕ → ℕ → ℕ → HardwareCall
+fillCall Cpu port vm gpa = tlb-fill port vm gpa
+fillCall Dma port vm gpa = iommu-fill port vm gpa
+
+abbrev pub forgetCall : Side → ℕ → HardwareCall
+forgetCall side w = forget side (portOf w) (vmOf w) (guestOf w)
+
+-- a full cache gives up the slot at the hand
+abbrev pub fillCalls : Side → Route → ℕ → ℕ → List HardwareCall
+fillCalls side r port guest =
+    let vm = vmOn (r .ports) port in
+    if isFound (place keyOf (r .cache) (slotKey port vm guest)) then fillCall side port vm guest ∷ []
+    else forgetCall side (getD (r .cache) (r .hand) 0) ∷ fillCall side port vm guest ∷ []
+
+-- an empty slot has nothing to forget
+abbrev pub emptyCalls : Side → Route → ℕ → List HardwareCall
+emptyCalls side r slot = let w = getD (r .cache) slot 0 in if eqb w 0 then [] else forgetCall side w ∷ []
+
+abbrev pub addressIn : Route → ℕ → ℕ → ℕ → ℕ
+addressIn r port guest word = let place = accessPlace (r .ports) (r .cache) (r .walker) port guest word in memoryIndex (place .page) (place .word)
+
+abbrev pub hardwareCalls : Tables → Operation → List HardwareCall
+hardwareCalls t (AddVm vm) = []
+hardwareCalls t (RemoveVm vm) = []
+hardwareCalls t (AssignPage vm page) = []
+hardwareCalls t (ReclaimPage vm page) = clearCalls (reclaimClears (t .sets) (vm .0) (page .0))
+hardwareCalls t (SharePage left right page) = []
+hardwareCalls t (UnsharePage left right page) = []
+hardwareCalls t (CpuMap vm guest page access generation) = mapCalls Cpu (t .cpu) (vm .0) (guest .0) (entryOf (page .0) access generation)
+hardwareCalls t (DmaMap vm guest page access generation) = mapCalls Dma (t .dma) (vm .0) (guest .0) (entryOf (page .0) access generation)
+hardwareCalls t (CpuUnmap vm guest) = unmap-invalidate Cpu (vm .0) (guest .0) ∷ []
+hardwareCalls t (DmaUnmap vm guest) = unmap-invalidate Dma (vm .0) (guest .0) ∷ []
+hardwareCalls t (InsertRegion vm guest page count access) = insertCalls Cpu (regionOf vm guest page count access) 0 count
+hardwareCalls t (RemoveRegion vm guest page count access) =
+    removeCalls Cpu (regionOf vm guest page count access) 0 count ++ clearCalls (removeClears Cpu (t .sets) (regionOf vm guest page count access))
+hardwareCalls t (DmaInsertRegion vm guest page count access) = insertCalls Dma (regionOf vm guest page count access) 0 count
+hardwareCalls t (DmaRemoveRegion vm guest page count access) =
+    removeCalls Dma (regionOf vm guest page count access) 0 count ++ clearCalls (removeClears Dma (t .sets) (regionOf vm guest page count access))
+hardwareCalls t (SwitchCpu port target) = portCalls Cpu port target
+hardwareCalls t (BindDevice port target) = portCalls Dma port target
+hardwareCalls t (CpuFill port guest) = fillCalls Cpu (t .cpu) port (guest .0)
+hardwareCalls t (DmaFill port guest) = fillCalls Dma (t .dma) port (guest .0)
+hardwareCalls t (EmptyCpuSlot slot) = emptyCalls Cpu (t .cpu) slot
+hardwareCalls t (EmptyDmaSlot slot) = emptyCalls Dma (t .dma) slot
+hardwareCalls t (CpuRead port guest word) = mem-read (addressIn (t .cpu) port (guest .0) word) ∷ []
+hardwareCalls t (DmaRead port guest word) = mem-read (addressIn (t .dma) port (guest .0) word) ∷ []
+hardwareCalls t (CpuWrite port guest word value) = mem-write (addressIn (t .cpu) port (guest .0) word) value ∷ []
+hardwareCalls t (DmaWrite port guest word value) = mem-write (addressIn (t .dma) port (guest .0) word) value ∷ []
+hardwareCalls t DataBarrier = dsb ∷ []
+hardwareCalls t InstructionBarrier = isb ∷ []
+
+-- ---- the operation is a run of its steps, and of none where it is refused
+pub record Follows (s s′ : State) (calls : List SoftwareCall) (calls′ : List HardwareCall) : Type 0 where
+  pub software : SoftwareRun (s .tables .setup) calls (softwareView (s .tables)) (softwareView (s′ .tables))
+  pub hardware : HardwareRun calls′ (hardwareView s) (hardwareView s′)
+
+-- what the tables decide, carried out
+abbrev pub FollowsControl : State → Control → List SoftwareCall → List HardwareCall → Type 0
+FollowsControl s c calls calls′ = Follows s (carriedOut c (s .memory) .state) (kept (c .answer) [] calls) (kept (c .answer) [] calls′)
+
+abbrev pub FollowsUpstream : State → Operation → Type 0
+FollowsUpstream s operation =
+    let answer = control (s .tables) operation .answer in
+    Follows s (step s operation .state) (kept answer [] (softwareCalls operation)) (kept answer [] (hardwareCalls (s .tables) operation))
