@@ -30,3 +30,4 @@ pub mod Exactly
 pub mod EffectLaws
 pub mod Secret
 pub mod Secrecy
+pub mod SecrecyWorked
