@@ -24,7 +24,7 @@ use Rattle.model.specs.Sequence.{operationIn, stepRow, Progress, after}
 use Rattle.model.specs.Valid.{Valid}
 use Rattle.model.specs.Good.{holdsPage}
 use Rattle.model.specs.Access.{accessAnswer, accessPlace}
-use Rattle.model.specs.Secrecy.{PrivateTo, SameButValue, equal, cpu-value, stop, other, Near, alike, stores, Asked, Premise, Kept}
+use Rattle.model.specs.Secrecy.{PrivateTo, equal, cpu-value, stop, other, Near, alike, stores, Asked, Premise, Kept}
 use Rattle.model.proofs.Computes.{computes}
 use Rattle.model.proofs.Worked.{Line, row, _⟼_, heardIn, answers, eightPages, lent, started}
 use Rattle.model.proofs.ViewLaws.{no-edge-on}

@@ -2,7 +2,7 @@
 -- agree outside the private pages still do, and a page that stays private changes only by a member's own write.
 use Prim.{tt}
 use Prim.Native.Nat.{ℕ, _<_}
-use mathlib.Core.Bool.{Bool, true, false, true≢false}
+use mathlib.Core.Bool.{Bool, true, false}
 use mathlib.Core.List.{List, [], _∷_}
 use mathlib.Core.Logic.{_⊎_, inl, inr, ⊎-elim}
 use mathlib.Core.Path.{_≡_, refl, sym, _∙_}
@@ -16,7 +16,6 @@ use Rattle.numbers.specs.declared.Operation.the-variants.{SharePage}
 use Rattle.table.specs.ScanLaws.{cases, equal}
 use Rattle.table.specs.Table.{Has}
 use Rattle.model.specs.State.{Tables}
-use Rattle.model.specs.Views.{holdsDma}
 use Rattle.model.specs.Effect.{wordIn, Place, Store, Effect, reads, writes, clears, stored, loaded, apply, Control, accepted}
 use Rattle.model.specs.Sequence.{vmId, physPage}
 use Rattle.model.specs.Step.{answerWith}
