@@ -67,6 +67,10 @@ after-next : (rows : List ℕ) (k : ℕ) (p : Progress) → after rows (suc k) p
 unfolding after
 after-next rows k p = let z : 0 + k ≡ k = omega arith in rw z at (repeat-last (turn rows) 0 k p)
 
+-- ---- a word that stays
+abbrev pub Unchanged : State → State → ℕ → ℕ → Type 0
+Unchanged s s′ page word = wordIn (s′ .memory) page word ≡ wordIn (s .memory) page word
+
 module _ (members : ℕ → Bool) where
   near-answer : {t : Tables} {effect effect′ : Effect} → Near members (Private members) t effect effect′ → (memory : List ℕ) (x : Answer) → answerWith effect memory x ≡ answerWith effect′ memory x
   near-answer alike memory x = refl
@@ -131,9 +135,6 @@ module _ (members : ℕ → Bool) where
       states (suc k) h = rw (after-next rows k p, after-next rows′ k q) (row k (omega arith) (states k (omega arith)) .states)
 
   -- ---- within one run: a page private before and after changes only by a member's own write
-  abbrev Unchanged : State → State → ℕ → ℕ → Type 0
-  Unchanged s s′ page word = wordIn (s′ .memory) page word ≡ wordIn (s .memory) page word
-
   known-own-write : (s : State) → Valid s → (found : Option Operation) (page word : ℕ) → word < PAGE-WORDS → Private members (s .tables) page → Private members (stepKnown s found .state .tables) page →
       Unchanged s (stepKnown s found .state) page word ⊎ ((vm : ℕ) × (members vm ≡ true) × Wrote (effectIn (s .tables) found) vm page)
   unfolding step
@@ -206,7 +207,7 @@ module _ (vm : ℕ) where
       (premise-as (eqb vm) (PrivateTo vm) (Private (eqb vm)) set-of p q rows rows′ count v asked))
 
   pub own-write-one : (s : State) → Valid s → (row : List ℕ) (page word : ℕ) → word < PAGE-WORDS → PrivateTo vm (s .tables) page → PrivateTo vm (stepRow s row .state .tables) page →
-      Unchanged (eqb vm) s (stepRow s row .state) page word ⊎ Wrote (effectIn (s .tables) (operationIn row)) vm page
+      Unchanged s (stepRow s row .state) page word ⊎ Wrote (effectIn (s .tables) (operationIn row)) vm page
   own-write-one s v row page word h p p′ =
       ⊎-elim inl (λ w. let (who, is, wrote) = w in inr (rw (← eqb-true vm who is) at wrote))
       (own-write (eqb vm) s v row page word h (set-of (s .tables) (v .tables) page p) (set-of _ (row-valid s v row .tables) page p′))
