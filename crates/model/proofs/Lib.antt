@@ -48,3 +48,4 @@ pub mod UpstreamRegionViews
 pub mod UpstreamRegionSets
 pub mod UpstreamRegions
 pub mod UpstreamSteps
+pub mod SecrecyWorked

@@ -7,13 +7,11 @@ use mathlib.Core.Option.{Option, none, some}
 use mathlib.Core.Path.{_≡_, refl, sym, ap, subst, _∙_}
 use native.Mathlib.Omega.{arith}
 use lib.Dec.{eqb}
-use lib.ListN.{length}
 use borrow.Author.Tests.{eqb-true, eq-eqb}
 use Rattle.numbers.specs.Limits.{PAGE-WORDS}
 use Rattle.numbers.specs.Packing.{leftOf, rightOf}
 use Rattle.numbers.specs.declared.Answer.{Answer}
 use Rattle.numbers.specs.declared.Answer.the-variants.{Accepted, Refused}
-use Rattle.numbers.specs.declared.GuestPage.{GuestPage}
 use Rattle.numbers.specs.declared.Side.{Side}
 use Rattle.numbers.specs.declared.Side.the-variants.{Cpu, Dma}
 use Rattle.numbers.specs.declared.Operation.{Operation}
@@ -25,7 +23,7 @@ use Rattle.model.specs.Valid.{ValidTables, Valid}
 use Rattle.model.specs.MemoryLaws.{length-applied}
 use Rattle.model.specs.ShapeLaws.{control-shape}
 use Rattle.model.specs.Good.{Wrote}
-use Rattle.model.specs.Secrecy.{PrivateTo, Private, effectIn, SameButValue, equal, cpu-value, dma-value, Shared, withoutWord, NearStores, stop, same, other, Near, alike, stores, Differ, Seen, Alike, SameAnswer, Asked, Premise, Kept}
+use Rattle.model.specs.Secrecy.{PrivateTo, Private, effectIn, SameButValue, equal, cpu-value, dma-value, Shared, withoutWord, NearStores, stop, same, other, Near, alike, stores, Seen, Alike, SameAnswer, Asked, Premise, Kept}
 use Rattle.model.proofs.Repeats.{repeat-last}
 use Rattle.model.proofs.Kept.{good, row-valid, after-valid}
 use Rattle.model.proofs.EffectLaws.{inside}
@@ -68,6 +66,10 @@ after-none rows p = refl
 after-next : (rows : List ℕ) (k : ℕ) (p : Progress) → after rows (suc k) p ≡ turn rows k (after rows k p)
 unfolding after
 after-next rows k p = let z : 0 + k ≡ k = omega arith in rw z at (repeat-last (turn rows) 0 k p)
+
+-- ---- a word that stays
+abbrev pub Unchanged : State → State → ℕ → ℕ → Type 0
+Unchanged s s′ page word = wordIn (s′ .memory) page word ≡ wordIn (s .memory) page word
 
 module _ (members : ℕ → Bool) where
   near-answer : {t : Tables} {effect effect′ : Effect} → Near members (Private members) t effect effect′ → (memory : List ℕ) (x : Answer) → answerWith effect memory x ≡ answerWith effect′ memory x
@@ -133,9 +135,6 @@ module _ (members : ℕ → Bool) where
       states (suc k) h = rw (after-next rows k p, after-next rows′ k q) (row k (omega arith) (states k (omega arith)) .states)
 
   -- ---- within one run: a page private before and after changes only by a member's own write
-  abbrev Unchanged : State → State → ℕ → ℕ → Type 0
-  Unchanged s s′ page word = wordIn (s′ .memory) page word ≡ wordIn (s .memory) page word
-
   known-own-write : (s : State) → Valid s → (found : Option Operation) (page word : ℕ) → word < PAGE-WORDS → Private members (s .tables) page → Private members (stepKnown s found .state .tables) page →
       Unchanged s (stepKnown s found .state) page word ⊎ ((vm : ℕ) × (members vm ≡ true) × Wrote (effectIn (s .tables) found) vm page)
   unfolding step
@@ -208,7 +207,7 @@ module _ (vm : ℕ) where
       (premise-as (eqb vm) (PrivateTo vm) (Private (eqb vm)) set-of p q rows rows′ count v asked))
 
   pub own-write-one : (s : State) → Valid s → (row : List ℕ) (page word : ℕ) → word < PAGE-WORDS → PrivateTo vm (s .tables) page → PrivateTo vm (stepRow s row .state .tables) page →
-      Unchanged (eqb vm) s (stepRow s row .state) page word ⊎ Wrote (effectIn (s .tables) (operationIn row)) vm page
+      Unchanged s (stepRow s row .state) page word ⊎ Wrote (effectIn (s .tables) (operationIn row)) vm page
   own-write-one s v row page word h p p′ =
       ⊎-elim inl (λ w. let (who, is, wrote) = w in inr (rw (← eqb-true vm who is) at wrote))
       (own-write (eqb vm) s v row page word h (set-of (s .tables) (v .tables) page p) (set-of _ (row-valid s v row .tables) page p′))

@@ -2,7 +2,7 @@
 -- agree outside the private pages still do, and a page that stays private changes only by a member's own write.
 use Prim.{tt}
 use Prim.Native.Nat.{ℕ, _<_}
-use mathlib.Core.Bool.{Bool, true, false, true≢false}
+use mathlib.Core.Bool.{Bool, true, false}
 use mathlib.Core.List.{List, [], _∷_}
 use mathlib.Core.Logic.{_⊎_, inl, inr, ⊎-elim}
 use mathlib.Core.Path.{_≡_, refl, sym, _∙_}
@@ -16,7 +16,6 @@ use Rattle.numbers.specs.declared.Operation.the-variants.{SharePage}
 use Rattle.table.specs.ScanLaws.{cases, equal}
 use Rattle.table.specs.Table.{Has}
 use Rattle.model.specs.State.{Tables}
-use Rattle.model.specs.Views.{holdsDma}
 use Rattle.model.specs.Effect.{wordIn, Place, Store, Effect, reads, writes, clears, stored, loaded, apply, Control, accepted}
 use Rattle.model.specs.Sequence.{vmId, physPage}
 use Rattle.model.specs.Step.{answerWith}
@@ -34,8 +33,26 @@ pub record Sound (t : Tables) (operation : Operation) (c : Control) : Type 0 whe
   pub inside : Inside (c .effect)
   pub setup : c .tables .setup ≡ t .setup
 
+-- ---- stores of the same words, whose values differ only on private pages
+module _ (members : ℕ → Bool) (t : Tables) (vm : ℕ) where
+  same-stores : {xs ys : List Store} → NearStores members (Private members) t vm xs ys → StoresInside xs → (page word : ℕ) → word < PAGE-WORDS → (Private members t page → ⊥) →
+      (c d : List ℕ) → length c ≡ length d → wordIn c page word ≡ wordIn d page word → wordIn (stored xs c) page word ≡ wordIn (stored ys d) page word
+  unfolding stored
+  same-stores stop i page word h n c d l e = e
+  same-stores (same {x = x} near) i page word h n c d l e =
+      same-stores near (i .1) page word h n _ _ (length-set c _ _ ∙ l ∙ sym (length-set d _ _)) (store-both c d _ (x .value) page word l e)
+  same-stores (other {place = place} {a = x} {b = y} m p near) i page word h n c d l e =
+      let apart : place .page ≡ page → ⊥ = λ q. n (rw q at p) in
+      same-stores near (i .1) page word h n _ _ (length-set c _ _ ∙ l ∙ sym (length-set d _ _))
+      (store-elsewhere c (place .page) (place .word) x page word (i .0) h apart ∙ e ∙ sym (store-elsewhere d (place .page) (place .word) y page word (i .0) h apart))
+
+  all-same : (xs : List Store) → NearStores members (Private members) t vm xs xs
+  all-same [] = stop
+  all-same (x ∷ xs) = same (all-same xs)
+
+-- ---- a step from valid tables
 module _ (members : ℕ → Bool) (t : Tables) (v : ValidTables t) where
-  -- ---- who reaches a private page is a member
+  -- who reaches a private page is a member
   pub confined : (vm page : ℕ) → Private members t page → Reaches t vm page → members vm ≡ true
   confined vm page p r = go (r .way)
     where
@@ -96,27 +113,11 @@ module _ (members : ℕ → Bool) (t : Tables) (v : ValidTables t) where
                 let left : members (leftOf w) ≡ true = confined (leftOf w) page p (record { vm-ok = below; page-ok = p .page-ok; way = own held }) in
                 ⊎-elim (λ right. (left, right)) (λ outside. absurd (differ (rw on at (shown (leftOf w) (rightOf w) (pageOf w) word (m .share) (m .agreed) left outside h)))) (cases (members (rightOf w)))
 
-        -- stores of the same words, whose values differ only on private pages
-        same-stores : (vm : ℕ) {xs ys : List Store} → NearStores members (Private members) t vm xs ys → StoresInside xs → (page word : ℕ) → word < PAGE-WORDS → (Private members t page → ⊥) →
-            (c d : List ℕ) → length c ≡ length d → wordIn c page word ≡ wordIn d page word → wordIn (stored xs c) page word ≡ wordIn (stored ys d) page word
-        unfolding stored
-        same-stores vm stop i page word h n c d l e = e
-        same-stores vm (same {x = x} near) i page word h n c d l e =
-            same-stores vm near (i .1) page word h n _ _ (length-set c _ _ ∙ l ∙ sym (length-set d _ _)) (store-both c d _ (x .value) page word l e)
-        same-stores vm (other {place = place} {a = x} {b = y} m p near) i page word h n c d l e =
-            let apart : place .page ≡ page → ⊥ = λ q. n (rw q at p) in
-            same-stores vm near (i .1) page word h n _ _ (length-set c _ _ ∙ l ∙ sym (length-set d _ _))
-            (store-elsewhere c (place .page) (place .word) x page word (i .0) h apart ∙ e ∙ sym (store-elsewhere d (place .page) (place .word) y page word (i .0) h apart))
-
-        all-same : (vm : ℕ) (xs : List Store) → NearStores members (Private members) t vm xs xs
-        all-same vm [] = stop
-        all-same vm (x ∷ xs) = same (all-same vm xs)
-
         written : (vm : ℕ) {xs ys : List Store} → length a ≡ length b → SoundWith (writes vm xs) → NearStores members (Private members) t vm xs ys → (page word : ℕ) → word < PAGE-WORDS → (Private members new page → ⊥) →
             wordIn (stored xs a) page word ≡ wordIn (stored ys b) page word
         written vm size s near page word h n =
             let before : Private members t page → ⊥ = λ p. n (rw (s .good .still tt) p) in
-            same-stores vm near (s .inside) page word h before a b size (words page word h before)
+            same-stores members t vm near (s .inside) page word h before a b size (words page word h before)
 
         -- near effects leave every word outside the pages then private equal
         pub same-words : {effect effect′ : Effect} → length a ≡ length b → SoundWith effect → Near members (Private members) t effect effect′ → (page word : ℕ) → word < PAGE-WORDS → (Private members new page → ⊥) →
@@ -127,7 +128,7 @@ module _ (members : ℕ → Bool) (t : Tables) (v : ValidTables t) where
           where
             go : (effect : Effect) → SoundWith effect → wordIn (apply effect a) page word ≡ wordIn (apply effect b) page word
             go (reads vm places) s = words page word h (λ p. n (rw (s .good .still tt) p))
-            go (writes vm xs) s = written vm size s (all-same vm xs) page word h n
+            go (writes vm xs) s = written vm size s (all-same members t vm xs) page word h n
             go (clears pages) s = cleared-agrees page word h pages a b (⊎-elim inr (λ differ. ⊎-elim inl (λ uncleared. inr (stayed differ uncleared)) (listed page pages)) (equal (wordIn a page word) (wordIn b page word)))
               where
                 stayed : (wordIn a page word ≡ wordIn b page word → ⊥) → (PageIn page pages → ⊥) → wordIn a page word ≡ wordIn b page word

@@ -17,7 +17,7 @@ use Rattle.table.specs.Table.{Has}
 use Rattle.model.specs.State.{Tables, State}
 use Rattle.model.specs.Effect.{Place, Store, Effect, reads, writes, clears, quiet, wordIn, accepted}
 use Rattle.model.specs.Step.{control}
-use Rattle.model.specs.Sequence.{operationIn, stepRow, rowAt, Progress, after}
+use Rattle.model.specs.Sequence.{vmId, physPage, operationIn, stepRow, rowAt, Progress, after}
 use Rattle.model.specs.Good.{holdsPage, PlaceOn}
 
 -- ---- private pages
@@ -50,8 +50,8 @@ pub data SameButValue : Option Operation → Option Operation → Type 0 where
 
 -- a share that the tables accept: the two VMs and the page
 pub record Shared (t : Tables) (operation : Option Operation) (left right page : ℕ) : Type 0 where
-  pub share : operation ≡ some (SharePage (record { 0 = left }) (record { 0 = right }) (record { 0 = page }))
-  pub agreed : control t (SharePage (record { 0 = left }) (record { 0 = right }) (record { 0 = page })) .answer ≡ accepted
+  pub share : operation ≡ some (SharePage (vmId left) (vmId right) (physPage page))
+  pub agreed : control t (SharePage (vmId left) (vmId right) (physPage page)) .answer ≡ accepted
 
 -- the answer but for the word that was read
 abbrev pub withoutWord : Answer → Answer
@@ -93,7 +93,7 @@ module _ (members : ℕ → Bool) (Secret : Tables → ℕ → Type 0) where
     pub but-word : withoutWord x ≡ withoutWord y
     pub whole : (Seen t (effectIn t operation) → ⊥) → x ≡ y
 
-  -- what is asked of row k in the states before it, and what holds of its answers
+  -- what is asked of two rows, in the states before them
   pub record Asked (a b : State) (row row′ : List ℕ) : Type 0 where
     pub differ : Differ (a .tables) (operationIn row) (operationIn row′)
     -- a page that a member shares with a VM outside holds equal words in both runs
