@@ -2,7 +2,7 @@ use borrow.Author.Needs.{needs}
 use mathlib.Core.Bool.{true≢false}
 use mathlib.Core.Path.{sym, _∙_}
 use native.Mathlib.Omega.{arith}
-use Rattle.judge.specs.DecideLaws.{passed, failed}
+use Rattle.numbers.specs.DecidesLaws.{passed, failed}
 use Rattle.judge.specs.KnownLaws.{knows-below}
 use Rattle.judge.specs.SharingLaws.{parted}
 use Rattle.judge.specs.MarkLaws.{marked-empty, marked-bad, marked-new}
