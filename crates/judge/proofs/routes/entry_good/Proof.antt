@@ -1,7 +1,7 @@
 use borrow.Author.Needs.{needs}
 use native.Mathlib.Omega.{arith}
 use Rattle.numbers.specs.DecidesLaws.{says-yes, says-no, passed, failed, decides-as, decides-itself}
-use Rattle.judge.specs.KnownLaws.{knows-below}
+use Rattle.model.specs.KnownLaws.{knows-below}
 use Rattle.judge.proofs.routes.entry_good.Statement.{statement}
 use Rattle.judge.proofs.routes.entry_good.Tie as tie
 

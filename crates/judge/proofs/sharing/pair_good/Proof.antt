@@ -1,7 +1,7 @@
 use borrow.Author.Needs.{needs}
 use native.Mathlib.Omega.{arith}
 use Rattle.numbers.specs.DecidesLaws.{decides-as, decides-or, decides-itself, passed, failed, says-no}
-use Rattle.judge.specs.KnownLaws.{knows-below}
+use Rattle.model.specs.KnownLaws.{knows-below}
 use Rattle.judge.proofs.sharing.pair_good.Statement.{statement}
 use Rattle.judge.proofs.sharing.pair_good.Tie as tie
 
