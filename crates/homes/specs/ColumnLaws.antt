@@ -6,16 +6,15 @@ use mathlib.Core.Logic.{_⊎_, inl, inr, ⊎-elim}
 use mathlib.Core.Path.{_≡_, sym, _∙_}
 use native.Mathlib.Numerals.{add-one}
 use native.Mathlib.Omega.{arith}
-use borrow.Author.Tests.{eq-eqb, eqb-true}
 use lib.Bits.{bitOr, or-lt, or-zero-l}
 use lib.Dec.{eqb}
 use lib.ListN.{getD}
 use lib.Pow.{pow-pos}
 use Rattle.numbers.specs.Decides.{Decides}
+use Rattle.numbers.specs.DecidesLaws.{same-answer, decides-as, decides-equal, decides-and}
 use Rattle.numbers.specs.Limits.{VMS}
 use Rattle.pages.specs.Bits.{hasBit}
-use Rattle.pages.specs.BitLaws.{decide, equal-or}
-use Rattle.model.specs.EarlyLaws.{both}
+use Rattle.pages.specs.BitLaws.{equal-or}
 use Rattle.model.specs.Views.{knows}
 use Rattle.homes.specs.Columns.{poolWord, sharedWord, cpuWord, dmaWord, homeWord, homesOf, belowWord, spanWord, Apart, Once, Union, VmGood, VmsGood, HomesGood, ColumnGood}
 use Rattle.homes.specs.WordLaws.{hasBit-zero, same-bits, or-either, either-or}
@@ -46,10 +45,7 @@ module _ (f : ℕ → ℕ) where
       through a b j l r s t = let (i, h, x) = r .from j l t in s .has i j h l x
 
       same : (j : ℕ) → j < 64 → hasBit w j ≡ hasBit v j
-      same j l =
-          ⊎-elim (λ t. t ∙ sym (through w v j l u u′ t))
-          (λ g. g ∙ ⊎-elim (λ t. absurd (true≢false (sym (through v w j l u′ u t) ∙ g))) (λ g′. sym g′) (decide (hasBit v j)))
-          (decide (hasBit w j))
+      same j l = same-answer (through w v j l u u′) (through v w j l u′ u)
 
   once-one : Once f 1
   once-one i i′ j h h′ l t t′ = omega arith
@@ -137,18 +133,14 @@ module _ (known : ℕ) (sets : List ℕ) (k : ℕ) where
   pass-end n held dmaHeld all r h =
       let e : n ≡ VMS = omega arith in
       let r′ : Passing known sets k VMS held dmaHeld = rw (← e) r in
-      record {
-        sound = λ t. record { vms = r′ .vms; whole = rw (← eqb-true held all t) (r′ .homes) };
-        complete = λ g. eq-eqb held all (union-same (homeWord sets k) (homesOf VMS) held all (r′ .homes) (g .whole));
-      }
+      decides-as (decides-equal held all)
+      (λ q. record { vms = r′ .vms; whole = rw (← q) (r′ .homes) })
+      (λ g. union-same (homeWord sets k) (homesOf VMS) held all (r′ .homes) (g .whole))
 
 -- ---- the two tests of a column
 pub column-decides : (pages base count known : ℕ) (sets : List ℕ) (k : ℕ) {t : Bool} → Decides t (HomesGood known sets k (belowWord pages k)) →
     Decides (eqb (sharedWord sets k) (spanWord base count k) && t) (ColumnGood pages base count known sets k)
-column-decides pages base count known sets k {t} d =
-    let shared = sharedWord sets k in
-    let span = spanWord base count k in
-    record {
-      sound = λ e. let (x, y) = both (eqb shared span) t e in record { span = eqb-true shared span x; homes = d .sound y };
-      complete = λ g. rw (eq-eqb shared span (g .span), d .complete (g .homes));
-    }
+column-decides pages base count known sets k d =
+    decides-as (decides-and (decides-equal (sharedWord sets k) (spanWord base count k)) d)
+    (λ (x, y). record { span = x; homes = y })
+    (λ g. (g .span, g .homes))

@@ -5,11 +5,12 @@ use mathlib.Core.Logic.{_⊎_, inl, inr, ⊎-elim}
 use mathlib.Core.Path.{_≡_, refl, sym, _∙_}
 use native.Mathlib.Nat.{div-eq-of-lt, pow-suc, lt-of-lt-of-le}
 use native.Mathlib.Omega.{arith}
-use borrow.Author.Tests.{eq-eqb, eqb-true, lt-ltb, le-ltb, le-leb, lt-leb}
+use borrow.Author.Tests.{lt-ltb, le-ltb, le-leb, lt-leb}
 use lib.Bits.{bitAnd, bitOr, bitXor, differ, and-step, or-step, xor-step, and-shr, or-shr, xor-shr, and-lt, or-lt, xor-lt}
 use lib.Dec.{eqb, ltb}
 use lib.Pow.{pow-add, pow-pos, pow-mono, ones-lt, ones-split, high, shr-shr}
 use Rattle.numbers.specs.Decides.{Decides}
+use Rattle.numbers.specs.DecidesLaws.{decides-as, decides-itself, decides-equal, decides-and, decides-or}
 use Rattle.pages.specs.Bits.{bit, hasBit}
 use Rattle.pages.specs.BitLaws.{decide, bit-lt, below-or}
 use Rattle.model.specs.EarlyLaws.{both}
@@ -115,10 +116,6 @@ pub span-fits : (base count k : ℕ) → spanWord base count k < 2 ^ 64
 span-fits base count k = xor-lt 64 (belowWord (base + count) k) (belowWord base k) (below-fits (base + count) k) (below-fits base k)
 
 -- ---- a bit in both, in either, in none
-either : (a b : Bool) → (a || b) ≡ true → (a ≡ true) ⊎ (b ≡ true)
-either true b e = inl refl
-either false b e = inr e
-
 module _ (w v j : ℕ) where
   pub and-both : hasBit (bitAnd w v) j ≡ true → (hasBit w j ≡ true) × (hasBit v j ≡ true)
   and-both t = both (hasBit w j) (hasBit v j) (sym (hasBit-and w v j) ∙ t)
@@ -127,7 +124,7 @@ module _ (w v j : ℕ) where
   both-and a b = hasBit-and w v j ∙ rw (a, b)
 
   pub or-either : hasBit (bitOr w v) j ≡ true → (hasBit w j ≡ true) ⊎ (hasBit v j ≡ true)
-  or-either t = either (hasBit w j) (hasBit v j) (sym (hasBit-or w v j) ∙ t)
+  or-either t = decides-or (decides-itself (hasBit w j)) (decides-itself (hasBit v j)) .sound (sym (hasBit-or w v j) ∙ t)
 
   pub either-or : (hasBit w j ≡ true) ⊎ (hasBit v j ≡ true) → hasBit (bitOr w v) j ≡ true
   either-or s = hasBit-or w v j ∙ ⊎-elim (λ t. rw t) (λ t. rw t (or-true (hasBit w j))) s
@@ -139,24 +136,18 @@ none-zero : (w : ℕ) → w < 2 ^ 64 → ((j : ℕ) → j < 64 → hasBit w j �
 none-zero w a h = same-bits w 0 a (pow-pos 64) (λ j l. ⊎-elim (λ t. absurd (h j l t)) (λ f. f ∙ sym (hasBit-zero j)) (decide (hasBit w j)))
 
 -- ---- what the tests of words decide
--- a failed test of what a statement implies refutes the statement
-pub refuted : {t : Bool} {P Q : Type 0} → Decides t Q → t ≡ false → (P → Q) → Decides false P
-refuted d e f = record { sound = λ t. absurd (true≢false (sym t)); complete = λ p. absurd (true≢false (sym (d .complete (f p)) ∙ e)) }
-
 pub apart-decides : (w v : ℕ) → w < 2 ^ 64 → v < 2 ^ 64 → Decides (eqb (bitAnd w v) 0) (Apart w v)
 apart-decides w v a b =
-    record {
-      sound = λ t j l x y. zero-none (bitAnd w v) j (eqb-true (bitAnd w v) 0 t) (both-and w v j x y);
-      complete = λ h. eq-eqb (bitAnd w v) 0 (none-zero (bitAnd w v) (and-lt 64 w v a b) (λ j l t. let (x, y) = and-both w v j t in h j l x y));
-    }
+    decides-as (decides-equal (bitAnd w v) 0)
+    (λ z j l x y. zero-none (bitAnd w v) j z (both-and w v j x y))
+    (λ h. none-zero (bitAnd w v) (and-lt 64 w v a b) (λ j l t. let (x, y) = and-both w v j t in h j l x y))
 
 -- the bits of w are among those of v
 pub within-decides : (w v : ℕ) → w < 2 ^ 64 → v < 2 ^ 64 → Decides (eqb (bitAnd w v) w) ((j : ℕ) → j < 64 → hasBit w j ≡ true → hasBit v j ≡ true)
 within-decides w v a b =
-    record {
-      sound = λ t j l x. and-both w v j (rw (eqb-true (bitAnd w v) w t) x) .1;
-      complete = λ h. eq-eqb (bitAnd w v) w (same-bits (bitAnd w v) w (and-lt 64 w v a b) a (λ j l. hasBit-and w v j ∙ kept h j l));
-    }
+    decides-as (decides-equal (bitAnd w v) w)
+    (λ e j l x. and-both w v j (rw e x) .1)
+    (λ h. same-bits (bitAnd w v) w (and-lt 64 w v a b) a (λ j l. hasBit-and w v j ∙ kept h j l))
   where
     kept : ((j : ℕ) → j < 64 → hasBit w j ≡ true → hasBit v j ≡ true) → (j : ℕ) → j < 64 → (hasBit w j && hasBit v j) ≡ hasBit w j
     kept h j l = ⊎-elim (λ (t : hasBit w j ≡ true). rw (h j l t, t)) (λ f. rw f) (decide (hasBit w j))
@@ -164,32 +155,20 @@ within-decides w v a b =
 -- w has no bit unless t
 pub unless-decides : (t : Bool) (w : ℕ) → w < 2 ^ 64 → Decides (t || eqb w 0) ((j : ℕ) → j < 64 → hasBit w j ≡ true → t ≡ true)
 unless-decides t w a =
-    record {
-      sound = λ s j l x. ⊎-elim (λ y. y) (λ z. absurd (zero-none w j (eqb-true w 0 z) x)) (either t (eqb w 0) s);
-      complete = λ h. ⊎-elim (λ y. rw y) (λ (f : t ≡ false). rw (none-zero w a (λ j l x. true≢false (sym (h j l x) ∙ f)), f)) (decide t);
-    }
+    decides-as (decides-or (decides-itself t) (decides-equal w 0))
+    (λ s j l x. ⊎-elim (λ y. y) (λ z. absurd (zero-none w j z x)) s)
+    (λ h. ⊎-elim inl (λ f. inr (none-zero w a (λ j l x. true≢false (sym (h j l x) ∙ f)))) (decide t))
 
+-- the four tests of a VM
 module _ (known : Bool) (pool held dmaHeld cpu dma : ℕ) (a : pool < 2 ^ 64) (b : held < 2 ^ 64) (c : dmaHeld < 2 ^ 64) (d : cpu < 2 ^ 64) (e : dma < 2 ^ 64) where
   abbrev vmTest : Bool
   vmTest = eqb (bitAnd held cpu) 0 && eqb (bitAnd dmaHeld dma) 0 && eqb (bitAnd dma (bitOr cpu pool)) dma && (known || eqb (bitOr cpu dma) 0)
 
-  vm-sound : vmTest ≡ true → VmGood known pool held dmaHeld cpu dma
-  vm-sound t =
-      let (r, u) = both _ (known || eqb (bitOr cpu dma) 0) t in
-      let (s, z) = both _ (eqb (bitAnd dma (bitOr cpu pool)) dma) r in
-      let (x, y) = both (eqb (bitAnd held cpu) 0) (eqb (bitAnd dmaHeld dma) 0) s in
-      record {
-        one-home = apart-decides held cpu b d .sound x;
-        one-dma = apart-decides dmaHeld dma c e .sound y;
-        dma-home = λ j l h. or-either cpu pool j (within-decides dma (bitOr cpu pool) e (or-lt 64 cpu pool d a) .sound z j l h);
-        holder-known = λ j l h. unless-decides known (bitOr cpu dma) (or-lt 64 cpu dma d e) .sound u j l (either-or cpu dma j h);
-      }
-
-  vm-complete : VmGood known pool held dmaHeld cpu dma → vmTest ≡ true
-  vm-complete g =
-      let z = within-decides dma (bitOr cpu pool) e (or-lt 64 cpu pool d a) .complete (λ j l h. either-or cpu pool j (g .dma-home j l h)) in
-      let u = unless-decides known (bitOr cpu dma) (or-lt 64 cpu dma d e) .complete (λ j l h. g .holder-known j l (or-either cpu dma j h)) in
-      rw (apart-decides held cpu b d .complete (g .one-home), apart-decides dmaHeld dma c e .complete (g .one-dma), z, u)
-
   pub vm-decides : Decides vmTest (VmGood known pool held dmaHeld cpu dma)
-  vm-decides = record { sound = vm-sound; complete = vm-complete }
+  vm-decides =
+      decides-as
+      (decides-and
+      (decides-and (decides-and (apart-decides held cpu b d) (apart-decides dmaHeld dma c e)) (within-decides dma (bitOr cpu pool) e (or-lt 64 cpu pool d a)))
+      (unless-decides known (bitOr cpu dma) (or-lt 64 cpu dma d e)))
+      (λ (((x, y), z), u). record { one-home = x; one-dma = y; dma-home = λ j l h. or-either cpu pool j (z j l h); holder-known = λ j l h. u j l (either-or cpu dma j h) })
+      (λ g. (((g .one-home, g .one-dma), λ j l h. either-or cpu pool j (g .dma-home j l h)), λ j l h. g .holder-known j l (or-either cpu dma j h)))

@@ -2,7 +2,6 @@
 pub mod Parts
 pub mod Sharing
 pub mod DecideLaws
-pub mod KnownLaws
 pub mod MoreLaws
 pub mod SharingLaws
 pub mod MarkLaws

@@ -10,6 +10,7 @@ use borrow.Author.Tests.{eq-eqb, eqb-true, not-false}
 use lib.Dec.{eqb}
 use lib.ListN.{length, getD, take, replicate, length-replicate}
 use lib.Seq.{take-all}
+use Rattle.numbers.specs.DecidesLaws.{says-yes, says-no, passed, failed, decides-or, decides-equal, same-answer}
 use Rattle.numbers.specs.Limits.{PAGES, VMS, SET-WORDS}
 use Rattle.numbers.specs.Packing.{leftOf, rightOf, pageOf, filledOf, pairKeyOf}
 use Rattle.table.specs.ScanLaws.{cases, equal, has-any, any-true}
@@ -20,7 +21,6 @@ use Rattle.pages.specs.RowLaws.{holds-add-same, holds-add-other, length-add}
 use Rattle.model.specs.EarlyLaws.{both}
 use Rattle.model.specs.Valid.{KnownGood, PairGood, PairsGood}
 use Rattle.model.specs.Views.{owns, isFilled, joins, onPage, shares}
-use Rattle.judge.specs.DecideLaws.{says-yes, says-no, passed, failed, decides-either, decides-same, same-answer}
 use Rattle.judge.specs.MoreLaws.{take-more, has-take, has-more-old, has-more-new, has-more-inv, distinct-more}
 use Rattle.judge.specs.Parts.{NotEmpty}
 use Rattle.judge.specs.Sharing.{OneOwner, borrowerOf, Marked, Marks, Marking, Lends, PairsJudged}
@@ -194,7 +194,7 @@ module _ (pages known : ℕ) (sets : List ℕ) (most : pages ≤ PAGES) (known-g
     mark-shared t =
         let (w, h, b, q) = marks .only vm page (omega arith) t in
         let (o, a) = parted pages known sets w known-good (good .each w h) in
-        let e = decides-either (decides-same (leftOf w) vm) (decides-same (rightOf w) vm) .complete (rw b at (is-end sets w o a)) in
+        let e = decides-or (decides-equal (leftOf w) vm) (decides-equal (rightOf w) vm) .complete (rw b at (is-end sets w o a)) in
         has-any (λ w. joins vm w && onPage page w) pairs w h (rw (eq-eqb (filledOf w) 1 (good .each w h .filled), e, eq-eqb (pageOf w) page q))
 
     -- the VM is not the owner's end, so it is the borrower's
@@ -211,7 +211,7 @@ module _ (pages known : ℕ) (sets : List ℕ) (most : pages ≤ PAGES) (known-g
         let (w, h, s) = any-true (λ w. joins vm w && onPage page w) pairs refl t in
         let (j, q) = both (joins vm w) (onPage page w) s in
         let (o, a) = parted pages known sets w known-good (good .each w h) in
-        let end = decides-either (decides-same (leftOf w) vm) (decides-same (rightOf w) vm) .sound (both (isFilled w) (eqb (leftOf w) vm || eqb (rightOf w) vm) j .1) in
+        let end = decides-or (decides-equal (leftOf w) vm) (decides-equal (rightOf w) vm) .sound (both (isFilled w) (eqb (leftOf w) vm || eqb (rightOf w) vm) j .1) in
         end-marked w o a h (eqb-true (pageOf w) page (both (isFilled w) (eqb (pageOf w) page) q .1)) n end
 
   pub lends : (pairs lent : List ℕ) → PairsGood pages known sets pairs → Marks sets pairs lent → Lends pages sets pairs lent

@@ -4,8 +4,8 @@ use mathlib.Core.List.{List}
 use Rattle.numbers.specs.declared.Side.{Side}
 use Rattle.table.specs.Table.{Has}
 use Rattle.keys.specs.Keys.{Packed, Filled}
+use Rattle.model.specs.KnownLaws.{knows-below}
 use Rattle.model.specs.Valid.{KnownGood, EntryGood}
-use Rattle.judge.specs.KnownLaws.{knows-below}
 use Rattle.judge.specs.Parts.{SlotPacked}
 
 -- good entries are packed as the comparison of keys asks

@@ -10,9 +10,9 @@ use Rattle.numbers.specs.Packing.{leftOf, rightOf, pageOf, filledOf, pairKey, p
 use Rattle.numbers.specs.PackingLaws.{pair-either}
 use Rattle.table.specs.ScanLaws.{cases}
 use Rattle.pages.specs.Rows.{cpuRow}
+use Rattle.model.specs.KnownLaws.{knows-below}
 use Rattle.model.specs.Valid.{KnownGood, PagesGood, PairGood, Home}
 use Rattle.model.specs.Views.{owns}
-use Rattle.judge.specs.KnownLaws.{knows-below}
 use Rattle.judge.specs.Sharing.{OneOwner, borrowerOf}
 
 pub one-owner : (pages base count known : ℕ) (sets : List ℕ) → PagesGood pages base count known sets → OneOwner pages sets

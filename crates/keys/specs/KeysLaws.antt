@@ -1,6 +1,6 @@
 -- What the tests of classes say of keys, and what keys say of the tests.
 use Prim.Native.Nat.{ℕ, _+_, _*_, _/_, _%_, _<_}
-use mathlib.Core.Bool.{Bool, true, false, true≢false, _||_}
+use mathlib.Core.Bool.{true, false, true≢false, _||_}
 use mathlib.Core.List.{List}
 use mathlib.Core.Logic.{⊎-elim}
 use mathlib.Core.Path.{_≡_, refl, sym, ap, _∙_}
@@ -9,6 +9,7 @@ use lib.Dec.{eqb, ltb}
 use lib.ListN.{length, getD}
 use borrow.Author.Tests.{eq-eqb, ne-eqb, eqb-true, eqb-false, ltb-true, ltb-false}
 use Rattle.numbers.specs.Decides.{Decides}
+use Rattle.numbers.specs.DecidesLaws.{says-yes, says-no, decides-as, decides-equal}
 use Rattle.numbers.specs.Limits.{VMS}
 use Rattle.numbers.specs.Packing.{portOf, filledOf, keyOf, addressOf}
 use Rattle.numbers.specs.PackingLaws.{word-whole, key-filled, address-key}
@@ -21,21 +22,12 @@ use Rattle.keys.specs.Keys.{CLASSES, PLACES, classOf, lowOf, mapWordOf, 
 use Rattle.keys.specs.ChainLaws.{class-small}
 use Rattle.keys.specs.PlaceLaws.{class-has, has-class}
 
--- ---- exact tests
-pub yes : {P : Type 0} → P → Decides true P
-yes p = record { sound = λ z. p; complete = λ q. refl }
-
-pub no : {P : Type 0} → (P → ⊥) → Decides false P
-no n = record { sound = λ z. absurd (true≢false (sym z)); complete = λ p. absurd (n p) }
-
-pub refuted : {P : Type 0} {r : Bool} → Decides r P → r ≡ false → P → ⊥
-refuted d f p = true≢false (sym (d .complete p) ∙ f)
-
+-- ---- tests that leave the table of places blank
 pub tested-yes : {P : Type 0} {place : List ℕ} → P → Blank place → Tested P place true
-tested-yes p b = record { answer = yes p; blank = λ z. b }
+tested-yes p b = record { answer = says-yes p; blank = λ z. b }
 
 pub tested-no : {P : Type 0} {place : List ℕ} → (P → ⊥) → Tested P place false
-tested-no n = record { answer = no n; blank = λ z. absurd (true≢false (sym z)) }
+tested-no n = record { answer = says-no n; blank = λ z. absurd (true≢false (sym z)) }
 
 -- ---- words: class and low bits are the address's
 address-class : (u w : ℕ) → addressOf u ≡ addressOf w → classOf u ≡ classOf w
@@ -181,7 +173,7 @@ slot-class w = address-class (mapWordOf w) w (address-kept w)
 module _ (ws : List ℕ) (i : ℕ) (h : i < length ws) where
   pub new-found : (k : ℕ) → find keyOf ws (keyOf (getD ws i 0)) ≡ At k → Decides (eqb k i || eqb (keyOf (getD ws i 0)) 0) (NewKey ws i)
   unfolding NewKey
-  new-found k e = ⊎-elim here (λ n. rw (ne-eqb k i n) (record { sound = λ z j l q. eqb-true _ _ z; complete = λ w. eq-eqb _ _ (w k (earlier n) own) })) (equal k i)
+  new-found k e = ⊎-elim here (λ n. rw (ne-eqb k i n) (decides-as (decides-equal _ 0) (λ z j l q. z) (λ w. w k (earlier n) own))) (equal k i)
     where
       own : keyOf (getD ws k 0) ≡ keyOf (getD ws i 0)
       own = eqb-true _ _ (find-at keyOf ws (keyOf (getD ws i 0)) k e .passes)
@@ -193,7 +185,7 @@ module _ (ws : List ℕ) (i : ℕ) (h : i < length ws) where
       earlier n = ⊎-elim (ltb-true k i) (λ f. absurd (before i (omega (arith, ltb-false k i f)) refl)) (cases (ltb k i))
 
       here : k ≡ i → Decides (eqb k i || eqb (keyOf (getD ws i 0)) 0) (NewKey ws i)
-      here q = rw (eq-eqb k i q) (yes (λ j l s. absurd (before j (omega arith) s)))
+      here q = rw (eq-eqb k i q) (says-yes (λ j l s. absurd (before j (omega arith) s)))
 
   pub new-none : find keyOf ws (keyOf (getD ws i 0)) ≡ Nothing → Decides true (NewKey ws i)
   new-none e = absurd (find-none keyOf ws (keyOf (getD ws i 0)) e i h refl)

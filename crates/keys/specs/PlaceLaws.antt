@@ -7,8 +7,9 @@ use native.Mathlib.Omega.{arith}
 use lib.Dec.{eqb, ltb}
 use lib.ListN.{length, getD, set, replicate, length-set, length-replicate, getD-replicate}
 use lib.Seq.{getD-set-same, getD-set-other}
-use borrow.Author.Tests.{eq-eqb, eqb-true, ltb-true, ltb-false}
+use borrow.Author.Tests.{ltb-true, ltb-false}
 use Rattle.numbers.specs.Decides.{Decides}
+use Rattle.numbers.specs.DecidesLaws.{decides-as, decides-equal}
 use Rattle.table.specs.ScanLaws.{cases, equal}
 use Rattle.table.specs.Table.{Has}
 use Rattle.keys.specs.Keys.{PLACES, classOf, lowOf, InClass, Each, ClassOnce, ClassAgree, Links, Blank, Inside, Shown, Shows, Entered, Unseen, Seen, Matched, NoneLeft}
@@ -147,10 +148,9 @@ module _ (map place : List ℕ) (w there : ℕ) (t : Inside map place) (e : getD
 
   pub shown-test : Decides (eqb (getD map (there - 1) 0) w) (Shown map place w)
   shown-test =
-      record {
-        sound = λ q. record { spot = there - 1; there = omega arith; holds = eqb-true _ _ q };
-        complete = λ s. let i : there - 1 ≡ s .spot = omega arith in rw i (eq-eqb _ _ (s .holds));
-      }
+      decides-as (decides-equal (getD map (there - 1) 0) w)
+      (λ q. record { spot = there - 1; there = omega arith; holds = q })
+      (λ s. let i : there - 1 ≡ s .spot = omega arith in rw i (s .holds))
 
 pub shown-none : (map place : List ℕ) (w : ℕ) → getD place (lowOf w) 0 ≡ 0 → Shown map place w → ⊥
 shown-none map place w z s = omega arith

@@ -38,7 +38,7 @@ Inside (writes vm stores) = StoresInside stores
 Inside (clears pages) = Unit {0}
 
 -- only an access names a word, and only where it is accepted
-accepted-word : (ports cache walker : List ℕ) (bit port guest word : ℕ) {dropped read : ℕ} → accessAnswer ports cache walker bit port guest word ≡ Accepted dropped read → word < PAGE-WORDS
+pub accepted-word : (ports cache walker : List ℕ) (bit port guest word : ℕ) {dropped read : ℕ} → accessAnswer ports cache walker bit port guest word ≡ Accepted dropped read → word < PAGE-WORDS
 unfolding accessAnswer
 accepted-word ports cache walker bit port guest word e =
     let (a, b) = past (not (isPort port && isGuest guest && isWord word)) _ _ _ e in

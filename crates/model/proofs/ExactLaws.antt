@@ -1,15 +1,14 @@
 -- Chains of checks and searches as exact tests: a chain accepts just where nothing that it refuses holds.
-use Prim.{Unit, tt}
 use Prim.Native.Nat.{ℕ, _<_}
-use mathlib.Core.Bool.{Bool, true, false, not, true≢false}
+use mathlib.Core.Bool.{Bool, true, false, not}
 use mathlib.Core.List.{List}
 use mathlib.Core.Logic.{⊎-elim}
-use mathlib.Core.Path.{_≡_, refl, sym}
+use mathlib.Core.Path.{_≡_}
 use lib.Dec.{ltb}
 use borrow.Author.Tests.{ltb-true, ltb-false}
 use Rattle.numbers.specs.Choice.{if_then_else_}
 use Rattle.numbers.specs.Decides.{Decides}
-use Rattle.numbers.specs.DecidesLaws.{refutes}
+use Rattle.numbers.specs.DecidesLaws.{says-no, refutes, decides-as, decides-not, decides-then, decides-and}
 use Rattle.numbers.specs.declared.Answer.{Answer}
 use Rattle.numbers.specs.declared.Answer.the-variants.{Accepted, Refused}
 use Rattle.numbers.specs.declared.Refusal.{Refusal}
@@ -22,36 +21,30 @@ use Rattle.model.specs.Effect.{andThen}
 use Rattle.model.specs.Regions.{clash}
 
 -- ---- chains
--- a chain that has come to its end
-pub always : Decides true (Unit {0})
-always = record { sound = λ e. tt; complete = λ u. refl }
-
--- a check that refuses where its test says true, and one that refuses where it says false
+-- a check that refuses where its test says true
 pub unless : (b : Bool) (refusal : Refusal) (index : ℕ) (rest : Answer) {P Q : Type 0} → Decides b P → Decides (accepts rest) Q →
     Decides (accepts (if b then Refused refusal index else rest)) ((P → ⊥) × Q)
-unless true refusal index rest d e = record { sound = λ t. absurd (true≢false (sym t)); complete = λ p. absurd (p .0 (d .sound refl)) }
-unless false refusal index rest d e = record { sound = λ t. (refutes d refl, e .sound t); complete = λ p. e .complete (p .1) }
+unless true refusal index rest d e = decides-and (decides-not d) e
+unless false refusal index rest d e = decides-and (decides-not d) e
+
+-- one that refuses where it says false; what follows need be exact only for what it lets through
+pub after-check : (b : Bool) (refusal : Refusal) (index : ℕ) (rest : Answer) {P Q : Type 0} → Decides b P → (P → Decides (accepts rest) Q) →
+    Decides (accepts (if not b then Refused refusal index else rest)) (P × Q)
+after-check true refusal index rest d e = decides-then d e
+after-check false refusal index rest d e = decides-then d e
 
 pub where-so : (b : Bool) (refusal : Refusal) (index : ℕ) (rest : Answer) {P Q : Type 0} → Decides b P → Decides (accepts rest) Q →
     Decides (accepts (if not b then Refused refusal index else rest)) (P × Q)
-where-so true refusal index rest d e = record { sound = λ t. (d .sound refl, e .sound t); complete = λ p. e .complete (p .1) }
-where-so false refusal index rest d e = record { sound = λ t. absurd (true≢false (sym t)); complete = λ p. absurd (refutes d refl (p .0)) }
+where-so b refusal index rest d e = after-check b refusal index rest d (λ p. e)
 
 -- an early chain and what follows it
+pub after-early : (early next : Answer) {P Q : Type 0} → Decides (accepts early) P → (P → Decides (accepts next) Q) → Decides (accepts (andThen early next)) (P × Q)
+after-early (Accepted dropped word) next d e = decides-then d e
+after-early (Refused refusal index) next d e = decides-then d e
+
 pub and-then : (early next : Answer) {P Q : Type 0} → Decides (accepts early) P → Decides (accepts next) Q →
     Decides (accepts (andThen early next)) (P × Q)
-and-then (Accepted dropped word) next d e = record { sound = λ t. (d .sound refl, e .sound t); complete = λ p. e .complete (p .1) }
-and-then (Refused refusal index) next d e = record { sound = λ t. absurd (true≢false (sym t)); complete = λ p. d .complete (p .0) }
-
--- where what follows is exact only for what the early chain lets through
-pub after-early : (early next : Answer) {P Q : Type 0} → Decides (accepts early) P → (P → Decides (accepts next) Q) → Decides (accepts (andThen early next)) (P × Q)
-after-early (Accepted dropped word) next d e = let q = e (d .sound refl) in record { sound = λ t. (d .sound refl, q .sound t); complete = λ p. q .complete (p .1) }
-after-early (Refused refusal index) next d e = record { sound = λ t. absurd (true≢false (sym t)); complete = λ p. d .complete (p .0) }
-
-pub after-check : (b : Bool) (refusal : Refusal) (index : ℕ) (rest : Answer) {P Q : Type 0} → Decides b P → (P → Decides (accepts rest) Q) →
-    Decides (accepts (if not b then Refused refusal index else rest)) (P × Q)
-after-check true refusal index rest d e = where-so true refusal index rest d (e (d .sound refl))
-after-check false refusal index rest d e = record { sound = λ t. absurd (true≢false (sym t)); complete = λ p. absurd (refutes d refl (p .0)) }
+and-then early next d e = after-early early next d (λ p. e)
 
 -- a check of every page of a region
 pub no-clash : (fails : ℕ → Bool) (F : ℕ → Type 0) (region : Region) (refusal : Refusal) (next : Answer) {Q : Type 0} →
@@ -66,12 +59,12 @@ no-clash fails F region refusal next {Q = Q} d e = ⊎-elim found none (cases (l
     found t =
         let h = ltb-true (lowest fails (region .count)) (region .count) t in
         let r = lowest-found fails (region .count) h in
-        rw t (record { sound = λ z. absurd (true≢false (sym z)); complete = λ p. absurd (p .0 _ h (d _ h .sound (r .0))) })
+        rw t (says-no (λ p. p .0 _ h (d _ h .sound (r .0))))
 
     none : ltb (lowest fails (region .count)) (region .count) ≡ false → goal
     none f =
         let h = ltb-false (lowest fails (region .count)) (region .count) f in
-        rw f (record { sound = λ z. (λ k l. refutes (d k l) (lowest-none fails (region .count) h k l), e .sound z); complete = λ p. e .complete (p .1) })
+        rw f (decides-as e (λ q. (λ k l. refutes (d k l) (lowest-none fails (region .count) h k l), q)) (λ p. p .1))
 
 -- ---- searches
 -- some word of a table passes, where an empty one does not

@@ -7,7 +7,7 @@ use mathlib.Core.Path.{_≡_, refl}
 use native.Mathlib.Omega.{arith}
 use Rattle.numbers.specs.Limits.{VMS, PAGES, PORTS}
 use Rattle.numbers.specs.Decides.{Decides}
-use Rattle.numbers.specs.DecidesLaws.{decides-as, decides-itself, decides-less, decides-most, decides-equal, decides-not, decides-and, decides-or}
+use Rattle.numbers.specs.DecidesLaws.{always, decides-as, decides-itself, decides-less, decides-most, decides-equal, decides-not, decides-and, decides-or}
 use Rattle.numbers.specs.declared.Side.{Side}
 use Rattle.numbers.specs.declared.Side.the-variants.{Cpu, Dma}
 use Rattle.table.specs.Table.{freeEntries}
@@ -16,7 +16,7 @@ use Rattle.model.specs.Views.{knows, inPool, owns, claims}
 use Rattle.model.specs.Valid.{ValidTables}
 use Rattle.model.specs.Ledger.{vmEarly, pageEarly, pairEarly, addVmAnswer, removeVmAnswer, assignAnswer, reclaimAnswer, shareAnswer, unshareAnswer, borrowerMaps}
 use Rattle.model.specs.Conditions.{accepts, Edge, Mapped, Targets, RunsOn, AddsVm, RemovesVm, Assigns, Reclaims, Shares, Unshares}
-use Rattle.model.proofs.ExactLaws.{always, unless, where-so, and-then, after-early}
+use Rattle.model.proofs.ExactLaws.{unless, where-so, and-then, after-early}
 use Rattle.model.proofs.ExactViews.{claimed-exact, pages-exact, mappings-exact, target-exact, targets-of-exact, edge-on-exact, edge-of-exact, paired-exact, port-exact}
 
 -- ---- early checks

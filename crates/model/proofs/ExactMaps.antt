@@ -10,7 +10,7 @@ use borrow.Author.Tests.{eqb-false}
 use Rattle.numbers.specs.Choice.{if_then_else_}
 use Rattle.numbers.specs.Limits.{VMS, GUEST-PAGES, PAGE-WORDS, PORTS, SLOTS, ACCESSES, GENERATIONS}
 use Rattle.numbers.specs.Decides.{Decides}
-use Rattle.numbers.specs.DecidesLaws.{decides-as, decides-itself, decides-less, decides-equal, decides-and}
+use Rattle.numbers.specs.DecidesLaws.{always, decides-as, decides-itself, decides-less, decides-equal, decides-and}
 use Rattle.numbers.specs.Packing.{accessOf, key, keyOf, slotKey}
 use Rattle.numbers.specs.PackingLaws.{unported, unported-access, slot-address, key-filled}
 use Rattle.numbers.specs.declared.Answer.the-variants.{Accepted, Refused}
@@ -30,7 +30,7 @@ use Rattle.model.specs.Ports.{isTarget, knowsTarget, portAnswer, vmOn, f
 use Rattle.model.specs.Access.{translate, allows, accessAnswer}
 use Rattle.model.specs.Conditions.{accepts, Maps, Mapped, TargetGood, MapsPage, UnmapsPage, SwitchesPort, Fills, EmptiesSlot, Accesses}
 use Rattle.model.proofs.OneRoute.{route-of}
-use Rattle.model.proofs.ExactLaws.{always, unless, where-so, after-early, after-check}
+use Rattle.model.proofs.ExactLaws.{unless, where-so, after-early, after-check}
 use Rattle.model.proofs.ExactViews.{place-exact, mapped-exact, walked-exact, may-exact, keyed-mapped, mapped-keyed}
 
 -- ---- early checks

@@ -9,7 +9,7 @@ use lib.Dec.{eqb}
 use lib.ListN.{getD}
 use Rattle.numbers.specs.Limits.{VMS, GUEST-PAGES, ACCESSES}
 use Rattle.numbers.specs.Decides.{Decides}
-use Rattle.numbers.specs.DecidesLaws.{decides-as, decides-itself, decides-less, decides-most, decides-equal, decides-not, decides-and, decides-or, twice-not}
+use Rattle.numbers.specs.DecidesLaws.{says-no, always, decides-as, decides-itself, decides-less, decides-most, decides-equal, decides-not, decides-and, decides-or, twice-not}
 use Rattle.numbers.specs.Packing.{vmOf, guestOf, pageOf, accessOf, generationOf, entry, keyOf}
 use Rattle.numbers.specs.PackingLaws.{entry-fits, entry-page, entry-access, entry-generation, word-vm, word-guest, word-page, word-access, word-generation, key-same, key-filled}
 use Rattle.numbers.specs.declared.Side.{Side}
@@ -27,7 +27,7 @@ use Rattle.model.specs.Start.{unitRegion}
 use Rattle.model.specs.Regions.{pageIn, guestIn, keyIn, regionEntry, regionEarly, notFree, claimed, inUse, insertAnswer, removeAnswer}
 use Rattle.model.specs.Conditions.{accepts, Claims, Edge, Maps, Mapped, IsUnit, RegionGood, Insertable, Inserts, Unshared, Removes}
 use Rattle.model.proofs.OneRoute.{route-of}
-use Rattle.model.proofs.ExactLaws.{always, where-so, after-early, after-check, no-clash, some-below}
+use Rattle.model.proofs.ExactLaws.{where-so, after-early, after-check, no-clash, some-below}
 use Rattle.model.proofs.ExactViews.{claimed-exact, mapped-exact, targets-exact, edge-on-exact, map-key, whole, mapped-keyed, entry-good, mapping}
 
 -- ---- units
@@ -71,7 +71,7 @@ NotFree Dma t page = ⊥
 
 not-free-exact : (side : Side) (t : Tables) (region : Region) (k : ℕ) → Decides (notFree side (t .sets) region k) (NotFree side t (pageIn region k))
 not-free-exact Cpu t region k = decides-not (decides-itself _)
-not-free-exact Dma t region k = record { sound = λ e. absurd (true≢false (sym e)); complete = λ p. absurd p }
+not-free-exact Dma t region k = says-no (λ p. p)
 
 -- another VM claims the page on the side
 abbrev Elsewhere : Side → Tables → ℕ → ℕ → Type 0

@@ -11,7 +11,7 @@ use lib.ListN.{length, getD}
 use borrow.Author.Tests.{eqb-true, eq-eqb, leb-true, leb-false}
 use Rattle.numbers.specs.Limits.{VMS, GUEST-PAGES, PAGES, PORTS, IDLE}
 use Rattle.numbers.specs.Decides.{Decides}
-use Rattle.numbers.specs.DecidesLaws.{decides-as, decides-itself, decides-equal, decides-not, decides-and, decides-or}
+use Rattle.numbers.specs.DecidesLaws.{says-yes, says-no, always, decides-as, decides-itself, decides-equal, decides-not, decides-and, decides-or}
 use Rattle.numbers.specs.Packing.{portOf, vmOf, guestOf, filledOf, pageOf, accessOf, generationOf, leftOf, rightOf, entryOf, entry, mapWord, slotWord, slotKey, key, keyOf, pairKey, pairKeyOf}
 use Rattle.numbers.specs.PackingLaws.{entry-whole, word-key, word-whole, key-same, pair-same, pair-either}
 use Rattle.numbers.specs.declared.Side.{Side}
@@ -46,8 +46,8 @@ found-exact : (keys : ℕ → ℕ) (ws : List ℕ) (k : ℕ) → Decides (isFoun
 found-exact keys ws k = go (find keys ws k) refl
   where
     go : (f : Found) → find keys ws k ≡ f → Decides (isFound f) ((i : ℕ) × (i < length ws) × (keys (getD ws i 0) ≡ k))
-    go (At i) e = let r = find-at keys ws k i e in record { sound = λ t. (i, r .within, eqb-true _ _ (r .passes)); complete = λ p. refl }
-    go Nothing e = record { sound = λ t. absurd (true≢false (sym t)); complete = λ p. absurd (find-none keys ws k e (p .0) (p .1) (p .2)) }
+    go (At i) e = let r = find-at keys ws k i e in says-yes (i, r .within, eqb-true _ _ (r .passes))
+    go Nothing e = says-no (λ p. find-none keys ws k e (p .0) (p .1) (p .2))
 
 -- where no empty word has the key, it is a filled word that has it
 pub key-exact : (keys : ℕ → ℕ) (ws : List ℕ) (k : ℕ) → (keys 0 ≡ k → ⊥) → Decides (isFound (find keys ws k)) ((w : ℕ) × Has ws w × (keys w ≡ k))
@@ -62,9 +62,9 @@ unfolding place
 place-exact keys ws k = go (find keys ws k) (lowestFree ws) refl
   where
     go : (f g : Found) → lowestFree ws ≡ g → Decides (isFound (orElse f g)) ((isFound f ≡ true) ⊎ (0 < freeEntries ws))
-    go (At i) g e = record { sound = λ t. inl refl; complete = λ p. refl }
-    go Nothing (At i) e = record { sound = λ t. inr (place-free ws i e); complete = λ p. refl }
-    go Nothing Nothing e = record { sound = λ t. absurd (true≢false (sym t)); complete = λ p. absurd (⊎-elim (λ t. true≢false (sym t)) nowhere p) }
+    go (At i) g e = says-yes (inl refl)
+    go Nothing (At i) e = says-yes (inr (place-free ws i e))
+    go Nothing Nothing e = says-no (⊎-elim (λ t. true≢false (sym t)) nowhere)
       where
         nowhere : 0 < freeEntries ws → ⊥
         nowhere h = let (i, q) = free-place ws h in let z : At i ≡ Nothing = sym q ∙ e in true≢false (ap isFound z)
@@ -158,7 +158,7 @@ module _ (side : Side) (t : Tables) (v : ValidTables t) where
   -- some mapping onto the page; one of this VM
   pub target-exact : (page : ℕ) → Decides (targeted whichever (route side t .map) page) ((mapper : ℕ) × Targets side t mapper page)
   target-exact page =
-      decides-as (targets-exact whichever (λ w. Unit {0}) page (λ w h. record { sound = λ e. tt; complete = λ u. refl }))
+      decides-as (targets-exact whichever (λ w. Unit {0}) page (λ w h. always))
       (λ (w, h, e). (vmOf w, record { guest = guestOf w; access = accessOf w; generation = generationOf w; mapping = rw (e .1) at (mapping w h) }))
       (λ (mapper, m). (m .mapping .word, m .mapping .stored, (tt, m .mapping .page-of)))
 

@@ -1,5 +1,6 @@
 -- In valid tables an operation is accepted exactly where its conditions hold.
 use Rattle.numbers.specs.Decides.{Decides}
+use Rattle.numbers.specs.DecidesLaws.{always}
 use Rattle.numbers.specs.Limits.{READ, WRITE}
 use Rattle.numbers.specs.declared.Side.the-variants.{Cpu, Dma}
 use Rattle.numbers.specs.declared.Operation.{Operation}
@@ -54,7 +55,6 @@ use Rattle.model.specs.Step.{
 }
 use Rattle.model.specs.Valid.{ValidTables}
 use Rattle.model.specs.Conditions.{accepts, Conditions}
-use Rattle.model.proofs.ExactLaws.{always}
 use Rattle.model.proofs.ExactLedger.{add-vm-exact, remove-vm-exact, assign-exact, reclaim-exact, share-exact, unshare-exact}
 use Rattle.model.proofs.ExactMaps.{map-exact, unmap-exact, port-exact, fill-exact, empty-exact, access-exact}
 use Rattle.model.proofs.ExactRegions.{insert-exact, remove-exact}

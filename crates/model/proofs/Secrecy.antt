@@ -1,5 +1,5 @@
 -- Demand 3 (docs/MACHINE.md, 12), for a set of VMs and for one: one row, a sequence, and what changes a private page.
-use Prim.Native.Nat.{ℕ, zero, suc, _+_, _≤_, _<_}
+use Prim.Native.Nat.{ℕ, zero, suc, _≤_, _<_}
 use mathlib.Core.Bool.{Bool, true, false}
 use mathlib.Core.List.{List}
 use mathlib.Core.Logic.{_⊎_, inl, inr, ⊎-elim}
@@ -18,13 +18,13 @@ use Rattle.numbers.specs.declared.Operation.{Operation}
 use Rattle.model.specs.State.{Tables, State}
 use Rattle.model.specs.Effect.{wordIn, Store, Effect, reads, writes, clears, decided, Control}
 use Rattle.model.specs.Step.{Stepped, answerWith, step, writeControl, control}
-use Rattle.model.specs.Sequence.{operationIn, stepKnown, stepRow, rowAt, Progress, turn, after}
+use Rattle.model.specs.Sequence.{operationIn, stepKnown, stepRow, rowAt, Progress, after}
 use Rattle.model.specs.Valid.{ValidTables, Valid}
 use Rattle.model.specs.MemoryLaws.{length-applied}
 use Rattle.model.specs.ShapeLaws.{control-shape}
 use Rattle.model.specs.Good.{Wrote}
 use Rattle.model.specs.Secrecy.{PrivateTo, Private, effectIn, SameButValue, equal, cpu-value, dma-value, Shared, withoutWord, NearStores, stop, same, other, Near, alike, stores, Seen, Alike, SameAnswer, Asked, Premise, Kept}
-use Rattle.model.proofs.Repeats.{repeat-last}
+use Rattle.model.proofs.Answers.{after-next}
 use Rattle.model.proofs.Kept.{good, row-valid, after-valid}
 use Rattle.model.proofs.EffectLaws.{inside}
 use Rattle.model.proofs.Secret.{Sound, only-own, same-answer, same-words}
@@ -58,14 +58,10 @@ unread (reads vm places) memory (Refused refusal index) = refl
 unread (writes vm xs) memory x = refl
 unread (clears pages) memory x = refl
 
--- ---- one row more
+-- ---- no row yet
 after-none : (rows : List ℕ) (p : Progress) → after rows 0 p ≡ p
 unfolding after
 after-none rows p = refl
-
-after-next : (rows : List ℕ) (k : ℕ) (p : Progress) → after rows (suc k) p ≡ turn rows k (after rows k p)
-unfolding after
-after-next rows k p = let z : 0 + k ≡ k = omega arith in rw z at (repeat-last (turn rows) 0 k p)
 
 -- ---- a word that stays
 abbrev pub Unchanged : State → State → ℕ → ℕ → Type 0

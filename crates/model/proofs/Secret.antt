@@ -19,11 +19,12 @@ use Rattle.model.specs.State.{Tables}
 use Rattle.model.specs.Effect.{wordIn, Place, Store, Effect, reads, writes, clears, stored, loaded, apply, Control, accepted}
 use Rattle.model.specs.Sequence.{vmId, physPage}
 use Rattle.model.specs.Step.{answerWith}
+use Rattle.model.specs.KnownLaws.{knows-below}
 use Rattle.model.specs.Valid.{ValidTables}
 use Rattle.model.specs.Good.{holdsPage, PlaceOn, PageIn, Wrote, Way, own, lent, span, Reaches, Made, Good}
 use Rattle.model.specs.MemoryLaws.{store-elsewhere, store-both}
 use Rattle.model.specs.Secrecy.{Private, NearStores, stop, same, other, Near, alike, stores, Seen}
-use Rattle.model.proofs.ViewLaws.{known-below, shares-lends}
+use Rattle.model.proofs.ViewLaws.{shares-lends}
 use Rattle.model.proofs.PagesKept.{one-holder, span-unheld}
 use Rattle.model.proofs.EffectLaws.{Inside, PlacesInside, StoresInside, listed, stored-or-same, uncleared-same, cleared-agrees}
 
@@ -108,7 +109,7 @@ module _ (members : ℕ → Bool) (t : Tables) (v : ValidTables t) where
           where
             made : (w : ℕ) → Has (new .pairs) w → pageOf w ≡ page → Made t operation answer w → (members (leftOf w) ≡ true) × (members (rightOf w) ≡ true)
             made w k on m =
-                let below : leftOf w < VMS = known-below _ (leftOf w) (s .good .valid .known) (s .good .valid .pairs .each w k .left) in
+                let below : leftOf w < VMS = knows-below _ (leftOf w) (s .good .valid .known) (s .good .valid .pairs .each w k .left) in
                 let held : holdsPage (t .sets) (leftOf w) page ≡ true = rw (← on, m .owned) in
                 let left : members (leftOf w) ≡ true = confined (leftOf w) page p (record { vm-ok = below; page-ok = p .page-ok; way = own held }) in
                 ⊎-elim (λ right. (left, right)) (λ outside. absurd (differ (rw on at (shown (leftOf w) (rightOf w) (pageOf w) word (m .share) (m .agreed) left outside h)))) (cases (members (rightOf w)))

@@ -1,12 +1,14 @@
 -- A view is equal to itself; a refused operation takes no step; and which edits of our tables a view does not see.
 use Prim.Native.Nat.{ℕ}
 use mathlib.Core.List.{List, [], _∷_}
+use mathlib.Core.Option.{Option}
 use mathlib.Core.Path.{_≡_, refl}
 use Rattle.numbers.specs.declared.Answer.{Answer}
 use Rattle.numbers.specs.declared.Answer.the-variants.{Accepted, Refused}
 use Rattle.model.specs.State.{Tables, Setup, State}
 use Rattle.model.specs.Effect.{Effect, decided, apply, clearedPages}
 use Rattle.model.specs.Upstream.{PageSets, SameSets, SoftwareView, HardwareView, SameSoftware, SameHardware}
+use Rattle.model.specs.UpstreamStep.{withActive, withMemory}
 use Rattle.model.specs.UpstreamRun.{SoftwareCall, HardwareCall, SoftwareStep, HardwareStep, SoftwareRun, HardwareRun, stop, go, Follows, FollowsControl}
 
 pub same-sets : (a : PageSets) → SameSets a a
@@ -25,16 +27,21 @@ same-software s =
       iommu-shared = λ page h. refl;
     }
 
-pub same-hardware : (h : HardwareView) → SameHardware h h
-same-hardware h =
+-- a view with another memory and other active VMs that answer as its own do
+pub same-with : (h : HardwareView) (memory active : ℕ → Option ℕ) → ((address : ℕ) → h .memory address ≡ memory address) → ((cpu : ℕ) → h .active-vm cpu ≡ active cpu) →
+    SameHardware h (withActive (withMemory h memory) active)
+same-with h memory active e f =
     record {
       tlb = λ cpu vm gpa c v g. refl;
       s2map = λ vm gpa v g. refl;
       iommu-tlb = λ cpu vm gpa c v g. refl;
       iommu-s2map = λ vm gpa v g. refl;
-      memory = λ address. refl;
-      active-vm = λ cpu c. refl;
+      memory = e;
+      active-vm = λ cpu c. f cpu;
     }
+
+pub same-hardware : (h : HardwareView) → SameHardware h h
+same-hardware h = same-with h (h .memory) (h .active-vm) (λ address. refl) (λ cpu. refl)
 
 -- runs of one step
 pub software-once : {setup : Setup} {call : SoftwareCall} {a b : SoftwareView} → SoftwareStep setup call a b → SoftwareRun setup (call ∷ []) a b

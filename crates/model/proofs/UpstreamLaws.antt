@@ -1,16 +1,14 @@
 -- What the views show of words, keys and pairs.
-use Prim.Native.Nat.{ℕ, _+_, _*_, _/_, _^_, _≤_, _<_, _%_}
+use Prim.Native.Nat.{ℕ, _+_, _*_, _/_, _<_, _%_}
 use mathlib.Core.Bool.{true, false, not, _&&_, _||_, true≢false, or-true}
 use mathlib.Core.List.{List}
 use mathlib.Core.Logic.{_⊎_, inl, inr, ⊎-elim}
 use mathlib.Core.Option.{Option, none, some}
 use mathlib.Core.Path.{_≡_, refl, sym, ap, _∙_}
-use native.Mathlib.Nat.{div-eq-of-lt}
 use native.Mathlib.Omega.{arith}
-use lib.Dec.{eqb, ltb}
+use lib.Dec.{eqb}
 use lib.ListN.{getD}
-use lib.Pow.{pow-mono}
-use borrow.Author.Tests.{eqb-true, eqb-false, eq-eqb, ne-eqb, ltb-true, ltb-false, not-true}
+use borrow.Author.Tests.{eqb-true, eqb-false, eq-eqb, ne-eqb, not-true}
 use Rattle.numbers.specs.Limits.{VMS, GUEST-PAGES, PAGES, ACCESSES, READ, WRITE}
 use Rattle.numbers.specs.Packing.{key, keyOf, slotKey, addressOf, pairKey, portOf, vmOf, guestOf, entryOf, filledOf, pageOf, accessOf, generationOf}
 use Rattle.numbers.specs.PackingLaws.{pair-either, pair-same, key-same}
@@ -20,7 +18,6 @@ use Rattle.table.specs.TableLaws.{find-none, lookup-has, lookup-nothing, lookup
 use Rattle.table.specs.declared.Found.{Found}
 use Rattle.table.specs.declared.Found.the-variants.{At, Nothing}
 use Rattle.model.specs.EarlyLaws.{both}
-use Rattle.model.specs.Views.{knows}
 use Rattle.model.specs.Upstream.{AccessPerms, S2Entry, permsOf, entryIn, seen, mapSeen, isSome}
 use Rattle.model.specs.UpstreamStep.{isEdge}
 use Rattle.model.proofs.ViewLaws.{either, not-so}
@@ -120,16 +117,6 @@ pub pair-ends : (left right page l r p : ℕ) → left < 65536 → right < 65536
 pair-ends left right page l r p a b c a′ b′ c′ e =
     let (same, low, high) = pair-same left right page l r p a b c a′ b′ c′ e in
     ⊎-elim (λ q. inl (q, omega arith, same)) (λ q. inr (omega arith, omega arith, same)) (equal left l)
-
--- ---- known VMs
-pub knows-below : (known vm : ℕ) → known < 2 ^ VMS → knows known vm ≡ true → vm < VMS
-unfolding knows
-knows-below known vm h t = ⊎-elim (λ q. ltb-true vm VMS q) (λ q. absurd (none (ltb-false vm VMS q))) (cases (ltb vm VMS))
-  where
-    none : VMS ≤ vm → ⊥
-    none l =
-        let z : known / 2 ^ vm ≡ 0 = div-eq-of-lt (omega (arith, pow-mono l)) in
-        true≢false (sym t ∙ rw z)
 
 -- ---- entries
 -- the three flags tell the access

@@ -20,7 +20,7 @@ use Rattle.model.specs.MemoryLaws.{length-zeroed, zeroed-inside, zeroed-
 use Rattle.model.specs.Upstream.{isSome, wordSeen, hardwareView, SameHardware}
 use Rattle.model.specs.UpstreamStep.{withMemory, answerAt}
 use Rattle.model.specs.UpstreamRun.{clearedAt, clearCalls, HardwareRun, stop, go}
-use Rattle.model.proofs.UpstreamFollows.{same-hardware}
+use Rattle.model.proofs.UpstreamFollows.{same-with, same-hardware}
 
 -- a page cleared, word by word
 length-clear : (memory : List ℕ) (page : ℕ) → length (clearPage memory page) ≡ length memory
@@ -56,15 +56,7 @@ clear-seen memory page address = rw (length-clear memory page) (⊎-elim cleared
 -- memory alone is another
 pub memory-only : (t : Tables) (before after : List ℕ) (now : ℕ → Option ℕ) → ((address : ℕ) → wordSeen after address ≡ now address) →
     SameHardware (hardwareView (record { tables = t; memory = after })) (withMemory (hardwareView (record { tables = t; memory = before })) now)
-memory-only t before after now e =
-    record {
-      tlb = λ cpu vm gpa c v g. refl;
-      s2map = λ vm gpa v g. refl;
-      iommu-tlb = λ cpu vm gpa c v g. refl;
-      iommu-s2map = λ vm gpa v g. refl;
-      memory = e;
-      active-vm = λ cpu c. refl;
-    }
+memory-only t before after now e = same-with (hardwareView (record { tables = t; memory = after })) now _ e (λ cpu. refl)
 
 -- pages cleared one after another, whatever the tables
 pub clear-run : (t : Tables) (pages memory : List ℕ) → HardwareRun (clearCalls pages) (hardwareView (record { tables = t; memory = memory }))

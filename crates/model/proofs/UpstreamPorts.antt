@@ -36,7 +36,7 @@ use Rattle.model.specs.UpstreamStep.{withActive, answerAt}
 use Rattle.model.proofs.RoutesKept.{slot-made}
 use Rattle.model.proofs.OneRoute.{route-of, lengths-of}
 use Rattle.model.proofs.GoodPorts.{FillPassed, fill-passed}
-use Rattle.model.proofs.UpstreamFollows.{same-software, same-hardware, hardware-once, decided-follows}
+use Rattle.model.proofs.UpstreamFollows.{same-with, same-software, same-hardware, hardware-once, decided-follows}
 use Rattle.model.proofs.UpstreamRoutes.{shown, walk-of, tlb-of, route-hardware}
 use Rattle.model.proofs.UpstreamLaws.{seen-same, seen-filled, slot-key-test, key-parts}
 
@@ -208,14 +208,7 @@ active-set ports port n h cpu =
 ports-hardware : (s : State) (ports : List ℕ) (active : ℕ → Option ℕ) → ((cpu : ℕ) → activeSeen ports cpu ≡ active cpu) →
     SameHardware (hardwareView (record { tables = withRoute Cpu (s .tables) (withPorts (s .tables .cpu) ports); memory = s .memory })) (withActive (hardwareView s) active)
 ports-hardware s ports active e =
-    record {
-      tlb = λ cpu vm gpa c v g. refl;
-      s2map = λ vm gpa v g. refl;
-      iommu-tlb = λ cpu vm gpa c v g. refl;
-      iommu-s2map = λ vm gpa v g. refl;
-      memory = λ address. refl;
-      active-vm = λ cpu c. e cpu;
-    }
+    same-with (hardwareView (record { tables = withRoute Cpu (s .tables) (withPorts (s .tables .cpu) ports); memory = s .memory })) _ active (λ address. refl) e
 
 switch-run : (s : State) (port : ℕ) (target : Target) → port < length (s .tables .cpu .ports) → isTarget target ≡ true →
     HardwareRun (portCalls Cpu port target) (hardwareView s)

@@ -1,6 +1,6 @@
 -- The page sets that a region's edits leave, as upstream's software view shows them.
 use Prim.Native.Nat.{ℕ, _+_, _≤_, _<_}
-use mathlib.Core.Bool.{Bool, true, false, true≢false}
+use mathlib.Core.Bool.{Bool, true, false, not, _&&_, _||_, true≢false}
 use mathlib.Core.List.{List}
 use mathlib.Core.Logic.{⊎-elim}
 use mathlib.Core.Path.{_≡_, refl, sym, _∙_}
@@ -31,19 +31,21 @@ span-outside region page f l =
     ⊎-elim (λ h. absurd (true≢false (sym (span-in (region .page .0) (region .count) page l h) ∙ f))) (λ h. h) (below-or page (region .page .0 + region .count))
 
 module _ (side : Side) (region : Region) (sets sets′ : List ℕ) where
+  -- inside the region what the edit says, and outside it what was
+  claims-edited : {given : Bool} → Edited side (region .vm .0) given (region .page .0) (region .count) sets sets′ → (now : Bool → Bool) (page : ℕ) → page < PAGES →
+      now true ≡ given → now false ≡ claims side sets (region .vm .0) page → claims side sets′ (region .vm .0) page ≡ now (pagesOf region page)
+  claims-edited r now page h inside outside =
+      ⊎-elim (λ t. rw t (let q = in-span (region .page .0) (region .count) page t in r .inside page (q .0) (q .1) ∙ sym inside))
+      (λ f. rw f (r .outside side (region .vm .0) page h (λ a b. span-outside region page f) ∙ sym outside))
+      (cases (pagesOf region page))
+
   pub claims-given : Edited side (region .vm .0) true (region .page .0) (region .count) sets sets′ → (page : ℕ) → page < PAGES →
       claims side sets′ (region .vm .0) page ≡ withPages (claims side sets (region .vm .0)) region page
-  claims-given r page h =
-      ⊎-elim (λ t. rw t (let q = in-span (region .page .0) (region .count) page t in r .inside page (q .0) (q .1)))
-      (λ f. rw f (r .outside side (region .vm .0) page h (λ a b. span-outside region page f)))
-      (cases (pagesOf region page))
+  claims-given r page h = claims-edited r (λ b. b || claims side sets (region .vm .0) page) page h refl refl
 
   pub claims-taken : Edited side (region .vm .0) false (region .page .0) (region .count) sets sets′ → (page : ℕ) → page < PAGES →
       claims side sets′ (region .vm .0) page ≡ withoutPages (claims side sets (region .vm .0)) region page
-  claims-taken r page h =
-      ⊎-elim (λ t. rw t (let q = in-span (region .page .0) (region .count) page t in r .inside page (q .0) (q .1)))
-      (λ f. rw f (r .outside side (region .vm .0) page h (λ a b. span-outside region page f)))
-      (cases (pagesOf region page))
+  claims-taken r page h = claims-edited r (λ b. not b && claims side sets (region .vm .0) page) page h refl refl
 
 -- ---- the pool: a CPU region's pages leave it and come back
 module _ (pages base count known : ℕ) (region : Region) (v : region .vm .0 < VMS) (fits : region .page .0 + region .count ≤ pages) (sets sets′ : List ℕ)

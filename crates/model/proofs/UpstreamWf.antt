@@ -19,10 +19,11 @@ use Rattle.table.specs.TableLaws.{lookup-has}
 use Rattle.pages.specs.Rows.{holds, poolRow, sharedRow, cpuRow, dmaRow}
 use Rattle.model.specs.State.{Tables, State}
 use Rattle.model.specs.Views.{knows, inPool, inShared, owns, holdsDma, paired, shares, mayMap}
+use Rattle.model.specs.KnownLaws.{knows-below}
 use Rattle.model.specs.Valid.{SameMap, Home, pool, shared, cpu, PairGood, MapGood, CacheGood, ValidTables}
 use Rattle.model.specs.Upstream.{S2Entry, seen, isSome, mapSeen, tlbSeen, softwareView, hardwareView, SharedWith, OwnedOrShared, OwnedOrSpan, OwnershipWf, SharingWf, TranslationWf, IommuOwnershipWf, IommuTranslationWf, SoftwareWf, TlbSafe, HardwareWf, Synced, WellFormed}
 use Rattle.model.proofs.ViewLaws.{not-so, paired-joins, shares-lends, may-either}
-use Rattle.model.proofs.UpstreamLaws.{seen-some, seen-filled, seen-same, has-found, of-key, of-slot-key, SamePair, pair-ends, knows-below}
+use Rattle.model.proofs.UpstreamLaws.{seen-some, seen-filled, seen-same, has-found, of-key, of-slot-key, SamePair, pair-ends}
 
 module _ (t : Tables) (valid : ValidTables t) where
   -- ---- pages

@@ -1,28 +1,25 @@
 -- What a view says of the words of its table, and what tells a view.
-use Prim.Native.Nat.{ℕ, _^_, _≤_, _<_}
+use Prim.Native.Nat.{ℕ, _<_}
 use mathlib.Core.Bool.{Bool, true, false, not, _&&_, _||_, true≢false, or-true}
 use mathlib.Core.List.{List}
 use mathlib.Core.Logic.{_⊎_, inl, inr, ⊎-elim}
 use mathlib.Core.Path.{_≡_, refl, sym, _∙_}
-use native.Mathlib.Nat.{div-eq-of-lt}
 use native.Mathlib.Omega.{arith}
 use lib.Dec.{eqb}
 use lib.ListN.{length, getD}
-use lib.Pow.{pow-lt}
 use borrow.Author.Tests.{eq-eqb, ne-eqb, eqb-true, eqb-false, not-true}
 use Rattle.numbers.specs.Limits.{VMS, PAGES, IDLE}
 use Rattle.numbers.specs.Packing.{filledOf, pageOf, vmOf, leftOf, rightOf, pairKeyOf, pairKey}
 use Rattle.numbers.specs.declared.Side.{Side}
-use Rattle.pages.specs.BitLaws.{below-or}
 use Rattle.table.specs.Scan.{anyBelow}
-use Rattle.table.specs.ScanLaws.{cases, equal, IsFirst, any-here, has-any, any-false, any-true, any-below-false, any-below-true}
+use Rattle.table.specs.ScanLaws.{cases, IsFirst, any-here, has-any, any-false, any-true, any-below-false, any-below-true}
 use Rattle.table.specs.Table.{Has, find, isFound}
 use Rattle.table.specs.TableLaws.{find-at, find-none}
 use Rattle.table.specs.declared.Found.{Found}
 use Rattle.table.specs.declared.Found.the-variants.{At, Nothing}
 use Rattle.model.specs.EarlyLaws.{both}
 use Rattle.model.specs.MemoryLaws.{getD-there}
-use Rattle.model.specs.Views.{knows, claims, claimedElsewhere, hasPages, onPage, ofVm, joins, shares, edgeOn, edgeOf, paired, targeted, hasMappings, lentTo, mayMap, onPort}
+use Rattle.model.specs.Views.{claims, claimedElsewhere, hasPages, onPage, ofVm, joins, shares, edgeOn, edgeOf, paired, targeted, hasMappings, lentTo, mayMap, onPort}
 
 -- ---- one of two, or neither
 pub either : (a b : Bool) → (a || b) ≡ true → (a ≡ true) ⊎ (b ≡ true)
@@ -36,14 +33,6 @@ neither false b e = (refl, e)
 -- what is so whenever it is not otherwise
 pub not-so : (t : Bool) → (t ≡ true → ⊥) → t ≡ false
 not-so t n = ⊎-elim (λ y. absurd (n y)) (λ f. f) (cases t)
-
--- ---- a known VM is a VM
-pub known-below : (known vm : ℕ) → known < 2 ^ VMS → knows known vm ≡ true → vm < VMS
-unfolding knows
-known-below known vm g k = ⊎-elim (λ h. h) (λ h. let z = rw (div-eq-of-lt (small h)) at k in absurd (true≢false (sym z))) (below-or vm VMS)
-  where
-    small : VMS ≤ vm → known < 2 ^ vm
-    small h = ⊎-elim (λ e. rw e g) (λ n. omega (arith, pow-lt {i = VMS} {j = vm} (omega (arith, n)), g)) (equal vm VMS)
 
 -- ---- one word
 pub record OnPage (page w : ℕ) : Type 0 where

@@ -1,7 +1,7 @@
 -- Operations 21 to 24: a CPU or a device reads or writes one word (docs/MACHINE.md, 7).
 use Prim.Native.Nat.{ℕ, _/_, _%_}
 use mathlib.Core.Bool.{Bool, not, _&&_}
-use mathlib.Core.List.{List, [], _∷_}
+use mathlib.Core.List.{List}
 use lib.Dec.{eqb}
 use Rattle.numbers.specs.Choice.{if_then_else_}
 use Rattle.numbers.specs.Packing.{slotKey, key, keyOf, accessOf, pageOf}
@@ -9,7 +9,7 @@ use Rattle.numbers.specs.declared.Answer.{Answer}
 use Rattle.numbers.specs.declared.Refusal.the-variants.{OutOfRange, MappingDiffers, PortIdle, AccessLacking}
 use Rattle.table.specs.Table.{lookup}
 use Rattle.model.specs.Views.{isGuest, isPort, isWord, isIdle}
-use Rattle.model.specs.Effect.{Place, Store, accepted, refused}
+use Rattle.model.specs.Effect.{Place, accepted, refused}
 use Rattle.model.specs.Ports.{vmOn}
 
 -- the word that translates: the slot if one is held, else the walker's, 0 where there is neither

@@ -1,7 +1,7 @@
 -- The header and the lent lists together are the tables (docs/MACHINE.md, 3): each of them in its place, none twice.
 use Prim.Native.Nat.{ℕ}
 use mathlib.Core.List.{List}
-use Rattle.model.specs.State.{Tables, Route, Setup, State}
+use Rattle.model.specs.State.{Tables, Setup, State}
 use Rattle.model.specs.declared.Machine.{Machine}
 
 abbrev pub setupOf : Machine → Setup

@@ -1,6 +1,6 @@
 -- Operations 1 to 6: VMs, ownership and sharing (docs/MACHINE.md, 7). Each has its answer, the first true condition
 -- giving the refusal, and what an accepted one leaves in each table that it changes.
-use Prim.Native.Nat.{ℕ, _<_}
+use Prim.Native.Nat.{ℕ}
 use mathlib.Core.Bool.{Bool, not, _&&_, _||_}
 use mathlib.Core.List.{List, [], _∷_}
 use lib.Dec.{eqb}

@@ -1,6 +1,6 @@
 -- Operations 7 to 10: map and unmap, for CPU or DMA (docs/MACHINE.md, 7).
 use Prim.Native.Nat.{ℕ}
-use mathlib.Core.Bool.{Bool, not, _&&_}
+use mathlib.Core.Bool.{not, _&&_}
 use mathlib.Core.List.{List}
 use Rattle.numbers.specs.Choice.{if_then_else_}
 use Rattle.numbers.specs.Packing.{entry, mapWord, key, keyOf, addressOf}

@@ -1,8 +1,8 @@
 -- Operations 15 to 20: switch a CPU or bind a device, fill and empty a slot (docs/MACHINE.md, 7).
 use Prim.Native.Nat.{ℕ, _+_}
-use mathlib.Core.Bool.{Bool, true, false, not, _&&_}
+use mathlib.Core.Bool.{Bool, true, not, _&&_}
 use mathlib.Core.List.{List}
-use lib.Dec.{eqb, ltb}
+use lib.Dec.{ltb}
 use lib.ListN.{getD, set}
 use Rattle.numbers.specs.Choice.{if_then_else_}
 use Rattle.numbers.specs.Limits.{SLOTS, IDLE}
@@ -14,7 +14,7 @@ use Rattle.numbers.specs.declared.Target.{Target}
 use Rattle.numbers.specs.declared.Target.the-variants.{Idle, Vm}
 use Rattle.table.specs.Table.{find, place, lookup, isFound, setAt, orElse}
 use Rattle.table.specs.declared.Found.{Found}
-use Rattle.table.specs.declared.Found.the-variants.{At, Nothing}
+use Rattle.table.specs.declared.Found.the-variants.{At}
 use Rattle.model.specs.Views.{isVm, isGuest, isPort, isSlot, isIdle, knows}
 use Rattle.model.specs.Effect.{accepted, refused}
 

@@ -1,7 +1,7 @@
 -- Operations 11 to 14: insert and remove a region, for CPU or DMA (docs/MACHINE.md, 7). Every check searches the whole
 -- region for its lowest failing page before the next begins, and nothing is written before the last has passed.
 use Prim.Native.Nat.{ℕ, zero, suc, _+_}
-use mathlib.Core.Bool.{Bool, true, false, not, _&&_, _||_}
+use mathlib.Core.Bool.{Bool, false, not, _&&_, _||_}
 use mathlib.Core.List.{List, [], _∷_}
 use lib.Dec.{eqb, ltb, leb}
 use Rattle.numbers.specs.Choice.{if_then_else_}

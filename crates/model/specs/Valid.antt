@@ -1,17 +1,16 @@
 -- A valid state (docs/MACHINE.md, 4): groups of rules, each over the tables that it names, in the order of the manual.
 use Prim.Native.Nat.{ℕ, _+_, _*_, _^_, _≤_, _<_}
-use mathlib.Core.Bool.{Bool, true, false, _&&_}
+use mathlib.Core.Bool.{true, false}
 use mathlib.Core.List.{List}
 use mathlib.Core.Logic.{_⊎_}
 use mathlib.Core.Path.{_≡_}
-use lib.Dec.{leb, ltb}
 use lib.ListN.{length, getD}
 use Rattle.numbers.specs.Limits.{PAGES, PAGE-WORDS, VMS, PORTS, ENTRIES, PAIRS, SLOTS, UNITS, ACCESSES, SETS, SET-WORDS, IDLE}
 use Rattle.numbers.specs.Packing.{portOf, vmOf, guestOf, entryOf, filledOf, pageOf, accessOf, generationOf, leftOf, rightOf, keyOf, addressOf, pairKeyOf, mapWord}
 use Rattle.numbers.specs.declared.Side.{Side}
 use Rattle.numbers.specs.declared.Side.the-variants.{Cpu, Dma}
 use Rattle.table.specs.Table.{Has, Distinct, lookup}
-use Rattle.pages.specs.Rows.{holds, poolRow, sharedRow, cpuRow, dmaRow}
+use Rattle.pages.specs.Rows.{holds, poolRow, sharedRow, cpuRow}
 use Rattle.units.specs.Spans.{regionSpan}
 use Rattle.units.specs.Units.{noUnit}
 use Rattle.units.specs.declared.Unit.{Unit}

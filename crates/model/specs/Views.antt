@@ -1,8 +1,8 @@
 -- What the tables say, in the paper's words (docs/MACHINE.md, 3 and 4).
-use Prim.Native.Nat.{ℕ, _+_}
-use mathlib.Core.Bool.{Bool, true, false, not, _&&_, _||_}
+use Prim.Native.Nat.{ℕ}
+use mathlib.Core.Bool.{Bool, true, not, _&&_, _||_}
 use mathlib.Core.List.{List}
-use lib.Dec.{eqb, ltb, leb}
+use lib.Dec.{eqb, ltb}
 use Rattle.numbers.specs.Limits.{VMS, GUEST-PAGES, ACCESSES, GENERATIONS, PORTS, SLOTS, PAGE-WORDS, PAGES}
 use Rattle.numbers.specs.Packing.{filledOf, pageOf, vmOf, leftOf, rightOf, keyOf, pairKeyOf, pairKey}
 use Rattle.numbers.specs.declared.Side.{Side}

@@ -2,15 +2,16 @@
 use Prim.Native.Nat.{ℕ, _-_, _<_, _^_}
 use native.Mathlib.Omega.{arith}
 use borrow.Author.Needs.{needs}
-use borrow.Author.Tests.{ne-eqb, eq-eqb, not-true, not-false}
+use borrow.Author.Tests.{ne-eqb, eq-eqb}
 use lib.Bits.{bitAnd}
 use lib.Dec.{eqb}
 use lib.ListN.{getD}
 use Rattle.numbers.specs.Decides.{Decides}
+use Rattle.numbers.specs.DecidesLaws.{says-no, refutes, failed, passed}
 use Rattle.numbers.specs.Limits.{VMS}
 use Rattle.model.specs.Views.{knows}
 use Rattle.homes.specs.Columns.{poolWord, sharedWord, Apart}
-use Rattle.homes.specs.WordLaws.{refuted, apart-decides}
+use Rattle.homes.specs.WordLaws.{apart-decides}
 use Rattle.homes.specs.ColumnLaws.{Passing, NextGood, two-apart, pass-start, pass-next, pass-good, pass-end}
 use Rattle.homes.proofs.homes_good.Statement.{statement}
 use Rattle.homes.proofs.homes_good.Tie as tie
@@ -57,7 +58,7 @@ column-word-requires-2 c κs = search needs
 
 returns : tie.Need-returns Inv-loop μ-loop
 returns c =
-    refuted (two (c .before)) (ne-eqb _ 0 (c .if1 .taken)) (two-apart _ _ _ (fit (c .before .before .before)) _)
+    says-no (λ g. refutes (two (c .before)) (ne-eqb _ 0 (c .if1 .taken)) (two-apart _ _ _ (fit (c .before .before .before)) _ g))
 
 loop-holds : tie.Need-loop-holds Inv-loop μ-loop
 loop-holds c =
@@ -85,7 +86,7 @@ vm-good-requires c κs = search needs
 returns-2 : tie.Need-returns-2 Inv-loop μ-loop
 returns-2 c =
     let turn = c .before .before .before .before .before .before .before in
-    refuted (next (c .before)) (not-true _ (c .if2 .taken)) (pass-good _ _ _ _ _ _ _ (turn .before .loop .inv) (turn .loop-test .taken))
+    says-no (λ g. failed (next (c .before)) (c .if2 .taken) (pass-good _ _ _ _ _ _ _ (turn .before .loop .inv) (turn .loop-test .taken) g))
 
 add-vm : tie.Need-add-vm Inv-loop μ-loop
 add-vm c = search needs
@@ -103,7 +104,7 @@ loop-again c =
       c .before .before .before .column-word4 .ensures,
       c .before .before .before .before .dma-row .ensures,
     )
-    (pass-next _ _ _ (fit known) _ _ _ (turn .before .loop .inv) (turn .loop-test .taken) (next (c .before) .sound (not-false _ (c .if2 .left))))
+    (pass-next _ _ _ (fit known) _ _ _ (turn .before .loop .inv) (turn .loop-test .taken) (passed (next (c .before)) (c .if2 .left)))
 
 returns-3 : tie.Need-returns-3 Inv-loop μ-loop
 returns-3 c = pass-end _ _ _ _ _ _ _ (c .before .loop .inv) (c .loop-test .left)

@@ -1,15 +1,13 @@
 -- `homes::page_sets` meets its contract: the columns passed are good, and the page sets are good exactly where all are.
 use Prim.Native.Nat.{ℕ, _-_, _^_, _≤_, _<_}
-use mathlib.Core.Path.{refl}
 use native.Mathlib.Omega.{arith}
 use borrow.Author.Count.{below-more}
 use borrow.Author.Needs.{needs}
-use borrow.Author.Tests.{not-true, not-false}
 use lib.ListN.{getD}
 use Rattle.numbers.specs.Decides.{Decides}
+use Rattle.numbers.specs.DecidesLaws.{says-yes, says-no, failed, passed}
 use Rattle.numbers.specs.Limits.{SET-WORDS}
 use Rattle.homes.specs.Columns.{ColumnGood}
-use Rattle.homes.specs.WordLaws.{refuted}
 use Rattle.homes.specs.PageLaws.{pages-good, column-good}
 use Rattle.homes.proofs.page_sets.Statement.{statement}
 use Rattle.homes.proofs.page_sets.Tie as tie
@@ -40,7 +38,7 @@ column-good-requires c κs = search needs
 returns : tie.Need-returns Inv-loop μ-loop
 returns c =
     let known = c .before .before .before .before in
-    refuted (column (c .before)) (not-true _ (c .if1 .taken)) (λ g. column-good _ _ _ _ _ (omega arith) g _ (omega arith) (fit known))
+    says-no (λ g. failed (column (c .before)) (c .if1 .taken) (column-good _ _ _ _ _ (omega arith) g _ (omega arith) (fit known)))
 
 add-k : tie.Need-add-k Inv-loop μ-loop
 add-k c = search needs
@@ -51,14 +49,11 @@ loop-less c = search needs
 loop-again : tie.Need-loop-again Inv-loop μ-loop
 loop-again c =
     let now = c .before .before .before .loop in
-    (omega arith, below-more _ (now .k) (now .inv .1) (column (c .before) .sound (not-false _ (c .if1 .left))))
+    (omega arith, below-more _ (now .k) (now .inv .1) (passed (column (c .before)) (c .if1 .left)))
 
 returns-2 : tie.Need-returns-2 Inv-loop μ-loop
 returns-2 c =
-    record {
-      sound = λ t. pages-good _ _ _ _ _ (λ k h. c .before .loop .inv .1 k (omega arith)) (omega arith);
-      complete = λ g. refl;
-    }
+    says-yes (pages-good _ _ _ _ _ (λ k h. c .before .loop .inv .1 k (omega arith)) (omega arith))
 
 pub page-sets-spec : {M : Type 1} → statement M
 page-sets-spec =

@@ -3,11 +3,11 @@ use mathlib.Core.Path.{_≡_, refl, sym, _∙_}
 use native.Mathlib.Omega.{arith}
 use borrow.Author.Tests.{not-false}
 use lib.ListN.{length, length-map}
+use Rattle.numbers.specs.DecidesLaws.{says-no, passed, failed, decides-as, decides-equal}
 use Rattle.numbers.specs.Limits.{UNITS, PORTS}
 use Rattle.model.specs.Header.{tablesOf}
 use Rattle.model.specs.State.{Tables}
 use Rattle.model.specs.Valid.{Lengths, SetupGood, KnownGood, PagesGood}
-use Rattle.judge.specs.DecideLaws.{says-no, passed, failed, decides-as, decides-same}
 use Rattle.judge.specs.Sharing.{Ground}
 use Rattle.judge.specs.SharingLaws.{one-owner}
 use Rattle.judge.specs.ValidLaws.{Sized, lengths-of, sizes-of}
@@ -136,6 +136,7 @@ returns-8 c =
     let d = c .before .before .before .before .before .before .before .before in
     let f = before4 (before5 d) in
     decides-as
+    (decides-equal _ _)
     (λ l. record {
       tables = record {
         lengths = lengths (before2 (before3 f));
@@ -149,7 +150,6 @@ returns-8 c =
       memory = l;
     })
     (λ v. v .memory)
-    (decides-same _ _)
 
 pub valid-spec : {M : Type 1} → statement M
 valid-spec =

@@ -3,9 +3,10 @@ use borrow.Author.Needs.{needs}
 use Prim.Native.Nat.{ℕ, _<_, _-_}
 use native.Mathlib.Omega.{arith}
 use borrow.Author.Count.{below-more}
-use borrow.Author.Tests.{not-true, not-false}
+use borrow.Author.Tests.{not-false}
+use Rattle.numbers.specs.DecidesLaws.{says-yes, says-no, failed}
 use Rattle.keys.specs.Keys.{CLASSES, ClassAgree, Blank}
-use Rattle.keys.specs.KeysLaws.{yes, no, refuted, agree-classes, agree-class}
+use Rattle.keys.specs.KeysLaws.{agree-classes, agree-class}
 use Rattle.keys.proofs.agreed.Statement.{statement}
 use Rattle.keys.proofs.agreed.Tie as tie
 
@@ -25,7 +26,7 @@ same-length : tie.Need-same-length Inv-loop μ-loop
 same-length c = search needs
 
 returns : tie.Need-returns Inv-loop μ-loop
-returns c = no (λ t. refuted (c .before .before .before .class-agrees .ensures .answer) (not-true _ (c .if1 .taken)) (agree-class _ _ (c .before .before .before .before .before .before .before .before .before .before .before .before .before .before .pre .4) (c .before .before .before .before .before .before .before .before .before .before .before .before .before .before .pre .5) t _))
+returns c = says-no (λ t. failed (c .before .before .before .class-agrees .ensures .answer) (c .if1 .taken) (agree-class _ _ (c .before .before .before .before .before .before .before .before .before .before .before .before .before .before .pre .4) (c .before .before .before .before .before .before .before .before .before .before .before .before .before .before .pre .5) t _))
 
 add-class : tie.Need-add-class Inv-loop μ-loop
 add-class c = search needs
@@ -43,7 +44,7 @@ same-length-2 : tie.Need-same-length-2 Inv-loop μ-loop
 same-length-2 c = search needs
 
 returns-2 : tie.Need-returns-2 Inv-loop μ-loop
-returns-2 c = yes (agree-classes _ _ (c .before .before .before .before .before .before .before .before .before .pre .4) (c .before .before .before .before .before .before .before .before .before .pre .5) (λ k h. c .before .loop .inv .1 k (omega (arith, c .loop-test .left))))
+returns-2 c = says-yes (agree-classes _ _ (c .before .before .before .before .before .before .before .before .before .pre .4) (c .before .before .before .before .before .before .before .before .before .pre .5) (λ k h. c .before .loop .inv .1 k (omega (arith, c .loop-test .left))))
 
 pub agreed-spec : {M : Type 1} → statement M
 agreed-spec =

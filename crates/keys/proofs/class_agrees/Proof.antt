@@ -1,6 +1,7 @@
 -- `keys::class_agrees` meets its contract.
 use borrow.Author.Needs.{needs}
 use borrow.Author.Tests.{not-true, not-false}
+use Rattle.numbers.specs.DecidesLaws.{decides-as}
 use Rattle.keys.specs.PlaceLaws.{enter-once, agree-none, none-agree, none-blank}
 use Rattle.keys.specs.KeysLaws.{tested-no}
 use Rattle.keys.proofs.class_agrees.Statement.{statement}
@@ -36,7 +37,7 @@ returns-3 c =
     let m = c .before .before .before .before .before .take .ensures .matched (not-false _ (c .before .before .if2 .left)) in
     let d = c .none-left .ensures in
     record {
-      answer = record { sound = λ z. none-agree _ _ _ _ m once (d .sound z); complete = λ a. d .complete (agree-none _ _ _ _ m a) };
+      answer = decides-as d (none-agree _ _ _ _ m once) (agree-none _ _ _ _ m);
       blank = λ z. none-blank _ _ _ _ m (d .sound z);
     }
 

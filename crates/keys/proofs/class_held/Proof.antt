@@ -1,8 +1,9 @@
 -- `keys::class_held` meets its contract.
 use borrow.Author.Needs.{needs}
 use borrow.Author.Tests.{not-true, not-false}
+use Rattle.numbers.specs.DecidesLaws.{failed}
 use Rattle.keys.specs.PlaceLaws.{enter-once}
-use Rattle.keys.specs.KeysLaws.{refuted, tested-yes, tested-no}
+use Rattle.keys.specs.KeysLaws.{tested-yes, tested-no}
 use Rattle.keys.proofs.class_held.Statement.{statement}
 use Rattle.keys.proofs.class_held.Tie as tie
 
@@ -22,7 +23,7 @@ same-length-2 : tie.Need-same-length-2
 same-length-2 c = search needs
 
 returns-2 : tie.Need-returns-2
-returns-2 c = tested-no (λ p. refuted (c .before .has-words .ensures) (not-true _ (c .if2 .taken)) (p .each))
+returns-2 c = tested-no (λ p. failed (c .before .has-words .ensures) (c .if2 .taken) (p .each))
 
 clear-requires : tie.Need-clear-requires
 clear-requires c κs = (c .before .before .before .before .before .before .before .before .before .before .before .before .before .before .before .before .pre .1, c .before .before .before .before .before .before .before .before .before .before .before .before .before .before .before .before .pre .4, c .before .before .before .before .before .before .before .enter .ensures .entered (not-false _ (c .before .before .before .before .if1 .left)))

@@ -4,9 +4,9 @@ use Prim.Native.Nat.{_-_, _<_}
 use mathlib.Core.Path.{_≡_, sym, _∙_}
 use native.Mathlib.Omega.{arith}
 use lib.ListN.{length, getD}
+use Rattle.numbers.specs.DecidesLaws.{says-no}
 use Rattle.keys.specs.Keys.{lowOf}
 use Rattle.keys.specs.PlaceLaws.{shown-none, shown-place, shown-test}
-use Rattle.keys.specs.KeysLaws.{no}
 use Rattle.keys.proofs.has_word.Statement.{statement}
 use Rattle.keys.proofs.has_word.Tie as tie
 
@@ -23,7 +23,7 @@ wide-requires : tie.Need-wide-requires
 wide-requires c κs = search needs
 
 returns : tie.Need-returns
-returns c = no (shown-none _ _ _ (rw (c .before .before .before .low-of .ensures .0) at (sym (c .before .wide .ensures) ∙ c .if1 .taken)))
+returns c = says-no (shown-none _ _ _ (rw (c .before .before .before .low-of .ensures .0) at (sym (c .before .wide .ensures) ∙ c .if1 .taken)))
 
 sub-spot : tie.Need-sub-spot
 sub-spot c = search needs

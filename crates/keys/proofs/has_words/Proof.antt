@@ -1,13 +1,13 @@
 -- `keys::has_words` meets its contract. The map has the word of each slot that the walk has passed.
 use borrow.Author.Needs.{needs}
 use mathlib.Core.Path.{_∙_}
-use borrow.Author.Tests.{not-true, not-false}
 use lib.ListN.{getD}
+use Rattle.numbers.specs.DecidesLaws.{says-yes, says-no, failed, passed}
 use Rattle.table.specs.Table.{Has}
 use Rattle.keys.specs.Keys.{mapWordOf}
 use Rattle.keys.specs.ChainLaws.{chain-of, walk-on, walk-less, Passing, pass-start, pass-next, pass-end, pass-fails}
 use Rattle.keys.specs.PlaceLaws.{shows-inside, shown-has, has-shown}
-use Rattle.keys.specs.KeysLaws.{yes, no, refuted, slot-class}
+use Rattle.keys.specs.KeysLaws.{slot-class}
 use Rattle.keys.proofs.has_words.Statement.{statement}
 use Rattle.keys.proofs.has_words.Tie as tie
 
@@ -50,8 +50,8 @@ returns c =
     let r = c .before .before .before .before .before .loop .inv in
     let n = c .before .before .before .before .loop-test .taken in
     let own = walk-on _ _ _ _ l (r .standing) n in
-    let lacks = refuted (c .before .has-word .ensures) (not-true _ (c .if1 .taken)) in
-    no (pass-fails _ _ _ _ own (λ h. lacks (rw (c .before .before .map-word-of .ensures) (has-shown _ _ _ _ (c .before .before .before .before .before .before .before .before .before .before .before .before .before .pre .2) (slot-class _ ∙ own .class) h))))
+    let lacks = failed (c .before .has-word .ensures) (c .if1 .taken) in
+    says-no (pass-fails _ _ _ _ own (λ h. lacks (rw (c .before .before .map-word-of .ensures) (has-shown _ _ _ _ (c .before .before .before .before .before .before .before .before .before .before .before .before .before .pre .2) (slot-class _ ∙ own .class) h))))
 
 mul-wide-2 : tie.Need-mul-wide-2 Inv-loop μ-loop
 mul-wide-2 c = search needs
@@ -74,11 +74,11 @@ loop-again c =
     let l = c .before .before .before .before .before .before .before .before .before .before .before .before .before .before .before .pre .0 .links in
     let r = c .before .before .before .before .before .before .before .loop .inv in
     let n = c .before .before .before .before .before .before .loop-test .taken in
-    let has = shown-has _ _ _ _ _ (c .before .before .before .before .before .before .before .before .before .before .before .before .before .before .before .pre .2 .shows) (c .before .before .before .has-word .ensures .sound (not-false _ (c .before .before .if1 .left))) in
+    let has = shown-has _ _ _ _ _ (c .before .before .before .before .before .before .before .before .before .before .before .before .before .before .before .pre .2 .shows) (passed (c .before .before .before .has-word .ensures) (c .before .before .if1 .left)) in
     rw (c .wide2 .ensures) (pass-next _ _ _ _ _ l r n (rw (c .before .before .before .before .map-word-of .ensures) at has))
 
 returns-2 : tie.Need-returns-2 Inv-loop μ-loop
-returns-2 c = yes (pass-end _ _ _ (rw (c .loop-test .left) at (c .before .loop .inv)))
+returns-2 c = says-yes (pass-end _ _ _ (rw (c .loop-test .left) at (c .before .loop .inv)))
 
 pub has-words-spec : {M : Type 1} → statement M
 has-words-spec =

@@ -2,9 +2,9 @@
 use borrow.Author.Needs.{needs}
 use mathlib.Core.Path.{_≡_}
 use lib.ListN.{getD}
+use Rattle.numbers.specs.DecidesLaws.{says-yes, says-no}
 use Rattle.keys.specs.Keys.{lowOf}
 use Rattle.keys.specs.ChainLaws.{chain-of, walk-on, walk-less, Passing, pass-start, pass-next, pass-end, pass-fails}
-use Rattle.keys.specs.KeysLaws.{yes, no}
 use Rattle.keys.proofs.none_left.Statement.{statement}
 use Rattle.keys.proofs.none_left.Tie as tie
 
@@ -49,7 +49,7 @@ returns c =
     let l = c .before .before .before .before .before .before .before .before .before .before .before .before .pre .0 .links in
     let r = c .before .before .before .before .before .loop .inv in
     let n = c .before .before .before .before .loop-test .taken in
-    no (pass-fails _ _ _ _ (walk-on _ _ _ _ l (r .standing) n) (rw (c .before .before .low-of .ensures .0) at (c .if1 .taken)))
+    says-no (pass-fails _ _ _ _ (walk-on _ _ _ _ l (r .standing) n) (rw (c .before .before .low-of .ensures .0) at (c .if1 .taken)))
 
 mul-wide-2 : tie.Need-mul-wide-2 Inv-loop μ-loop
 mul-wide-2 c = search needs
@@ -75,7 +75,7 @@ loop-again c =
     rw (c .wide2 .ensures) (pass-next _ _ _ _ _ l r n (rw (c .before .before .before .before .low-of .ensures .0) at (c .before .before .if1 .left)))
 
 returns-2 : tie.Need-returns-2 Inv-loop μ-loop
-returns-2 c = yes (pass-end _ _ _ (rw (c .loop-test .left) at (c .before .loop .inv)))
+returns-2 c = says-yes (pass-end _ _ _ (rw (c .loop-test .left) at (c .before .loop .inv)))
 
 pub none-left-spec : {M : Type 1} → statement M
 none-left-spec =

@@ -3,10 +3,10 @@ use borrow.Author.Needs.{needs}
 use Prim.Native.Nat.{ℕ, _≤_, _<_, _-_}
 use native.Mathlib.Omega.{arith}
 use borrow.Author.Count.{below-more}
-use borrow.Author.Tests.{not-true, not-false}
 use lib.ListN.{length}
+use Rattle.numbers.specs.DecidesLaws.{says-yes, says-no, failed, passed}
 use Rattle.keys.specs.Keys.{NewKey}
-use Rattle.keys.specs.KeysLaws.{yes, no, refuted, new-once, once-new}
+use Rattle.keys.specs.KeysLaws.{new-once, once-new}
 use Rattle.keys.proofs.once.Statement.{statement}
 use Rattle.keys.proofs.once.Tie as tie
 
@@ -23,7 +23,7 @@ first-of-key-requires : tie.Need-first-of-key-requires Inv-loop μ-loop
 first-of-key-requires c κs = search needs
 
 returns : tie.Need-returns Inv-loop μ-loop
-returns c = no (λ d. refuted (c .before .first-of-key .ensures) (not-true _ (c .if1 .taken)) (once-new _ d _ (c .before .before .loop-test .taken)))
+returns c = says-no (λ d. failed (c .before .first-of-key .ensures) (c .if1 .taken) (once-new _ d _ (c .before .before .loop-test .taken)))
 
 add-i : tie.Need-add-i Inv-loop μ-loop
 add-i c = search needs
@@ -32,10 +32,10 @@ loop-less : tie.Need-loop-less Inv-loop μ-loop
 loop-less c = search needs
 
 loop-again : tie.Need-loop-again Inv-loop μ-loop
-loop-again c = (omega arith, below-more _ _ (c .before .before .before .loop .inv .1) (c .before .first-of-key .ensures .sound (not-false _ (c .if1 .left))))
+loop-again c = (omega arith, below-more _ _ (c .before .before .before .loop .inv .1) (passed (c .before .first-of-key .ensures) (c .if1 .left)))
 
 returns-2 : tie.Need-returns-2 Inv-loop μ-loop
-returns-2 c = yes (new-once _ (λ j h. c .before .loop .inv .1 j (omega (arith, c .loop-test .left))))
+returns-2 c = says-yes (new-once _ (λ j h. c .before .loop .inv .1 j (omega (arith, c .loop-test .left))))
 
 pub once-spec : {M : Type 1} → statement M
 once-spec =

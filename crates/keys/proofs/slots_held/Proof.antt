@@ -3,11 +3,10 @@ use borrow.Author.Needs.{needs}
 use Prim.Native.Nat.{ℕ}
 use mathlib.Core.Path.{refl, sym, _∙_}
 use native.Mathlib.Omega.{arith}
-use borrow.Author.Tests.{not-true, not-false}
 use lib.ListN.{length-replicate}
+use Rattle.numbers.specs.DecidesLaws.{says-no, failed, passed, decides-as}
 use Rattle.numbers.specs.Limits.{ENTRIES, SLOTS}
 use Rattle.keys.specs.PlaceLaws.{blank-start}
-use Rattle.keys.specs.KeysLaws.{no, refuted}
 use Rattle.keys.proofs.slots_held.Statement.{statement}
 use Rattle.keys.proofs.slots_held.Tie as tie
 
@@ -15,7 +14,7 @@ once-requires : tie.Need-once-requires
 once-requires c κs = search needs
 
 returns : tie.Need-returns
-returns c = no (λ a. refuted (c .before .once .ensures) (not-true _ (c .if1 .taken)) (a .once))
+returns c = says-no (λ a. failed (c .before .once .ensures) (c .if1 .taken) (a .once))
 
 slice-aggregate-chain : tie.Need-slice-aggregate-chain
 slice-aggregate-chain c = search needs
@@ -55,11 +54,9 @@ held-requires c κs = (c .before .before .before .before .before .before .before
 
 returns-2 : tie.Need-returns-2
 returns-2 c =
-    let d = c .before .held .ensures in
-    record {
-      sound = λ z. record { each = d .sound z .each; once = c .before .before .before .before .before .before .before .before .before .before .before .before .before .before .before .before .before .before .once .ensures .sound (not-false _ (c .before .before .before .before .before .before .before .before .before .before .before .before .before .before .before .before .before .if1 .left)) };
-      complete = λ a. d .complete (record { once = c .before .before .before .before .before .before .before .before .before .before .before .before .before .before .before .before .before .before .before .before .before .pre .3; each = a .each });
-    }
+    decides-as (c .before .held .ensures)
+    (λ h. record { each = h .each; once = passed (c .before .before .before .before .before .before .before .before .before .before .before .before .before .before .before .before .before .before .once .ensures) (c .before .before .before .before .before .before .before .before .before .before .before .before .before .before .before .before .before .if1 .left) })
+    (λ a. record { once = c .before .before .before .before .before .before .before .before .before .before .before .before .before .before .before .before .before .before .before .before .before .pre .3; each = a .each })
 
 pub slots-held-spec : {M : Type 1} → statement M
 slots-held-spec =

@@ -2,11 +2,10 @@
 use borrow.Author.Needs.{needs}
 use mathlib.Core.Bool.{true≢false}
 use mathlib.Core.Path.{sym}
-use borrow.Author.Tests.{not-true, not-false}
+use Rattle.numbers.specs.DecidesLaws.{failed, passed}
 use Rattle.keys.specs.Keys.{Matched}
 use Rattle.keys.specs.ChainLaws.{chain-of, Standing, walk-start, walk-on, walk-next, walk-less}
 use Rattle.keys.specs.PlaceLaws.{shows-inside, match-start, match-fails, match-next}
-use Rattle.keys.specs.KeysLaws.{refuted}
 use Rattle.keys.proofs.take.Statement.{statement}
 use Rattle.keys.proofs.take.Tie as tie
 
@@ -53,7 +52,7 @@ returns c =
     let own = walk-on _ _ _ _ l (r .0) n in
     record {
       matched = λ z. absurd (true≢false (sym z));
-      differs = λ z. match-fails _ _ _ _ _ (r .1) own n (refuted (c .before .has-word .ensures) (not-true _ (c .if1 .taken)));
+      differs = λ z. match-fails _ _ _ _ _ (r .1) own n (failed (c .before .has-word .ensures) (c .if1 .taken));
     }
 
 low-of-requires : tie.Need-low-of-requires Inv-loop μ-loop
@@ -87,7 +86,7 @@ loop-again c =
     let r = c .before .before .before .before .before .before .before .before .loop .inv in
     let n = c .before .before .before .before .before .before .before .loop-test .taken in
     let own = walk-on _ _ _ _ l (r .0) n in
-    let shown = c .before .before .before .before .has-word .ensures .sound (not-false _ (c .before .before .before .if1 .left)) in
+    let shown = passed (c .before .before .before .before .has-word .ensures) (c .before .before .before .if1 .left) in
     rw (c .wide2 .ensures, c .before .before .low-of .ensures .0) (walk-next _ _ _ _ l (r .0) n, match-next _ _ _ _ _ (r .1) own n _ l (r .0) shown)
 
 same-length-2 : tie.Need-same-length-2 Inv-loop μ-loop

@@ -1,6 +1,6 @@
 use borrow.Author.Needs.{needs}
 use mathlib.Core.Path.{sym}
-use Rattle.judge.specs.KnownLaws.{knows-none}
+use Rattle.model.specs.KnownLaws.{knows-none}
 use Rattle.judge.proofs.header.is_known.Statement.{statement}
 use Rattle.judge.proofs.header.is_known.Tie as tie
 

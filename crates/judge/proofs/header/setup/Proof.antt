@@ -1,5 +1,5 @@
 use borrow.Author.Needs.{needs}
-use Rattle.judge.specs.DecideLaws.{decides-as, passed, failed, says-no}
+use Rattle.numbers.specs.DecidesLaws.{decides-as, passed, failed, says-no}
 use Rattle.judge.proofs.header.setup.Statement.{statement}
 use Rattle.judge.proofs.header.setup.Tie as tie
 
@@ -18,9 +18,9 @@ returns-2 : tie.Need-returns-2
 returns-2 c =
     let n = passed (c .before .before .setup-numbers .ensures) (c .before .if1 .left) in
     decides-as
+    (c .units-good .ensures)
     (λ all. record { some-pages = n .some-pages; most-pages = n .most-pages; shared = n .shared; unit-count = n .unit-count; units = all })
     (λ s. s .units)
-    (c .units-good .ensures)
 
 pub setup-spec : {M : Type 1} → statement M
 setup-spec = tie.close (tie.spec setup-numbers-requires returns units-good-requires returns-2)

@@ -1,9 +1,10 @@
 use borrow.Author.Needs.{needs}
 use Prim.Native.Nat.{ℕ, _-_}
 use lib.ListN.{getD}
+use Rattle.numbers.specs.DecidesLaws.{passed, failed, says-yes, says-no}
 use Rattle.units.specs.Units.{noUnit}
 use Rattle.model.specs.Valid.{UnitGood}
-use Rattle.judge.specs.DecideLaws.{Judging, judge-start, judge-next, judge-end, passed, failed, says-yes, says-no}
+use Rattle.judge.specs.DecideLaws.{Judging, judge-start, judge-next, judge-end}
 use Rattle.judge.proofs.header.units_good.Statement.{statement}
 use Rattle.judge.proofs.header.units_good.Tie as tie
 

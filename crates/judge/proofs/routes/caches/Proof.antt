@@ -1,5 +1,5 @@
 use borrow.Author.Needs.{needs}
-use Rattle.judge.specs.DecideLaws.{says-no, passed, failed, decides-as}
+use Rattle.numbers.specs.DecidesLaws.{says-no, passed, failed, decides-as}
 use Rattle.judge.specs.RouteLaws.{filled}
 use Rattle.judge.proofs.routes.caches.Statement.{statement}
 use Rattle.judge.proofs.routes.caches.Tie as tie
@@ -17,9 +17,9 @@ returns-2 : tie.Need-returns-2
 returns-2 c =
     let each = passed (c .before .before .slots .ensures) (c .before .if1 .left) in
     decides-as
+    (c .slots-held .ensures)
     (λ held. record { each = λ w h. let s = each w h in record { port = s .port; filled = s .filled; entry = held .each w h }; once = held .once })
     (λ g. record { each = λ w h. g .each w h .entry; once = g .once })
-    (c .slots-held .ensures)
 
 pub caches-spec : {M : Type 1} → statement M
 caches-spec = tie.close (tie.spec slots-requires returns slots-held-requires returns-2)

@@ -1,7 +1,7 @@
 use borrow.Author.Needs.{needs}
 use native.Mathlib.Omega.{arith}
-use Rattle.judge.specs.DecideLaws.{says-yes, says-no, passed, failed, decides-as, decides-true}
-use Rattle.judge.specs.KnownLaws.{knows-below}
+use Rattle.numbers.specs.DecidesLaws.{says-yes, says-no, passed, failed, decides-as, decides-itself}
+use Rattle.model.specs.KnownLaws.{knows-below}
 use Rattle.judge.proofs.routes.entry_good.Statement.{statement}
 use Rattle.judge.proofs.routes.entry_good.Tie as tie
 
@@ -32,7 +32,7 @@ returns-3 : tie.Need-returns-3
 returns-3 c =
     let k = passed (c .before .before .before .before .known-word .ensures) (c .before .before .before .if2 .left) in
     rw (c .may-map .ensures, c .before .before .vm-of .ensures, c .before .page-of .ensures)
-    (decides-as (λ m _. record { port = k .port; filled = k .filled; page = k .page; vm = k .vm; may = m }) (λ h. h (c .before .before .before .before .before .if1 .left) .may) (decides-true _))
+    (decides-as (decides-itself _) (λ m _. record { port = k .port; filled = k .filled; page = k .page; vm = k .vm; may = m }) (λ h. h (c .before .before .before .before .before .if1 .left) .may))
 
 pub entry-good-spec : {M : Type 1} → statement M
 entry-good-spec =

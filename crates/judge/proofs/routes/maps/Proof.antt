@@ -1,4 +1,4 @@
-use Rattle.judge.specs.DecideLaws.{says-no, passed, failed, decides-as}
+use Rattle.numbers.specs.DecidesLaws.{says-no, passed, failed, decides-as}
 use Rattle.judge.specs.RouteLaws.{packed}
 use Rattle.judge.proofs.routes.maps.Statement.{statement}
 use Rattle.judge.proofs.routes.maps.Tie as tie
@@ -23,13 +23,13 @@ same-maps-requires c κs =
 returns-3 : tie.Need-returns-3
 returns-3 c =
     decides-as
+    (c .same-maps .ensures)
     (λ a. record {
       map = record { each = passed (c .before .before .before .before .entries .ensures) (c .before .before .before .if1 .left); once = a .map-once };
       walker = record { each = passed (c .before .before .entries2 .ensures) (c .before .if2 .left); once = a .walker-once };
       same = a .same;
     })
     (λ g. record { map-once = g .map .once; walker-once = g .walker .once; same = g .same })
-    (c .same-maps .ensures)
 
 pub maps-spec : {M : Type 1} → statement M
 maps-spec =

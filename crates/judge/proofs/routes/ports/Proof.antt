@@ -1,9 +1,10 @@
 use borrow.Author.Needs.{needs}
 use Prim.Native.Nat.{ℕ, _-_, _<_}
 use lib.ListN.{length, getD}
+use Rattle.numbers.specs.DecidesLaws.{says-yes, says-no, passed, failed}
 use Rattle.numbers.specs.Limits.{PORTS, IDLE}
 use Rattle.model.specs.MemoryLaws.{getD-there}
-use Rattle.judge.specs.DecideLaws.{Judging, judge-start, judge-next, judge-end, says-yes, says-no, passed, failed}
+use Rattle.judge.specs.DecideLaws.{Judging, judge-start, judge-next, judge-end}
 use Rattle.judge.specs.Parts.{PortGood}
 use Rattle.judge.proofs.routes.ports.Statement.{statement}
 use Rattle.judge.proofs.routes.ports.Tie as tie

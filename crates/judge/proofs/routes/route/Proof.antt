@@ -1,4 +1,4 @@
-use Rattle.judge.specs.DecideLaws.{says-no, passed, failed, decides-as, decides-both, decides-below}
+use Rattle.numbers.specs.DecidesLaws.{says-no, passed, failed, decides-as, decides-and, decides-less}
 use Rattle.judge.specs.RouteLaws.{packed}
 use Rattle.judge.proofs.routes.route.Statement.{statement}
 use Rattle.judge.proofs.routes.route.Tie as tie
@@ -25,9 +25,9 @@ returns-3 : tie.Need-returns-3
 returns-3 c =
     let m = passed (c .before .before .before .before .maps .ensures) (c .before .before .before .if1 .left) in
     decides-as
+    (decides-and (c .ports .ensures) (decides-less _ _))
     (λ q. record { map = m .map; walker = m .walker; same = m .same; cache = passed (c .before .before .caches .ensures) (c .before .if2 .left); ports = q .0; hand = q .1 })
     (λ g. (g .ports, g .hand))
-    (decides-both (c .ports .ensures) (decides-below _ _))
 
 pub route-spec : {M : Type 1} → statement M
 route-spec = tie.close (tie.spec maps-requires returns caches-requires returns-2 ports-requires returns-3)

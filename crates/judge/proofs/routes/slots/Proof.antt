@@ -1,8 +1,9 @@
 use borrow.Author.Needs.{needs}
 use Prim.Native.Nat.{_-_}
 use lib.ListN.{length}
+use Rattle.numbers.specs.DecidesLaws.{says-yes, says-no, passed, failed}
 use Rattle.judge.specs.Parts.{SlotPacked}
-use Rattle.judge.specs.DecideLaws.{Judging, AtPlace, judge-start, judge-next, judge-end, each-place, each-word, says-yes, says-no, passed, failed}
+use Rattle.judge.specs.DecideLaws.{Judging, AtPlace, judge-start, judge-next, judge-end, each-place, each-word}
 use Rattle.judge.proofs.routes.slots.Statement.{statement}
 use Rattle.judge.proofs.routes.slots.Tie as tie
 

@@ -1,5 +1,5 @@
 use borrow.Author.Needs.{needs}
-use Rattle.judge.specs.DecideLaws.{decides-as, decides-both, decides-not, decides-same, decides-true}
+use Rattle.numbers.specs.DecidesLaws.{decides-as, decides-and, decides-not, decides-equal, decides-itself}
 use Rattle.judge.proofs.sharing.packs_pair.Statement.{statement}
 use Rattle.judge.proofs.sharing.packs_pair.Tie as tie
 
@@ -25,9 +25,9 @@ returns : tie.Need-returns
 returns c =
     rw (c .before .before .before .before .access-of .ensures, c .before .before .before .generation-of .ensures, c .is-known .ensures, c .before .before .before .before .before .before .before .left-of .ensures, c .before .before .before .before .before .before .right-of .ensures)
     (decides-as
+    (decides-and (decides-and (decides-and (decides-and (c .before .before .before .before .before .known-word .ensures) (decides-equal _ _)) (decides-equal _ _)) (decides-not (decides-equal _ _))) (decides-itself _))
     (λ p. record { word = p .0 .0 .0 .0; access = p .0 .0 .0 .1; generation = p .0 .0 .1; apart = p .0 .1; right = p .1 })
-    (λ w. ((((w .word, w .access), w .generation), w .apart), w .right))
-    (decides-both (decides-both (decides-both (decides-both (c .before .before .before .before .before .known-word .ensures) (decides-same _ _)) (decides-same _ _)) (decides-not (decides-same _ _))) (decides-true _)))
+    (λ w. ((((w .word, w .access), w .generation), w .apart), w .right)))
 
 pub packs-pair-spec : {M : Type 1} → statement M
 packs-pair-spec =

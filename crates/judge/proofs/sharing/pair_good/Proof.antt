@@ -1,7 +1,7 @@
 use borrow.Author.Needs.{needs}
 use native.Mathlib.Omega.{arith}
-use Rattle.judge.specs.KnownLaws.{knows-below}
-use Rattle.judge.specs.DecideLaws.{decides-as, decides-either, decides-true, passed, failed, says-no}
+use Rattle.numbers.specs.DecidesLaws.{decides-as, decides-or, decides-itself, passed, failed, says-no}
+use Rattle.model.specs.KnownLaws.{knows-below}
 use Rattle.judge.proofs.sharing.pair_good.Statement.{statement}
 use Rattle.judge.proofs.sharing.pair_good.Tie as tie
 
@@ -39,9 +39,9 @@ returns-2 c =
     let p = passed (c .before .before .before .before .before .before .packs-pair .ensures) (c .before .before .before .before .before .if1 .left) in
     rw (c .before .claims .ensures, c .claims2 .ensures, c .before .before .before .before .left-of .ensures, c .before .before .before .right-of .ensures, c .before .before .page-of .ensures)
     (decides-as
+    (decides-or (decides-itself _) (decides-itself _))
     (λ o. record { port = p .word .port; filled = p .word .filled; access = p .access; generation = p .generation; page = p .word .page; apart = p .apart; left = p .word .vm; right = p .right; owned = o })
-    (λ g. g .owned)
-    (decides-either (decides-true _) (decides-true _)))
+    (λ g. g .owned))
 
 pub pair-good-spec : {M : Type 1} → statement M
 pair-good-spec =

@@ -1,5 +1,5 @@
 use borrow.Author.Needs.{needs}
-use Rattle.judge.specs.DecideLaws.{decides-as, decides-both, decides-same, decides-below, decides-true}
+use Rattle.numbers.specs.DecidesLaws.{decides-as, decides-and, decides-equal, decides-less, decides-itself}
 use Rattle.judge.proofs.words.known_word.Statement.{statement}
 use Rattle.judge.proofs.words.known_word.Tie as tie
 
@@ -22,9 +22,9 @@ returns : tie.Need-returns
 returns c =
     rw (c .before .before .before .port-of .ensures, c .before .before .filled-of .ensures, c .before .before .before .before .page-of .ensures, c .is-known .ensures, c .before .before .before .before .before .vm-of .ensures)
     (decides-as
+    (decides-and (decides-and (decides-and (decides-equal _ _) (decides-equal _ _)) (decides-less _ _)) (decides-itself _))
     (λ p. record { port = p .0 .0 .0; filled = p .0 .0 .1; page = p .0 .1; vm = p .1 })
-    (λ w. (((w .port, w .filled), w .page), w .vm))
-    (decides-both (decides-both (decides-both (decides-same _ _) (decides-same _ _)) (decides-below _ _)) (decides-true _)))
+    (λ w. (((w .port, w .filled), w .page), w .vm)))
 
 pub known-word-spec : {M : Type 1} → statement M
 known-word-spec =

@@ -1,5 +1,5 @@
 use borrow.Author.Needs.{needs}
-use Rattle.judge.specs.DecideLaws.{failed, passed}
+use Rattle.numbers.specs.DecidesLaws.{failed, passed}
 use Rattle.model.specs.Entries.{valid, not-valid}
 use Rattle.machine.specs.EntryLaws.{fit}
 use Rattle.machine.proofs.entries.sequence.Statement.{statement}
