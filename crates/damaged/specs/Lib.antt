@@ -1,0 +1,2 @@
+-- How many words the states of the program have.
+pub mod Words

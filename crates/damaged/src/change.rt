@@ -1,0 +1,219 @@
+// One change each. Of a word or of a page of a set: made, shown and undone. Of the header: shown of a header that differs in one
+// number.
+ghost use Prim.Native.Nat.{_*_, _<_};
+ghost use Rattle.numbers.specs.Limits.{PAGES, PAGE-WORDS, VMS, PORTS, UNITS, SETS};
+ghost use Rattle.damaged.specs.Words.{N};
+use crate::state::Table;
+use crate::state::WORDS;
+use crate::state::show;
+use crate::state::start_of;
+use model::Machine;
+use numbers::SET_WORDS;
+use numbers::Side;
+use units::Unit;
+
+// ---- Words.
+
+// The bits are flipped in the word at a place of a table. Of an empty place these are the bits of the word that comes there.
+pub fn flip_case(
+    rule: &[u8],
+    clause: &[u8],
+    m: Machine,
+    words: &mut [u64; WORDS],
+    table: Table,
+    place: usize,
+    bits: u64,
+)
+    requires { ⌜ place < PAGE-WORDS * N ⌝ }
+{
+    let at = start_of(table) + place;
+    words[at] = words[at] ^ bits;
+    show(rule, clause, m, words);
+    words[at] = words[at] ^ bits;
+}
+
+// Two words change places.
+pub fn swap_case(
+    rule: &[u8],
+    clause: &[u8],
+    m: Machine,
+    words: &mut [u64; WORDS],
+    table: Table,
+    place: usize,
+    other: usize,
+)
+    requires { ⌜ (place < PAGE-WORDS * N) × (other < PAGE-WORDS * N) ⌝ }
+{
+    let start = start_of(table);
+    let at = start + place;
+    let beside = start + other;
+    let kept = words[at];
+    let moved = words[beside];
+    words[at] = moved;
+    words[beside] = kept;
+    show(rule, clause, m, words);
+    words[at] = kept;
+    words[beside] = moved;
+}
+
+// ---- Page sets: rows 0 and 1, then two for each VM.
+
+pub const POOL: usize = 0;
+
+pub const SHARED: usize = 1;
+
+// The page goes into the row's set, or out of it where it is there.
+pub fn toggle(words: &mut [u64; WORDS], row: usize, page: u64)
+    requires { ⌜ (row < SETS) × (page < PAGES) ⌝ }
+{
+    let at = row * SET_WORDS + (page / 64) as usize;
+    words[at] = words[at] ^ (1 << (page % 64));
+}
+
+pub fn toggle_cpu(words: &mut [u64; WORDS], vm: usize, page: u64)
+    requires { ⌜ (vm < VMS) × (page < PAGES) ⌝ }
+{
+    toggle(words, 2 + 2 * vm, page);
+}
+
+pub fn toggle_dma(words: &mut [u64; WORDS], vm: usize, page: u64)
+    requires { ⌜ (vm < VMS) × (page < PAGES) ⌝ }
+{
+    toggle(words, 3 + 2 * vm, page);
+}
+
+pub fn set_case(
+    rule: &[u8],
+    clause: &[u8],
+    m: Machine,
+    words: &mut [u64; WORDS],
+    row: usize,
+    page: u64,
+)
+    requires { ⌜ (row < SETS) × (page < PAGES) ⌝ }
+{
+    toggle(words, row, page);
+    show(rule, clause, m, words);
+    toggle(words, row, page);
+}
+
+pub fn cpu_case(
+    rule: &[u8],
+    clause: &[u8],
+    m: Machine,
+    words: &mut [u64; WORDS],
+    vm: usize,
+    page: u64,
+)
+    requires { ⌜ (vm < VMS) × (page < PAGES) ⌝ }
+{
+    set_case(rule, clause, m, words, 2 + 2 * vm, page);
+}
+
+pub fn dma_case(
+    rule: &[u8],
+    clause: &[u8],
+    m: Machine,
+    words: &mut [u64; WORDS],
+    vm: usize,
+    page: u64,
+)
+    requires { ⌜ (vm < VMS) × (page < PAGES) ⌝ }
+{
+    set_case(rule, clause, m, words, 3 + 2 * vm, page);
+}
+
+// ---- The header.
+
+pub fn with_pages(m: Machine, pages: u64) -> Machine {
+    let mut changed = m;
+    changed.pages = pages;
+    changed
+}
+
+pub fn with_shared_base(m: Machine, base: u64) -> Machine {
+    let mut changed = m;
+    changed.shared_base = base;
+    changed
+}
+
+pub fn with_shared_count(m: Machine, count: u64) -> Machine {
+    let mut changed = m;
+    changed.shared_count = count;
+    changed
+}
+
+pub fn with_unit_count(m: Machine, count: u64) -> Machine {
+    let mut changed = m;
+    changed.unit_count = count;
+    changed
+}
+
+pub fn with_unit(m: Machine, k: usize, unit: Unit) -> Machine
+    requires { ⌜ k < UNITS ⌝ }
+{
+    let mut changed = m;
+    let mut units = m.units;
+    units[k] = unit;
+    changed.units = units;
+    changed
+}
+
+// A VM is known where it was not, or the other way round.
+pub fn known_case(rule: &[u8], clause: &[u8], m: Machine, words: &[u64; WORDS], vm: u64)
+    requires { ⌜ vm < 64 ⌝ }
+{
+    let mut changed = m;
+    changed.known = m.known ^ (1 << vm);
+    show(rule, clause, changed, words);
+}
+
+// A port has another VM, or is idle.
+pub fn port_case(
+    rule: &[u8],
+    clause: &[u8],
+    m: Machine,
+    words: &[u64; WORDS],
+    side: Side,
+    port: usize,
+    vm: u64,
+)
+    requires { ⌜ port < PORTS ⌝ }
+{
+    let mut changed = m;
+    match side {
+        Side::Cpu => {
+            let mut cpus = m.cpus;
+            cpus[port] = vm;
+            changed.cpus = cpus;
+            show(rule, clause, changed, words);
+        }
+        Side::Dma => {
+            let mut devices = m.devices;
+            devices[port] = vm;
+            changed.devices = devices;
+            show(rule, clause, changed, words);
+        }
+    }
+}
+
+pub fn hand_case(
+    rule: &[u8],
+    clause: &[u8],
+    m: Machine,
+    words: &[u64; WORDS],
+    side: Side,
+    hand: u64,
+) {
+    let mut changed = m;
+    match side {
+        Side::Cpu => {
+            changed.cpu_hand = hand;
+            show(rule, clause, changed, words);
+        }
+        Side::Dma => {
+            changed.dma_hand = hand;
+            show(rule, clause, changed, words);
+        }
+    }
+}

@@ -1,0 +1,63 @@
+// Damaged states, each a valid one with one change, and what the test for validity says of each (docs/MACHINE.md, 4).
+mod base;
+mod change;
+mod harmless;
+mod routes;
+mod rules;
+mod state;
+
+use model::Machine;
+use numbers::Side;
+use state::Table;
+use state::WORDS;
+use state::show;
+
+// The state after start.
+fn fresh(words: &mut [u64; WORDS]) {
+    let m = base::fresh_header();
+    base::fill_pool(words);
+    show(b"undamaged", b"after start", m, words);
+    rules::rule_2_empty_span(m, words);
+    harmless::empty_span(m, words);
+}
+
+fn unharmed(m: Machine, words: &mut [u64; WORDS]) {
+    harmless::header(m, words);
+    harmless::tables(m, words);
+    harmless::walker(b"harmless in the CPU walker", m, words, Table::CpuWalker);
+    harmless::walker(b"harmless in the DMA walker", m, words, Table::DmaWalker);
+    harmless::cache(b"harmless in the CPU cache", m, words, Table::CpuCache);
+    harmless::cache(b"harmless in the DMA cache", m, words, Table::DmaCache);
+    harmless::ports(b"harmless on the CPUs", Side::Cpu, m, words);
+    harmless::ports(b"harmless on the devices", Side::Dma, m, words);
+}
+
+// The state with VMs at work. It is shown again at the end, when every change has been undone.
+fn busy(words: &mut [u64; WORDS]) {
+    let m = base::busy_header();
+    base::fill(words);
+    show(b"undamaged", b"at work", m, words);
+    rules::rule_1(m, words);
+    rules::rule_2(m, words);
+    rules::rule_2_unit(m, words);
+    rules::rule_3(m, words);
+    rules::rule_4_header(m, words);
+    rules::rule_4_bounds(m, words);
+    rules::rule_4_homes(m, words);
+    rules::rule_5_fields(m, words);
+    rules::rule_5_ends(m, words);
+    routes::rule_6(m, words);
+    routes::rule_6_elsewhere(m, words);
+    routes::rule_7(m, words);
+    rules::rule_8(b"8 CPUs", Side::Cpu, 8, m, words);
+    rules::rule_8(b"8 devices", Side::Dma, 9, m, words);
+    rules::rule_9(m, words);
+    unharmed(m, words);
+    show(b"undamaged", b"at work, at the end", m, words);
+}
+
+fn main() {
+    let mut words = [0u64; WORDS];
+    fresh(&mut words);
+    busy(&mut words);
+}
