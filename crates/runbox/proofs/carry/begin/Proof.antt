@@ -31,9 +31,6 @@ start-requires c κs = search needs
 print-start-requires : tie.Need-print-start-requires
 print-start-requires c κs = search needs
 
-phase-of-requires : tie.Need-phase-of-requires
-phase-of-requires c κs = search needs
-
 moved-requires : tie.Need-moved-requires
 moved-requires c κs = search needs
 
@@ -43,7 +40,7 @@ same-length c = search needs
 returns-2 : tie.Need-returns-2
 returns-2 c =
     let kept = c .moved .ensures in
-    let waits = c .before .before .before .before .before .before .before .before .before .before .before .before .before .before .before .before .before .before .before .before .before .before .before .pre .0 in
+    let waits = c .before .before .before .before .before .before .before .before .before .before .before .before .before .before .before .before .before .before .before .before .before .before .pre .0 in
     record { few-units = rw (kept .0) (waits .few-units); few-rows = rw (kept .1) (waits .few-rows) }
 
 pub begin-spec : {M : Type 1} → statement M
@@ -59,7 +56,6 @@ begin-spec =
     slice-aggregate-start-2
     start-requires
     print-start-requires
-    phase-of-requires
     moved-requires
     same-length
     returns-2)
