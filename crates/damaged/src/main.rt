@@ -12,9 +12,10 @@ use state::Table;
 use state::WORDS;
 use state::show;
 
-// The state after start.
+// The machine that a refused start gives, and the state after start.
 fn fresh(words: &mut [u64; WORDS]) {
     let m = base::fresh_header();
+    rules::rule_2_empty_machine(m, words);
     base::fill_pool(words);
     show(b"undamaged", b"after start", m, words);
     rules::rule_2_empty_span(m, words);

@@ -1,5 +1,6 @@
 // The damaged states, a function or two for each rule of the manual. Most break one clause of one rule and no other.
-ghost use Prim.Native.Nat.{_<_};
+ghost use Prim.Native.Nat.{_+_, _<_};
+ghost use Rattle.damaged.specs.Words.{WORDS};
 use crate::base::ACCESS;
 use crate::base::FILLED;
 use crate::base::GENERATION;
@@ -20,6 +21,7 @@ use crate::change::with_shared_base;
 use crate::change::with_shared_count;
 use crate::change::with_unit;
 use crate::change::with_unit_count;
+use crate::state::CACHE_WORDS;
 use crate::state::CPU_CACHE_AT;
 use crate::state::CPU_MAP_AT;
 use crate::state::CPU_WALKER_AT;
@@ -27,37 +29,49 @@ use crate::state::DMA_CACHE_AT;
 use crate::state::DMA_MAP_AT;
 use crate::state::DMA_WALKER_AT;
 use crate::state::MEMORY_AT;
-use crate::state::NOWHERE;
+use crate::state::MEMORY_WORDS;
 use crate::state::PAIRS_AT;
 use crate::state::SETS_AT;
+use crate::state::SETS_WORDS;
 use crate::state::Table;
 use crate::state::WORDS;
 use crate::state::show;
 use crate::state::show_lent;
 use model::Machine;
+use numbers::ENTRIES;
 use numbers::IDLE;
+use numbers::PAIRS;
 use numbers::Side;
 use units::Unit;
 
 // ---- 1: lengths.
 
-fn length_cases(slice: &[u8], m: Machine, words: &[u64; WORDS], at: usize) {
-    show_lent(b"1 a word short", slice, m, words, at, NOWHERE);
-    show_lent(b"1 a word long", slice, m, words, NOWHERE, at);
+// The slice that begins at `at`, of `own` words.
+fn length_cases(slice: &[u8], m: Machine, words: &[u64; WORDS], at: usize, own: usize)
+    requires { ⌜ (0 < own) × (at + own < WORDS) ⌝ }
+{
+    show_lent(b"1 a word short", slice, m, words, at, own - 1);
+    show_lent(b"1 a word long", slice, m, words, at, own + 1);
 }
 
 pub fn rule_1(m: Machine, words: &[u64; WORDS]) {
-    length_cases(b"page sets", m, words, SETS_AT);
-    length_cases(b"pairs", m, words, PAIRS_AT);
-    length_cases(b"CPU map", m, words, CPU_MAP_AT);
-    length_cases(b"CPU walker", m, words, CPU_WALKER_AT);
-    length_cases(b"CPU cache", m, words, CPU_CACHE_AT);
-    length_cases(b"DMA map", m, words, DMA_MAP_AT);
-    length_cases(b"DMA walker", m, words, DMA_WALKER_AT);
-    length_cases(b"DMA cache", m, words, DMA_CACHE_AT);
+    length_cases(b"page sets", m, words, SETS_AT, SETS_WORDS);
+    length_cases(b"pairs", m, words, PAIRS_AT, PAIRS);
+    length_cases(b"CPU map", m, words, CPU_MAP_AT, ENTRIES);
+    length_cases(b"CPU walker", m, words, CPU_WALKER_AT, ENTRIES);
+    length_cases(b"CPU cache", m, words, CPU_CACHE_AT, CACHE_WORDS);
+    length_cases(b"DMA map", m, words, DMA_MAP_AT, ENTRIES);
+    length_cases(b"DMA walker", m, words, DMA_WALKER_AT, ENTRIES);
+    length_cases(b"DMA cache", m, words, DMA_CACHE_AT, CACHE_WORDS);
 }
 
 // ---- 2: setup.
+
+// What a refused start gives, over words that are all 0 and no memory: all that is wrong is that it has no pages.
+pub fn rule_2_empty_machine(m: Machine, words: &[u64; WORDS]) {
+    let none = with_shared_base(with_pages(m, 0), 0);
+    show_lent(b"2 setup", b"empty machine", none, words, MEMORY_AT, 0);
+}
 
 // Of the state after start, whose shared span is empty: no row says where it lies.
 pub fn rule_2_empty_span(m: Machine, words: &[u64; WORDS]) {
@@ -155,6 +169,7 @@ pub fn rule_5_fields(m: Machine, words: &mut [u64; WORDS]) {
     pair_case(b"access 1", m, words, good | ACCESS);
     pair_case(b"generation 1", m, words, good | GENERATION);
     pair_case(b"page N", m, words, pair(1, 15, 70));
+    pair_case(b"page 1024", m, words, pair(1, 15, 1024));
     pair_case(b"left end unknown", m, words, pair(3, 1, 2));
     pair_case(b"right end unknown", m, words, pair(1, 3, 2));
     pair_case(b"left end 18", m, words, pair(18, 1, 2));
@@ -193,6 +208,6 @@ pub fn rule_8(rule: &[u8], side: Side, only: u64, m: Machine, words: &[u64; WORD
 
 pub fn rule_9(m: Machine, words: &[u64; WORDS]) {
     let rule = b"9 memory";
-    show_lent(rule, b"a word short", m, words, MEMORY_AT, NOWHERE);
-    show_lent(rule, b"a word long", m, words, NOWHERE, MEMORY_AT);
+    show_lent(rule, b"a word short", m, words, MEMORY_AT, MEMORY_WORDS - 1);
+    show_lent(rule, b"a word long", m, words, MEMORY_AT, MEMORY_WORDS + 1);
 }

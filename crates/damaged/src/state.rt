@@ -1,5 +1,5 @@
 // The words of a state in one array: the nine slices in the order of the machine, each with a spare word after it, so that a
-// slice can be lent one word too long. A change is of one word, of one number of the header, or of one length.
+// slice can be lent a word too long. A change is of one word, of one number of the header, or of one length.
 ghost use mathlib.Core.Path.{_≡_};
 ghost use Prim.Native.Nat.{_+_, _*_, _≤_, _<_};
 ghost use lib.ListN.{length};
@@ -19,9 +19,9 @@ pub const N: u64 = 70;
 
 // ---- Where each slice begins.
 
-const SETS_WORDS: usize = SETS * SET_WORDS;
+pub const SETS_WORDS: usize = SETS * SET_WORDS;
 
-const CACHE_WORDS: usize = SLOTS as usize;
+pub const CACHE_WORDS: usize = SLOTS as usize;
 
 pub const MEMORY_WORDS: usize = (PAGE_WORDS * N) as usize;
 
@@ -77,32 +77,29 @@ pub fn start_of(table: Table) -> usize
 
 // ---- Judging.
 
-// Where the slice at `at` ends as it is lent: a word early where it is the short one, a word late where it is the long one.
-fn end_of(at: usize, length: usize, short: usize, long: usize) -> usize
-    requires { ⌜ (0 < length) × (at + length < WORDS) ⌝ }
+// Where a slice ends as it is lent: after its own words, or after `count` where it is the slice that begins at `changed`.
+fn end_of(at: usize, own: usize, changed: usize, count: usize) -> usize
+    requires { ⌜ (at + own < WORDS) × (changed + count ≤ WORDS) ⌝ }
     ensures { λ r. ⌜ (at ≤ r) × (r ≤ WORDS) ⌝ }
 {
-    if at == short {
-        return at + length - 1;
+    if at == changed {
+        return changed + count;
     }
-    if at == long {
-        return at + length + 1;
-    }
-    at + length
+    at + own
 }
 
-fn is_valid(m: Machine, words: &[u64], short: usize, long: usize) -> bool
-    requires { ⌜ length (now words) ≡ WORDS ⌝ }
+fn is_valid(m: Machine, words: &[u64], changed: usize, count: usize) -> bool
+    requires { ⌜ (length (now words) ≡ WORDS) × (changed + count ≤ WORDS) ⌝ }
 {
-    let sets = end_of(SETS_AT, SETS_WORDS, short, long);
-    let pairs = end_of(PAIRS_AT, PAIRS, short, long);
-    let cpu_map = end_of(CPU_MAP_AT, ENTRIES, short, long);
-    let cpu_walker = end_of(CPU_WALKER_AT, ENTRIES, short, long);
-    let cpu_cache = end_of(CPU_CACHE_AT, CACHE_WORDS, short, long);
-    let dma_map = end_of(DMA_MAP_AT, ENTRIES, short, long);
-    let dma_walker = end_of(DMA_WALKER_AT, ENTRIES, short, long);
-    let dma_cache = end_of(DMA_CACHE_AT, CACHE_WORDS, short, long);
-    let memory = end_of(MEMORY_AT, MEMORY_WORDS, short, long);
+    let sets = end_of(SETS_AT, SETS_WORDS, changed, count);
+    let pairs = end_of(PAIRS_AT, PAIRS, changed, count);
+    let cpu_map = end_of(CPU_MAP_AT, ENTRIES, changed, count);
+    let cpu_walker = end_of(CPU_WALKER_AT, ENTRIES, changed, count);
+    let cpu_cache = end_of(CPU_CACHE_AT, CACHE_WORDS, changed, count);
+    let dma_map = end_of(DMA_MAP_AT, ENTRIES, changed, count);
+    let dma_walker = end_of(DMA_WALKER_AT, ENTRIES, changed, count);
+    let dma_cache = end_of(DMA_CACHE_AT, CACHE_WORDS, changed, count);
+    let memory = end_of(MEMORY_AT, MEMORY_WORDS, changed, count);
     judge::valid(
         m,
         &words[SETS_AT..sets],
@@ -117,19 +114,21 @@ fn is_valid(m: Machine, words: &[u64], short: usize, long: usize) -> bool
     )
 }
 
-// The line of a state, of which one slice may be a word short, or long.
+// The line of a state whose slice that begins at `changed` is lent with `count` words.
 pub fn show_lent(
     rule: &[u8],
     clause: &[u8],
     m: Machine,
     words: &[u64; WORDS],
-    short: usize,
-    long: usize,
-) {
+    changed: usize,
+    count: usize,
+)
+    requires { ⌜ changed + count ≤ WORDS ⌝ }
+{
     io::write_all(STDOUT_FILENO, rule);
     io::write_all(STDOUT_FILENO, b", ");
     io::write_all(STDOUT_FILENO, clause);
-    if is_valid(m, words, short, long) {
+    if is_valid(m, words, changed, count) {
         io::write_all(STDOUT_FILENO, b": valid\n");
         return;
     }
@@ -138,5 +137,5 @@ pub fn show_lent(
 
 // The line of a state, every slice of its length.
 pub fn show(rule: &[u8], clause: &[u8], m: Machine, words: &[u64; WORDS]) {
-    show_lent(rule, clause, m, words, NOWHERE, NOWHERE);
+    show_lent(rule, clause, m, words, NOWHERE, 0);
 }
