@@ -1,0 +1,3 @@
+-- What slot records mean.
+pub mod SlotLaws
+pub mod Slots
