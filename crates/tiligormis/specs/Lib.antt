@@ -1,5 +1,6 @@
 -- What slot records mean.
 pub mod CoreLaws
 pub mod Cores
+pub mod EntryLaws
 pub mod SlotLaws
 pub mod Slots

@@ -8,7 +8,7 @@ use lib.ListN.{length, getD, set, replicate, length-set, length-replicate, lengt
 use lib.Seq.{getD-set-same, getD-set-other, set-getD, ext-getD}
 use Rattle.numbers.specs.PackingLaws.{word-port, word-vm, word-guest, word-entry}
 use Rattle.pages.specs.BitLaws.{below-or}
-use Rattle.tiligormis.specs.Slots.{wordOf, slotOf, empty, Fits, AllFit, words, laid, loaded, slotAt, over, stored}
+use Rattle.tiligormis.specs.Slots.{wordOf, slotOf, empty, Fits, AllFit, words, laid, loaded, slotAt, over, stored, SameSlots}
 use Rattle.tiligormis.specs.declared.Slot.{Slot}
 
 -- ---- one slot
@@ -116,3 +116,10 @@ back slots fit (suc k) h =
 
 pub stored-loaded : (slots : List Slot) → AllFit slots → stored (loaded slots) slots ≡ slots
 stored-loaded slots fit = back slots fit (length slots) (omega arith)
+
+pub same-loaded : (slots : List Slot) (ws : List ℕ) → AllFit slots → ws ≡ loaded slots → stored ws slots ≡ slots
+same-loaded slots ws fit e = ap (λ (l : List ℕ). stored l slots) e ∙ stored-loaded slots fit
+
+-- in a cache of 64 slots
+pub same-whole : (slots : List Slot) (ws : List ℕ) → AllFit slots → length ws ≡ 64 → length slots ≡ 64 → SameSlots slots (stored ws slots)
+same-whole slots ws fit n e same = same-loaded slots ws fit (sym (stored-whole ws slots n e) ∙ same ∙ sym (loaded-whole slots e))

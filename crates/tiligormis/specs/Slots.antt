@@ -1,6 +1,7 @@
 -- A slot record and its packed word, and a cache of slots as the words of the core.
 use Prim.Native.Nat.{ℕ, zero, suc, _<_}
 use mathlib.Core.List.{List, map}
+use mathlib.Core.Path.{_≡_}
 use lib.ListN.{length, getD, set, replicate}
 use Rattle.numbers.specs.Limits.{SLOTS}
 use Rattle.numbers.specs.Packing.{slotWord, portOf, vmOf, guestOf, entryOf}
@@ -46,3 +47,7 @@ over ws slots (suc k) = set (over ws slots k) k (slotAt ws k (getD (over ws slot
 
 abbrev pub stored : List ℕ → List Slot → List Slot
 stored ws slots = over ws slots (length slots)
+
+-- slots whose words are the same are the same
+abbrev pub SameSlots : List Slot → List Slot → Type 0
+SameSlots before after = words after ≡ words before → after ≡ before

@@ -2,12 +2,18 @@
 ghost use Rattle.numbers.specs.Decides.{Decides};
 ghost use Rattle.model.specs.Header.{stateOf};
 ghost use Rattle.model.specs.Valid.{Valid};
-ghost use Rattle.tiligormis.specs.Slots.{words};
-ghost use Rattle.tiligormis.specs.Cores.{Whole};
+ghost use Rattle.model.specs.Entries.{JudgedRow, JudgedSequence};
+ghost use Rattle.operate.specs.Outcome.{outcome};
+ghost use Rattle.machine.specs.Run.{progress, ran};
+ghost use Rattle.tiligormis.specs.Slots.{words, SameSlots};
+ghost use Rattle.tiligormis.specs.Cores.{Whole, RowOfWords, SequenceOfWords};
 use super::Slot;
 use super::load;
+use super::store;
 use model::Machine;
+use numbers::Refusal;
 use numbers::SLOTS;
+use operate::Done;
 
 // Whether both caches have as many slots as they must.
 fn whole(cpu_slots: usize, dma_slots: usize) -> bool
@@ -86,4 +92,193 @@ pub fn valid(
         cpu_words,
         dma_words,
     )
+}
+
+// ---- What a core hands back: the words of both caches, and the answer with the header.
+pub struct Worked {
+    pub cpu: [u64; 64],
+    pub dma: [u64; 64],
+    pub done: Done,
+}
+
+// ---- One operation, as a row.
+
+fn operation_words(
+    m: Machine,
+    sets: &mut [u64],
+    pairs: &mut [u64],
+    cpu_map: &mut [u64],
+    cpu_walker: &mut [u64],
+    dma_map: &mut [u64],
+    dma_walker: &mut [u64],
+    memory: &mut [u64],
+    row: [u64; 8],
+    cpu_slots: usize,
+    dma_slots: usize,
+    cpu_words: [u64; 64],
+    dma_words: [u64; 64],
+) -> Worked
+    ensures { λ r. ⌜ RowOfWords «cpu_slots» «dma_slots» (stateOf m (now (sets .entry)) (now (pairs .entry)) (now («cpu_map» .entry)) (now («cpu_walker» .entry)) «cpu_words» (now («dma_map» .entry)) (now («dma_walker» .entry)) «dma_words» (now (memory .entry))) row
+        (outcome (r .done .answer) (r .done .machine) (now (sets .exit)) (now (pairs .exit)) (now («cpu_map» .exit)) (now («cpu_walker» .exit)) (r .cpu) (now («dma_map» .exit)) (now («dma_walker» .exit)) (r .dma) (now (memory .exit))) ⌝ }
+{
+    if !whole(cpu_slots, dma_slots) {
+        let answer = numbers::refuse(Refusal::StateNotValid, 0);
+        return Worked {
+            cpu: cpu_words,
+            dma: dma_words,
+            done: Done { answer, machine: m },
+        };
+    }
+    let mut cpu = cpu_words;
+    let mut dma = dma_words;
+    let done = machine::entries::operation(
+        m,
+        sets,
+        pairs,
+        cpu_map,
+        cpu_walker,
+        &mut cpu,
+        dma_map,
+        dma_walker,
+        &mut dma,
+        memory,
+        row,
+    );
+    Worked { cpu, dma, done }
+}
+
+// A row that is refused leaves every slot as it was, as does one that changes no word.
+pub fn operation(
+    m: Machine,
+    sets: &mut [u64],
+    pairs: &mut [u64],
+    cpu_map: &mut [u64],
+    cpu_walker: &mut [u64],
+    cpu_cache: &mut [Slot],
+    dma_map: &mut [u64],
+    dma_walker: &mut [u64],
+    dma_cache: &mut [Slot],
+    memory: &mut [u64],
+    row: [u64; 8],
+) -> Done
+    ensures { λ r. ⌜ JudgedRow (stateOf m (now (sets .entry)) (now (pairs .entry)) (now («cpu_map» .entry)) (now («cpu_walker» .entry)) (words (now («cpu_cache» .entry))) (now («dma_map» .entry)) (now («dma_walker» .entry)) (words (now («dma_cache» .entry))) (now (memory .entry))) row
+        (outcome (r .answer) (r .machine) (now (sets .exit)) (now (pairs .exit)) (now («cpu_map» .exit)) (now («cpu_walker» .exit)) (words (now («cpu_cache» .exit))) (now («dma_map» .exit)) (now («dma_walker» .exit)) (words (now («dma_cache» .exit))) (now (memory .exit)))
+        × SameSlots (now («cpu_cache» .entry)) (now («cpu_cache» .exit)) × SameSlots (now («dma_cache» .entry)) (now («dma_cache» .exit)) ⌝ }
+{
+    let cpu_slots = cpu_cache.len();
+    let dma_slots = dma_cache.len();
+    let cpu_words = load(&*cpu_cache);
+    let dma_words = load(&*dma_cache);
+    let out = operation_words(
+        m,
+        sets,
+        pairs,
+        cpu_map,
+        cpu_walker,
+        dma_map,
+        dma_walker,
+        memory,
+        row,
+        cpu_slots,
+        dma_slots,
+        cpu_words,
+        dma_words,
+    );
+    store(cpu_cache, out.cpu);
+    store(dma_cache, out.dma);
+    out.done
+}
+
+// ---- All the rows, one after the other.
+
+fn sequence_words(
+    m: Machine,
+    sets: &mut [u64],
+    pairs: &mut [u64],
+    cpu_map: &mut [u64],
+    cpu_walker: &mut [u64],
+    dma_map: &mut [u64],
+    dma_walker: &mut [u64],
+    memory: &mut [u64],
+    rows: &[u64],
+    room: &mut [u64],
+    cpu_slots: usize,
+    dma_slots: usize,
+    cpu_words: [u64; 64],
+    dma_words: [u64; 64],
+) -> Worked
+    ensures { λ r. ⌜ SequenceOfWords «cpu_slots» «dma_slots» (stateOf m (now (sets .entry)) (now (pairs .entry)) (now («cpu_map» .entry)) (now («cpu_walker» .entry)) «cpu_words» (now («dma_map» .entry)) (now («dma_walker» .entry)) «dma_words» (now (memory .entry))) (now (rows .entry)) (now (room .entry))
+        (ran (r .done .answer) (progress (r .done .machine) (now (sets .exit)) (now (pairs .exit)) (now («cpu_map» .exit)) (now («cpu_walker» .exit)) (r .cpu) (now («dma_map» .exit)) (now («dma_walker» .exit)) (r .dma) (now (memory .exit)) (now (room .exit)))) ⌝ }
+{
+    if !whole(cpu_slots, dma_slots) {
+        let answer = numbers::refuse(Refusal::StateNotValid, 0);
+        return Worked {
+            cpu: cpu_words,
+            dma: dma_words,
+            done: Done { answer, machine: m },
+        };
+    }
+    let mut cpu = cpu_words;
+    let mut dma = dma_words;
+    let ran = machine::entries::sequence(
+        m,
+        sets,
+        pairs,
+        cpu_map,
+        cpu_walker,
+        &mut cpu,
+        dma_map,
+        dma_walker,
+        &mut dma,
+        memory,
+        rows,
+        room,
+    );
+    let answer = ran.answer;
+    let machine = ran.machine;
+    let done = Done { answer, machine };
+    Worked { cpu, dma, done }
+}
+
+pub fn sequence(
+    m: Machine,
+    sets: &mut [u64],
+    pairs: &mut [u64],
+    cpu_map: &mut [u64],
+    cpu_walker: &mut [u64],
+    cpu_cache: &mut [Slot],
+    dma_map: &mut [u64],
+    dma_walker: &mut [u64],
+    dma_cache: &mut [Slot],
+    memory: &mut [u64],
+    rows: &[u64],
+    room: &mut [u64],
+) -> Done
+    ensures { λ r. ⌜ JudgedSequence (stateOf m (now (sets .entry)) (now (pairs .entry)) (now («cpu_map» .entry)) (now («cpu_walker» .entry)) (words (now («cpu_cache» .entry))) (now («dma_map» .entry)) (now («dma_walker» .entry)) (words (now («dma_cache» .entry))) (now (memory .entry))) (now (rows .entry)) (now (room .entry))
+        (ran (r .answer) (progress (r .machine) (now (sets .exit)) (now (pairs .exit)) (now («cpu_map» .exit)) (now («cpu_walker» .exit)) (words (now («cpu_cache» .exit))) (now («dma_map» .exit)) (now («dma_walker» .exit)) (words (now («dma_cache» .exit))) (now (memory .exit)) (now (room .exit))))
+        × SameSlots (now («cpu_cache» .entry)) (now («cpu_cache» .exit)) × SameSlots (now («dma_cache» .entry)) (now («dma_cache» .exit)) ⌝ }
+{
+    let cpu_slots = cpu_cache.len();
+    let dma_slots = dma_cache.len();
+    let cpu_words = load(&*cpu_cache);
+    let dma_words = load(&*dma_cache);
+    let out = sequence_words(
+        m,
+        sets,
+        pairs,
+        cpu_map,
+        cpu_walker,
+        dma_map,
+        dma_walker,
+        memory,
+        rows,
+        room,
+        cpu_slots,
+        dma_slots,
+        cpu_words,
+        dma_words,
+    );
+    store(cpu_cache, out.cpu);
+    store(dma_cache, out.dma);
+    out.done
 }
