@@ -6,12 +6,13 @@ use mathlib.Core.Path.{_≡_, sym, ap, _∙_}
 use lib.ListN.{length, length-map}
 use Rattle.numbers.specs.Decides.{Decides}
 use Rattle.numbers.specs.DecidesLaws.{decides-as}
-use Rattle.model.specs.Entries.{Judged, valid, not-valid}
-use Rattle.model.specs.Header.{stateOf}
+use Rattle.model.specs.Entries.{Judged, JudgedFree, valid, not-valid}
+use Rattle.model.specs.Header.{tablesOf, stateOf}
+use Rattle.model.specs.Start.{Free, free}
 use Rattle.model.specs.State.{State}
 use Rattle.model.specs.Valid.{Valid}
 use Rattle.model.specs.declared.Machine.{Machine}
-use Rattle.tiligormis.specs.Cores.{Whole, JudgedWords, words-valid, words-not-valid}
+use Rattle.tiligormis.specs.Cores.{Whole, JudgedWords, FreeOfWords, words-valid, words-not-valid}
 use Rattle.tiligormis.specs.Slots.{wordOf, words, AllFit, loaded, stored, SameSlots}
 use Rattle.tiligormis.specs.SlotLaws.{loaded-whole, stored-whole, same-loaded, same-whole}
 use Rattle.tiligormis.specs.declared.Slot.{Slot}
@@ -76,6 +77,15 @@ module _ (m : Machine) (sets pairs cpuMap cpuWalker : List ℕ) (cpuSlots : List
     -- the test for validity
     pub decides-slots : {b : Bool} → Decides b (Whole (length cpuSlots) (length dmaSlots) × ValidAt cpuWords dmaWords) → Decides b (ValidAt (words cpuSlots) (words dmaSlots))
     decides-slots t = decides-as t (λ p. valid-at-slots (p .0) (p .1)) (λ v. (valid-whole v, valid-at-words v))
+
+    -- the free query
+    pub free-slots : (r : Free) → FreeOfWords (length cpuSlots) (length dmaSlots) (stateOf m sets pairs cpuMap cpuWalker cpuWords dmaMap dmaWalker dmaWords memory) r
+        → JudgedFree (stateOf m sets pairs cpuMap cpuWalker (words cpuSlots) dmaMap dmaWalker (words dmaSlots) memory) r
+    free-slots r (words-valid w v e) =
+        let p : cpuWords ≡ words cpuSlots = cpu-whole cpuSlots dmaSlots cpuWords dmaWords c d w in
+        let q : dmaWords ≡ words dmaSlots = dma-whole cpuSlots dmaSlots cpuWords dmaWords c d w in
+        valid (valid-at-slots w v) (e ∙ (λ i. free (tablesOf m sets pairs cpuMap cpuWalker (p i) dmaMap dmaWalker (q i))))
+    free-slots r (words-not-valid n e) = not-valid (λ v. n (valid-whole v) (valid-at-words v)) e
 
     -- what is judged, and stored
     module _ (cpuFit : AllFit cpuSlots) (dmaFit : AllFit dmaSlots) (cpuLeft dmaLeft : List ℕ) (cpuLength : length cpuLeft ≡ 64) (dmaLength : length dmaLeft ≡ 64)

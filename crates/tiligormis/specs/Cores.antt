@@ -5,6 +5,7 @@ use mathlib.Core.Path.{_≡_}
 use Rattle.numbers.specs.Limits.{SLOTS}
 use Rattle.model.specs.Entries.{stepRefused, sequenceRefused}
 use Rattle.model.specs.Sequence.{Sequenced, stepRow, sequence}
+use Rattle.model.specs.Start.{Free, free, freeRefused}
 use Rattle.model.specs.State.{State}
 use Rattle.model.specs.Step.{Stepped}
 use Rattle.model.specs.Valid.{Valid}
@@ -23,3 +24,6 @@ RowOfWords cpuSlots dmaSlots s row result = JudgedWords cpuSlots dmaSlots s (ste
 
 abbrev pub SequenceOfWords : ℕ → ℕ → State → List ℕ → List ℕ → Sequenced → Type 0
 SequenceOfWords cpuSlots dmaSlots s rows room result = JudgedWords cpuSlots dmaSlots s (sequence s rows room) (sequenceRefused s room) result
+
+abbrev pub FreeOfWords : ℕ → ℕ → State → Free → Type 0
+FreeOfWords cpuSlots dmaSlots s result = JudgedWords cpuSlots dmaSlots s (free (s .tables)) freeRefused result

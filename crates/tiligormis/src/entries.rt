@@ -2,15 +2,17 @@
 ghost use Rattle.numbers.specs.Decides.{Decides};
 ghost use Rattle.model.specs.Header.{stateOf};
 ghost use Rattle.model.specs.Valid.{Valid};
-ghost use Rattle.model.specs.Entries.{JudgedRow, JudgedSequence};
+ghost use Rattle.model.specs.Entries.{JudgedRow, JudgedSequence, JudgedFree};
 ghost use Rattle.operate.specs.Outcome.{outcome};
-ghost use Rattle.machine.specs.Run.{progress, ran};
+ghost use Rattle.machine.specs.Run.{progress, ran, freeOf};
 ghost use Rattle.tiligormis.specs.Slots.{words, SameSlots};
-ghost use Rattle.tiligormis.specs.Cores.{Whole, RowOfWords, SequenceOfWords};
+ghost use Rattle.tiligormis.specs.Cores.{Whole, RowOfWords, SequenceOfWords, FreeOfWords};
 use super::Slot;
 use super::load;
 use super::store;
+use machine::entries::FreePages;
 use model::Machine;
+use numbers::Lowest;
 use numbers::Refusal;
 use numbers::SLOTS;
 use operate::Done;
@@ -281,4 +283,80 @@ pub fn sequence(
     store(cpu_cache, out.cpu);
     store(dma_cache, out.dma);
     out.done
+}
+
+// ---- The free query.
+
+fn free_words(
+    m: Machine,
+    sets: &[u64],
+    pairs: &[u64],
+    cpu_map: &[u64],
+    cpu_walker: &[u64],
+    dma_map: &[u64],
+    dma_walker: &[u64],
+    memory: &[u64],
+    cpu_slots: usize,
+    dma_slots: usize,
+    cpu_words: [u64; 64],
+    dma_words: [u64; 64],
+) -> FreePages
+    ensures { λ r. ⌜ FreeOfWords «cpu_slots» «dma_slots» (stateOf m (now (sets .entry)) (now (pairs .entry)) (now («cpu_map» .entry)) (now («cpu_walker» .entry)) «cpu_words» (now («dma_map» .entry)) (now («dma_walker» .entry)) «dma_words» (now (memory .entry))) (freeOf (r .answer) (r .count) (r .lowest)) ⌝ }
+{
+    if !whole(cpu_slots, dma_slots) {
+        let answer = numbers::refuse(Refusal::StateNotValid, 0);
+        return FreePages {
+            answer,
+            count: 0,
+            lowest: Lowest::Nothing,
+        };
+    }
+    let cpu = cpu_words;
+    let dma = dma_words;
+    machine::entries::free(
+        m,
+        sets,
+        pairs,
+        cpu_map,
+        cpu_walker,
+        &cpu,
+        dma_map,
+        dma_walker,
+        &dma,
+        memory,
+    )
+}
+
+pub fn free(
+    m: Machine,
+    sets: &[u64],
+    pairs: &[u64],
+    cpu_map: &[u64],
+    cpu_walker: &[u64],
+    cpu_cache: &[Slot],
+    dma_map: &[u64],
+    dma_walker: &[u64],
+    dma_cache: &[Slot],
+    memory: &[u64],
+) -> FreePages
+    ensures { λ r. ⌜ JudgedFree (stateOf m (now (sets .entry)) (now (pairs .entry)) (now («cpu_map» .entry)) (now («cpu_walker» .entry)) (words (now («cpu_cache» .entry))) (now («dma_map» .entry)) (now («dma_walker» .entry)) (words (now («dma_cache» .entry))) (now (memory .entry))) (freeOf (r .answer) (r .count) (r .lowest)) ⌝ }
+{
+    let cpu_slots = cpu_cache.len();
+    let dma_slots = dma_cache.len();
+    let cpu_words = load(cpu_cache);
+    let dma_words = load(dma_cache);
+    free_words(
+        m,
+        sets,
+        pairs,
+        cpu_map,
+        cpu_walker,
+        dma_map,
+        dma_walker,
+        memory,
+        cpu_slots,
+        dma_slots,
+        cpu_words,
+        dma_words,
+    )
 }
