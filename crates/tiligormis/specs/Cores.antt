@@ -3,9 +3,11 @@ use Prim.Native.Nat.{ℕ}
 use mathlib.Core.List.{List}
 use mathlib.Core.Path.{_≡_}
 use Rattle.numbers.specs.Limits.{SLOTS}
+use Rattle.numbers.specs.declared.Refusal.the-variants.{StateNotValid}
+use Rattle.model.specs.Effect.{refused}
 use Rattle.model.specs.Entries.{stepRefused, sequenceRefused}
 use Rattle.model.specs.Sequence.{Sequenced, stepRow, sequence}
-use Rattle.model.specs.Start.{Free, free, freeRefused}
+use Rattle.model.specs.Start.{Told, Lent, Started, emptyState, start, Free, free, freeRefused}
 use Rattle.model.specs.State.{State}
 use Rattle.model.specs.Step.{Stepped}
 use Rattle.model.specs.Valid.{Valid}
@@ -27,3 +29,11 @@ SequenceOfWords cpuSlots dmaSlots s rows room result = JudgedWords cpuSlots dmaS
 
 abbrev pub FreeOfWords : ℕ → ℕ → State → Free → Type 0
 FreeOfWords cpuSlots dmaSlots s result = JudgedWords cpuSlots dmaSlots s (free (s .tables)) freeRefused result
+
+-- ---- start: what it gives for whole caches, and for any others
+abbrev pub startRefused : Lent → Started
+startRefused lent = record { answer = refused StateNotValid; state = emptyState lent }
+
+pub data StartOfWords (cpuSlots dmaSlots : ℕ) (told : Told) (lent : Lent) (result : Started) : Type 0 where
+  all-there : Whole cpuSlots dmaSlots → result ≡ start told lent → StartOfWords cpuSlots dmaSlots told lent result
+  not-there : (Whole cpuSlots dmaSlots → ⊥) → result ≡ startRefused lent → StartOfWords cpuSlots dmaSlots told lent result

@@ -18,7 +18,7 @@ use Rattle.tiligormis.specs.Slots.{words, AllFit, loaded, stored, SameSl
 use Rattle.tiligormis.specs.declared.Slot.{Slot}
 
 -- the state with other words in its caches
-abbrev withCaches : List ℕ → List ℕ → State → State
+abbrev pub withCaches : List ℕ → List ℕ → State → State
 withCaches cpu dma s =
     record {
       tables =

@@ -4,3 +4,4 @@ pub mod Cores
 pub mod EntryLaws
 pub mod SlotLaws
 pub mod Slots
+pub mod StartSlots

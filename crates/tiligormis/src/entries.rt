@@ -1,12 +1,15 @@
 // The entries over caches of slot records. Each loads both caches, calls a core over their words, and stores them again where it may change them.
+ghost use mathlib.Core.Path.{_≡_};
 ghost use Rattle.numbers.specs.Decides.{Decides};
 ghost use Rattle.model.specs.Header.{stateOf};
 ghost use Rattle.model.specs.Valid.{Valid};
+ghost use Rattle.model.specs.Start.{start};
 ghost use Rattle.model.specs.Entries.{JudgedRow, JudgedSequence, JudgedFree};
 ghost use Rattle.operate.specs.Outcome.{outcome};
 ghost use Rattle.machine.specs.Run.{progress, ran, freeOf};
+ghost use Rattle.start.specs.Begun.{told, lent, began};
 ghost use Rattle.tiligormis.specs.Slots.{words, SameSlots};
-ghost use Rattle.tiligormis.specs.Cores.{Whole, RowOfWords, SequenceOfWords, FreeOfWords};
+ghost use Rattle.tiligormis.specs.Cores.{Whole, RowOfWords, SequenceOfWords, FreeOfWords, StartOfWords};
 use super::Slot;
 use super::load;
 use super::store;
@@ -359,4 +362,103 @@ pub fn free(
         cpu_words,
         dma_words,
     )
+}
+
+// ---- Start.
+
+fn start_words(
+    sets: &mut [u64],
+    pairs: &mut [u64],
+    cpu_map: &mut [u64],
+    cpu_walker: &mut [u64],
+    dma_map: &mut [u64],
+    dma_walker: &mut [u64],
+    memory: &mut [u64],
+    pages: u64,
+    shared_base: u64,
+    shared_count: u64,
+    units: &[u64],
+    cpu_slots: usize,
+    dma_slots: usize,
+    cpu_words: [u64; 64],
+    dma_words: [u64; 64],
+) -> Worked
+    ensures { λ r. ⌜ StartOfWords «cpu_slots» «dma_slots» (told pages «shared_base» «shared_count» (now (units .entry))) (lent (now (sets .entry)) (now (pairs .entry)) (now («cpu_map» .entry)) (now («cpu_walker» .entry)) «cpu_words» (now («dma_map» .entry)) (now («dma_walker» .entry)) «dma_words» (now (memory .entry)))
+        (began (r .done .answer) (r .done .machine) (now (sets .exit)) (now (pairs .exit)) (now («cpu_map» .exit)) (now («cpu_walker» .exit)) (r .cpu) (now («dma_map» .exit)) (now («dma_walker» .exit)) (r .dma) (now (memory .exit))) ⌝ }
+{
+    if !whole(cpu_slots, dma_slots) {
+        let answer = numbers::refuse(Refusal::StateNotValid, 0);
+        let machine = start::empty_machine();
+        return Worked {
+            cpu: cpu_words,
+            dma: dma_words,
+            done: Done { answer, machine },
+        };
+    }
+    let mut cpu = cpu_words;
+    let mut dma = dma_words;
+    let started = start::start(
+        sets,
+        pairs,
+        cpu_map,
+        cpu_walker,
+        &mut cpu,
+        dma_map,
+        dma_walker,
+        &mut dma,
+        memory,
+        pages,
+        shared_base,
+        shared_count,
+        units,
+    );
+    let answer = started.answer;
+    let machine = started.machine;
+    let done = Done { answer, machine };
+    Worked { cpu, dma, done }
+}
+
+pub fn start(
+    sets: &mut [u64],
+    pairs: &mut [u64],
+    cpu_map: &mut [u64],
+    cpu_walker: &mut [u64],
+    cpu_cache: &mut [Slot],
+    dma_map: &mut [u64],
+    dma_walker: &mut [u64],
+    dma_cache: &mut [Slot],
+    memory: &mut [u64],
+    pages: u64,
+    shared_base: u64,
+    shared_count: u64,
+    units: &[u64],
+) -> Done
+    ensures { λ r. ⌜ (began (r .answer) (r .machine) (now (sets .exit)) (now (pairs .exit)) (now («cpu_map» .exit)) (now («cpu_walker» .exit)) (words (now («cpu_cache» .exit))) (now («dma_map» .exit)) (now («dma_walker» .exit)) (words (now («dma_cache» .exit))) (now (memory .exit))
+        ≡ start (told pages «shared_base» «shared_count» (now (units .entry))) (lent (now (sets .entry)) (now (pairs .entry)) (now («cpu_map» .entry)) (now («cpu_walker» .entry)) (words (now («cpu_cache» .entry))) (now («dma_map» .entry)) (now («dma_walker» .entry)) (words (now («dma_cache» .entry))) (now (memory .entry))))
+        × SameSlots (now («cpu_cache» .entry)) (now («cpu_cache» .exit)) × SameSlots (now («dma_cache» .entry)) (now («dma_cache» .exit)) ⌝ }
+{
+    let cpu_slots = cpu_cache.len();
+    let dma_slots = dma_cache.len();
+    let cpu_words = load(&*cpu_cache);
+    let dma_words = load(&*dma_cache);
+    let out = start_words(
+        sets,
+        pairs,
+        cpu_map,
+        cpu_walker,
+        dma_map,
+        dma_walker,
+        memory,
+        pages,
+        shared_base,
+        shared_count,
+        units,
+        cpu_slots,
+        dma_slots,
+        cpu_words,
+        dma_words,
+    );
+    store(cpu_cache, out.cpu);
+    store(dma_cache, out.dma);
+    out.done
 }
