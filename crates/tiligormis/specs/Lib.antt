@@ -1,0 +1,7 @@
+-- What slot records mean.
+pub mod CoreLaws
+pub mod Cores
+pub mod EntryLaws
+pub mod SlotLaws
+pub mod Slots
+pub mod StartSlots
