@@ -8,9 +8,10 @@ use native.Mathlib.Omega.{arith}
 use borrow.Author.Tests.{lt-ltb, ltb-true, le-ltb}
 use lib.Dec.{leb}
 use lib.ListN.{getD}
+use Rattle.numbers.specs.CaseLaws.{cases, equal}
 use Rattle.numbers.specs.Limits.{PAGES, VMS, SETS, SET-WORDS}
 use Rattle.pages.specs.Bits.{hasBit, contains}
-use Rattle.pages.specs.BitLaws.{decide, equal-or, below-or}
+use Rattle.pages.specs.BitLaws.{below-or}
 use Rattle.pages.specs.Rows.{poolRow, sharedRow, cpuRow, dmaRow, holds}
 use Rattle.model.specs.Start.{inSpan}
 use Rattle.model.specs.Valid.{Home, pool, shared, cpu, PagesGood}
@@ -43,7 +44,7 @@ kinds zero h = inl (0, omega arith, refl)
 kinds (suc zero) h = inl (1, omega arith, refl)
 kinds (suc (suc r)) h = ⊎-elim
     (λ (e : r % 2 ≡ 0). inl (homesOf (r / 2), omega arith, omega arith))
-    (λ d. inr (r / 2, omega arith, omega arith)) (equal-or (r % 2) 0)
+    (λ d. inr (r / 2, omega arith, omega arith)) (equal (r % 2) 0)
 
 -- ---- bit j of column k is page k * 64 + j
 module _ (sets : List ℕ) (k j : ℕ) (l : j < 64) (row : ℕ) where
@@ -101,7 +102,7 @@ module _ (pages base count known : ℕ) (sets : List ℕ) (all : (k : ℕ) → k
             ⊎-elim (home-inside (homesOf vm) (omega arith)) (home-inside 0 (omega arith)) (c .homes .vms .dma-home vm j g l (rw q at (down row t)))
 
     page-outside : pages ≤ page → (row : ℕ) → row < SETS → holds sets row page ≡ false
-    page-outside o row h = ⊎-elim (λ t. absurd (let z = row-inside row h t in omega arith)) (λ f. f) (decide (holds sets row page))
+    page-outside o row h = ⊎-elim (λ t. absurd (let z = row-inside row h t in omega arith)) (λ f. f) (cases (holds sets row page))
 
     page-span : inShared sets page ≡ inSpan base count page
     page-span = rw whole at (holds-is sets k j l sharedRow ∙ ap (λ (w : ℕ). hasBit w j) (c .span) ∙ span-bit base count k j l)

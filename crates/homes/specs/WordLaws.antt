@@ -9,10 +9,11 @@ use borrow.Author.Tests.{lt-ltb, le-ltb, le-leb, lt-leb}
 use lib.Bits.{bitAnd, bitOr, bitXor, differ, and-step, or-step, xor-step, and-shr, or-shr, xor-shr, and-lt, or-lt, xor-lt}
 use lib.Dec.{eqb, ltb}
 use lib.Pow.{pow-add, pow-pos, pow-mono, ones-lt, ones-split, high, shr-shr}
+use Rattle.numbers.specs.CaseLaws.{cases}
 use Rattle.numbers.specs.Decides.{Decides}
 use Rattle.numbers.specs.DecidesLaws.{decides-as, decides-itself, decides-equal, decides-and, decides-or}
 use Rattle.pages.specs.Bits.{bit, hasBit}
-use Rattle.pages.specs.BitLaws.{decide, bit-lt, below-or}
+use Rattle.pages.specs.BitLaws.{bit-lt, below-or}
 use Rattle.model.specs.EarlyLaws.{both}
 use Rattle.model.specs.Start.{inSpan}
 use Rattle.homes.specs.Columns.{belowWord, spanWord, Apart, VmGood}
@@ -105,7 +106,7 @@ between base count page = ⊎-elim before after (below-or page base)
     before h = let g : page < base + count = omega arith in rw (lt-ltb page base h, lt-ltb page (base + count) g, lt-leb base page h)
 
     after : base ≤ page → xor (ltb page (base + count)) (ltb page base) ≡ inSpan base count page
-    after h = rw (le-ltb page base h, le-leb base page h) (⊎-elim (λ t. rw t) (λ f. rw f) (decide (ltb page (base + count))))
+    after h = rw (le-ltb page base h, le-leb base page h) (⊎-elim (λ t. rw t) (λ f. rw f) (cases (ltb page (base + count))))
 
 pub span-bit : (base count k j : ℕ) → j < 64 → hasBit (spanWord base count k) j ≡ inSpan base count (k * 64 + j)
 span-bit base count k j l =
@@ -133,7 +134,7 @@ zero-none : (w j : ℕ) → w ≡ 0 → hasBit w j ≡ true → ⊥
 zero-none w j e t = true≢false (sym t ∙ rw e (hasBit-zero j))
 
 none-zero : (w : ℕ) → w < 2 ^ 64 → ((j : ℕ) → j < 64 → hasBit w j ≡ true → ⊥) → w ≡ 0
-none-zero w a h = same-bits w 0 a (pow-pos 64) (λ j l. ⊎-elim (λ t. absurd (h j l t)) (λ f. f ∙ sym (hasBit-zero j)) (decide (hasBit w j)))
+none-zero w a h = same-bits w 0 a (pow-pos 64) (λ j l. ⊎-elim (λ t. absurd (h j l t)) (λ f. f ∙ sym (hasBit-zero j)) (cases (hasBit w j)))
 
 -- ---- what the tests of words decide
 pub apart-decides : (w v : ℕ) → w < 2 ^ 64 → v < 2 ^ 64 → Decides (eqb (bitAnd w v) 0) (Apart w v)
@@ -150,14 +151,14 @@ within-decides w v a b =
     (λ h. same-bits (bitAnd w v) w (and-lt 64 w v a b) a (λ j l. hasBit-and w v j ∙ kept h j l))
   where
     kept : ((j : ℕ) → j < 64 → hasBit w j ≡ true → hasBit v j ≡ true) → (j : ℕ) → j < 64 → (hasBit w j && hasBit v j) ≡ hasBit w j
-    kept h j l = ⊎-elim (λ (t : hasBit w j ≡ true). rw (h j l t, t)) (λ f. rw f) (decide (hasBit w j))
+    kept h j l = ⊎-elim (λ (t : hasBit w j ≡ true). rw (h j l t, t)) (λ f. rw f) (cases (hasBit w j))
 
 -- w has no bit unless t
 pub unless-decides : (t : Bool) (w : ℕ) → w < 2 ^ 64 → Decides (t || eqb w 0) ((j : ℕ) → j < 64 → hasBit w j ≡ true → t ≡ true)
 unless-decides t w a =
     decides-as (decides-or (decides-itself t) (decides-equal w 0))
     (λ s j l x. ⊎-elim (λ y. y) (λ z. absurd (zero-none w j z x)) s)
-    (λ h. ⊎-elim inl (λ f. inr (none-zero w a (λ j l x. true≢false (sym (h j l x) ∙ f)))) (decide t))
+    (λ h. ⊎-elim inl (λ f. inr (none-zero w a (λ j l x. true≢false (sym (h j l x) ∙ f)))) (cases t))
 
 -- the four tests of a VM
 module _ (known : Bool) (pool held dmaHeld cpu dma : ℕ) (a : pool < 2 ^ 64) (b : held < 2 ^ 64) (c : dmaHeld < 2 ^ 64) (d : cpu < 2 ^ 64) (e : dma < 2 ^ 64) where

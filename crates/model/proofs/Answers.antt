@@ -6,11 +6,11 @@ use mathlib.Core.Path.{_≡_, refl, _∙_}
 use native.Mathlib.Omega.{arith}
 use lib.ListN.{length, getD, set, length-set}
 use lib.Seq.{getD-set-same, getD-set-other}
+use Rattle.numbers.specs.CaseLaws.{equal}
 use Rattle.numbers.specs.Limits.{ANSWER-NUMBERS}
 use Rattle.numbers.specs.Meaning.{answerNumbers}
 use Rattle.numbers.specs.declared.Answer.{Answer}
 use Rattle.numbers.specs.declared.Answer.the-variants.{Accepted, Refused}
-use Rattle.table.specs.ScanLaws.{equal}
 use Rattle.model.specs.Sequence.{writeAt, Progress, stepRow, rowAt, turn, after}
 use Rattle.model.proofs.Repeats.{repeat-last}
 

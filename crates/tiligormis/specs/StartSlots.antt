@@ -7,9 +7,9 @@ use mathlib.Core.Path.{_≡_, sym, ap, _∙_}
 use lib.Dec.{eqb}
 use lib.ListN.{length, length-map}
 use borrow.Author.Tests.{eqb-true}
+use Rattle.numbers.specs.CaseLaws.{cases}
 use Rattle.numbers.specs.Limits.{PAGE-WORDS, SETS, SET-WORDS, PAIRS, ENTRIES, SLOTS}
 use Rattle.numbers.specs.declared.Answer.{Answer}
-use Rattle.table.specs.ScanLaws.{cases}
 use Rattle.model.specs.Start.{Told, Lent, Started, UNIT-NUMBERS, lengthsGood, startAnswer, emptyState, start}
 use Rattle.model.specs.EarlyLaws.{both}
 use Rattle.model.specs.declared.Machine.{Machine}
