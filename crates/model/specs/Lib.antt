@@ -15,7 +15,7 @@ pub mod MemoryLaws
 pub mod Step
 pub mod ShapeLaws
 pub mod Start
-pub mod StartTold
+pub mod ToldLaws
 pub mod Sequence
 pub mod Good
 pub mod Entries

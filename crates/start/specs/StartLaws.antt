@@ -22,7 +22,7 @@ use Rattle.units.specs.Units.{noUnit}
 use Rattle.units.specs.declared.Unit.{Unit}
 use Rattle.model.specs.Effect.{kept}
 use Rattle.model.specs.Start.{Told, Lent, countTold, unitTold, unitsFrom, startAnswer, inSpan, firstHome, Started, freshState, emptyState, start}
-use Rattle.model.specs.StartTold.{StartPassed, start-passed, upTo, length-units, unit-at}
+use Rattle.model.specs.ToldLaws.{StartPassed, start-passed, upTo, length-units, unit-at}
 use Rattle.model.specs.declared.Machine.{Machine}
 use Rattle.start.specs.Begun.{began, zeros, freshHeader, emptyHeader}
 

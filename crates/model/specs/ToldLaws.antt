@@ -30,7 +30,7 @@ pub record LengthsPassed (t : Told) (l : Lent) : Type 0 where
   pub dma-walker : length (l .dmaWalker) ≡ ENTRIES
   pub dma-cache : length (l .dmaCache) ≡ SLOTS
 
-lengths-passed : (t : Told) (l : Lent) → lengthsGood t l ≡ true → LengthsPassed t l
+pub lengths-passed : (t : Told) (l : Lent) → lengthsGood t l ≡ true → LengthsPassed t l
 lengths-passed t l e =
     let m = eqb (length (l .memory)) (PAGE-WORDS * t .pages) in
     let s = eqb (length (l .sets)) (SETS * SET-WORDS) in
