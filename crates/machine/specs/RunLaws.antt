@@ -25,9 +25,9 @@ use Rattle.rows.specs.Decoded.{known}
 use Rattle.rows.specs.declared.Decoded.{Decoded}
 use Rattle.rows.specs.declared.Decoded.the-variants.{Known, Unknown}
 use Rattle.model.specs.Sequence.{Progress, turn, after, stepRow, stepKnown, operationIn, rowAt, recorded, shapeAnswer, sequence}
+use Rattle.model.specs.WriteLaws.{length-written}
 use Rattle.model.specs.EarlyLaws.{past}
 use Rattle.model.specs.ShapeLaws.{SameRoute, SameShape, SameSizes, step-sizes}
-use Rattle.machine.specs.RoomLaws.{length-writeAt}
 use Rattle.machine.specs.Run.{ran, shapeOf}
 
 -- ---- sizes pass on
@@ -59,7 +59,7 @@ unfolding stepRow
 turn-sizes rows k p = row-sizes (p .state) (operationIn (rowAt rows k))
 
 turn-room : (rows : List ℕ) (k : ℕ) (p : Progress) → length (turn rows k p .room) ≡ length (p .room)
-turn-room rows k p = length-writeAt (p .room) (k * ANSWER-NUMBERS) (answerNumbers (stepRow (p .state) (rowAt rows k) .answer))
+turn-room rows k p = length-written (p .room) (k * ANSWER-NUMBERS) (answerNumbers (stepRow (p .state) (rowAt rows k) .answer))
 
 -- ---- after k of n rows
 pub record Running (rows : List ℕ) (n : ℕ) (start now : Progress) (k : ℕ) : Type 0 where

@@ -17,6 +17,7 @@ pub mod ShapeLaws
 pub mod Start
 pub mod ToldLaws
 pub mod Sequence
+pub mod WriteLaws
 pub mod Good
 pub mod Entries
 pub mod Upstream
