@@ -18,6 +18,7 @@ pub mod Start
 pub mod ToldLaws
 pub mod Sequence
 pub mod WriteLaws
+pub mod RefusedLaws
 pub mod Good
 pub mod Entries
 pub mod Upstream
