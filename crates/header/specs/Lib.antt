@@ -1,0 +1,3 @@
+-- The machine header as numbers alone, as it crosses to C.
+pub mod HeaderLaws
+pub mod Numbers
