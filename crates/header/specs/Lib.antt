@@ -1,3 +1,4 @@
 -- The machine header as numbers alone, as it crosses to C.
 pub mod HeaderLaws
 pub mod Numbers
+pub mod WriteLaws

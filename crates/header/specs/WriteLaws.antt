@@ -1,0 +1,60 @@
+-- Laws of numbers written over a list: what is written is there, and all else stays.
+use Prim.Native.Nat.{ℕ, zero, suc, _+_, _≤_, _<_}
+use mathlib.Core.List.{List, [], _∷_, _++_}
+use mathlib.Core.Path.{_≡_, refl, sym, _∙_}
+use native.Mathlib.Numerals.{add-one}
+use native.Mathlib.Omega.{arith}
+use lib.ListN.{length, getD, set, take, drop, length-set}
+use lib.Seq.{take-suc, take-all, length-take-le, drop-set-lt, getD-set-same, getD-set-other}
+use Rattle.model.specs.Sequence.{writeAt}
+
+pub length-written : (room : List ℕ) (i : ℕ) (ns : List ℕ) → length (writeAt room i ns) ≡ length room
+length-written room i [] = refl
+length-written room i (n ∷ ns) = length-written (set room i n) (i + 1) ns ∙ length-set room i n
+
+pub written-before : (room : List ℕ) (i : ℕ) (ns : List ℕ) (j : ℕ) → j < i → getD (writeAt room i ns) j 0 ≡ getD room j 0
+written-before room i [] j h = refl
+written-before room i (n ∷ ns) j h = written-before (set room i n) (i + 1) ns j (omega arith) ∙ getD-set-other room i j n 0 (omega arith)
+
+pub written-behind : (room : List ℕ) (i : ℕ) (ns : List ℕ) (j : ℕ) → i + length ns ≤ j → getD (writeAt room i ns) j 0 ≡ getD room j 0
+written-behind room i [] j h = refl
+written-behind room i (n ∷ ns) j h = written-behind (set room i n) (i + 1) ns j (omega arith) ∙ getD-set-other room i j n 0 (omega arith)
+
+pub written-here : (room : List ℕ) (i : ℕ) (ns : List ℕ) (j : ℕ) → j < length ns → i + length ns ≤ length room → getD (writeAt room i ns) (i + j) 0 ≡ getD ns j 0
+written-here room i [] j h l = absurd (omega arith)
+written-here room i (n ∷ ns) zero h l =
+    let z : i + 0 ≡ i = omega arith in
+    rw z (written-before (set room i n) (i + 1) ns i (omega arith) ∙ getD-set-same room i n 0 (omega arith))
+written-here room i (n ∷ ns) (suc j) h l =
+    let z : i + suc j ≡ i + 1 + j = omega arith in
+    rw z (written-here (set room i n) (i + 1) ns j (omega arith) (omega (arith, length-set room i n)))
+
+-- ---- two writes, one behind the other
+pub written-append : (room : List ℕ) (i : ℕ) (ns ms : List ℕ) → writeAt room i (ns ++ ms) ≡ writeAt (writeAt room i ns) (i + length ns) ms
+written-append room i [] ms = let z : i + 0 ≡ i = omega arith in rw z
+written-append room i (n ∷ ns) ms =
+    let z : i + suc (length ns) ≡ i + 1 + length ns = omega arith in
+    rw z (written-append (set room i n) (i + 1) ns ms)
+
+-- ---- the numbers of a list one by one: k of them written so far
+pub record Putting (room : List ℕ) (i : ℕ) (ns now : List ℕ) (k : ℕ) : Type 0 where
+  pub place : k ≤ length ns
+  pub same : length now ≡ length room
+  pub list : now ≡ writeAt room i (take k ns)
+
+module _ (room : List ℕ) (i : ℕ) (ns : List ℕ) where
+  pub put-start : Putting room i ns room 0
+  put-start = record { place = omega arith; same = refl; list = refl }
+
+  pub put-next : (now : List ℕ) (k : ℕ) → Putting room i ns now k → k < length ns → Putting room i ns (set now (i + k) (getD ns k 0)) (k + 1)
+  put-next now k r h =
+      record {
+        place = omega arith;
+        same = length-set now (i + k) (getD ns k 0) ∙ r .same;
+        list =
+            let e : i + length (take k ns) ≡ i + k = rw (length-take-le k ns (r .place)) in
+            rw (r .list, add-one k, take-suc ns k 0 h) (sym (rw e at (written-append room i (take k ns) (getD ns k 0 ∷ []))));
+      }
+
+  pub put-end : (now : List ℕ) (k : ℕ) → Putting room i ns now k → length ns ≤ k → now ≡ writeAt room i ns
+  put-end now k r h = r .list ∙ rw (take-all k ns h)
