@@ -6,7 +6,7 @@ mark-number-requires : tie.Need-mark-number-requires
 mark-number-requires c κs = search needs
 
 returns : tie.Need-returns
-returns c = ?
+returns c = rw (c .mark-number .ensures)
 
 pub unit-numbers-spec : {M : Type 1} → statement M
 unit-numbers-spec = tie.close (tie.spec mark-number-requires returns)

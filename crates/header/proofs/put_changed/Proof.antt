@@ -1,0 +1,40 @@
+use borrow.Author.Needs.{needs}
+use Rattle.header.proofs.put_changed.Statement.{statement}
+use Rattle.header.proofs.put_changed.Tie as tie
+
+slice-aggregate-put-numbers : tie.Need-slice-aggregate-put-numbers
+slice-aggregate-put-numbers c = search needs
+
+put-numbers-requires : tie.Need-put-numbers-requires
+put-numbers-requires c κs = search needs
+
+slice-aggregate-put-numbers-2 : tie.Need-slice-aggregate-put-numbers-2
+slice-aggregate-put-numbers-2 c = search needs
+
+put-numbers-requires-2 : tie.Need-put-numbers-requires-2
+put-numbers-requires-2 c κs = search needs
+
+slice-aggregate-put-numbers-3 : tie.Need-slice-aggregate-put-numbers-3
+slice-aggregate-put-numbers-3 c = search needs
+
+put-numbers-requires-3 : tie.Need-put-numbers-requires-3
+put-numbers-requires-3 c κs = search needs
+
+same-length : tie.Need-same-length
+same-length c = search needs
+
+returns : tie.Need-returns
+returns c = ?
+
+pub put-changed-spec : {M : Type 1} → statement M
+put-changed-spec =
+    tie.close
+    (tie.spec
+    slice-aggregate-put-numbers
+    put-numbers-requires
+    slice-aggregate-put-numbers-2
+    put-numbers-requires-2
+    slice-aggregate-put-numbers-3
+    put-numbers-requires-3
+    same-length
+    returns)
