@@ -72,7 +72,7 @@ shared-slice-read-t31 : tie.Need-shared-slice-read-t31
 shared-slice-read-t31 c = search needs
 
 returns : tie.Need-returns
-returns c = ?
+returns c = rw (c .before .before .before .before .before .before .before .before .before .before .before .units-told .ensures, c .before .before .before .before .before .before .before .before .before .ports-in .ensures, c .before .before .before .before .before .before .before .ports-in2 .ensures)
 
 pub machine-in-spec : {M : Type 1} → statement M
 machine-in-spec =

@@ -36,7 +36,7 @@ shared-slice-read-t17 c = search needs
 eight : (l : List ℕ) → length l ≡ PORTS → getD l 0 0 ∷ getD l 1 0 ∷ getD l 2 0 ∷ getD l 3 0 ∷ getD l 4 0 ∷ getD l 5 0 ∷ getD l 6 0 ∷ getD l 7 0 ∷ [] ≡ l
 eight l h =
     let more : (k : ℕ) → k < PORTS → drop k l ≡ getD l k 0 ∷ drop (suc k) l = λ k b. drop-cons l k 0 (omega arith) in
-    let none : drop PORTS l ≡ [] = drop-of-length-le l (omega arith) in
+    let none : drop PORTS l ≡ [] = drop-of-length-le l {i = PORTS} (omega arith) in
     sym (more 0 (omega arith) ∙ rw (more 1 (omega arith), more 2 (omega arith), more 3 (omega arith), more 4 (omega arith), more 5 (omega arith), more 6 (omega arith), more 7 (omega arith), none))
 
 returns : tie.Need-returns

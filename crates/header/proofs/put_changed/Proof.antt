@@ -1,4 +1,5 @@
 use borrow.Author.Needs.{needs}
+use native.Mathlib.Omega.{arith}
 use Rattle.header.proofs.put_changed.Statement.{statement}
 use Rattle.header.proofs.put_changed.Tie as tie
 
@@ -12,13 +13,13 @@ slice-aggregate-put-numbers-2 : tie.Need-slice-aggregate-put-numbers-2
 slice-aggregate-put-numbers-2 c = search needs
 
 put-numbers-requires-2 : tie.Need-put-numbers-requires-2
-put-numbers-requires-2 c κs = search needs
+put-numbers-requires-2 c κs = omega (arith, slice-aggregate-put-numbers-2 c)
 
 slice-aggregate-put-numbers-3 : tie.Need-slice-aggregate-put-numbers-3
 slice-aggregate-put-numbers-3 c = search needs
 
 put-numbers-requires-3 : tie.Need-put-numbers-requires-3
-put-numbers-requires-3 c κs = search needs
+put-numbers-requires-3 c κs = omega (arith, slice-aggregate-put-numbers-3 c)
 
 same-length : tie.Need-same-length
 same-length c = search needs

@@ -15,7 +15,7 @@ same-length : tie.Need-same-length
 same-length c = search needs
 
 returns : tie.Need-returns
-returns c = ?
+returns c = rw (← c .before .before .before .before .before .lowest-number .ensures) (c .before .before .put-all .ensures)
 
 pub put-free-spec : {M : Type 1} → statement M
 put-free-spec =

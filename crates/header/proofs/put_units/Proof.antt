@@ -1,15 +1,20 @@
 use borrow.Author.Needs.{needs}
+use Prim.Native.Nat.{_-_}
+use Rattle.numbers.specs.Limits.{UNITS}
+use Rattle.table.specs.Loops.{Sweeping, sweep-start, sweep-next, sweep-end}
+use Rattle.header.specs.Numbers.{unitWritten}
+use Rattle.header.specs.WriteLaws.{length-written}
 use Rattle.header.proofs.put_units.Statement.{statement}
 use Rattle.header.proofs.put_units.Tie as tie
 
 abbrev Inv-loop : tie.InvT-loop
-Inv-loop numbers₀ units k₀ numbers k = ?
+Inv-loop numbers₀ units k₀ numbers k = Sweeping (unitWritten units) UNITS numbers₀ numbers k
 
 abbrev μ-loop : tie.MeasureT-loop
-μ-loop numbers₀ units k₀ numbers k = ?
+μ-loop numbers₀ units k₀ numbers k = UNITS - k
 
 loop-holds : tie.Need-loop-holds Inv-loop μ-loop
-loop-holds c = search needs
+loop-holds c = sweep-start _ _ _
 
 mul-unit : tie.Need-mul-unit Inv-loop μ-loop
 mul-unit c = search needs
@@ -45,7 +50,7 @@ same-length : tie.Need-same-length Inv-loop μ-loop
 same-length c = search needs
 
 returns : tie.Need-returns Inv-loop μ-loop
-returns c = ?
+returns c = sweep-end _ _ _ _ _ (c .before .loop .inv) (c .loop-test .left)
 
 pub put-units-spec : {M : Type 1} → statement M
 put-units-spec =
