@@ -1,9 +1,11 @@
 use borrow.Author.Needs.{needs}
+use Rattle.numbers.specs.DecidesLaws.{says-no}
+use Rattle.header.specs.HeaderLaws.{header-decided}
 use Rattle.header.proofs.is_header.Statement.{statement}
 use Rattle.header.proofs.is_header.Tie as tie
 
 returns : tie.Need-returns
-returns c = ?
+returns c = says-no (λ g. c .if1 .taken (g .whole))
 
 sub-any-bad-mark : tie.Need-sub-any-bad-mark
 sub-any-bad-mark c = search needs
@@ -21,7 +23,7 @@ any-bad-mark-requires : tie.Need-any-bad-mark-requires
 any-bad-mark-requires c κs = search needs
 
 returns-2 : tie.Need-returns-2
-returns-2 c = ?
+returns-2 c = rw (c .any-bad-mark .ensures) (header-decided (c .before .before .before .before .before .args .numbers .now) (c .before .before .before .if1 .left))
 
 pub is-header-spec : {M : Type 1} → statement M
 is-header-spec =

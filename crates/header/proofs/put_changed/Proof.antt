@@ -1,5 +1,9 @@
 use borrow.Author.Needs.{needs}
 use native.Mathlib.Omega.{arith}
+use mathlib.Core.List.{[]}
+use mathlib.Core.Path.{sym, _∙_}
+use Rattle.model.specs.Header.{tablesOf}
+use Rattle.header.specs.HeaderLaws.{three-writes}
 use Rattle.header.proofs.put_changed.Statement.{statement}
 use Rattle.header.proofs.put_changed.Tie as tie
 
@@ -25,7 +29,10 @@ same-length : tie.Need-same-length
 same-length c = search needs
 
 returns : tie.Need-returns
-returns c = ?
+returns c =
+    let s = c .before .before .before .before .before .before .before .before .before .before .before .before .before .before .before .before .before .before in
+    let l = slice-aggregate-put-numbers-2 (c .before .before .before .before .before .before .before .before) in
+    c .before .before .put-numbers3 .ensures ∙ rw (c .before .before .before .before .before .before .before .put-numbers2 .ensures, c .before .before .before .before .before .before .before .before .before .before .before .before .put-numbers .ensures) (three-writes (s .args .numbers .now) (tablesOf (s .args .m) [] [] [] [] [] [] [] []) (sym l))
 
 pub put-changed-spec : {M : Type 1} → statement M
 put-changed-spec =

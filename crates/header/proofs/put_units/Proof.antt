@@ -4,6 +4,8 @@ use Rattle.numbers.specs.Limits.{UNITS}
 use Rattle.table.specs.Loops.{Sweeping, sweep-start, sweep-next, sweep-end}
 use Rattle.header.specs.Numbers.{unitWritten}
 use Rattle.header.specs.WriteLaws.{length-written}
+use mathlib.Core.Path.{_∙_, ap}
+use lib.ListN.{length}
 use Rattle.header.proofs.put_units.Statement.{statement}
 use Rattle.header.proofs.put_units.Tie as tie
 
@@ -44,7 +46,9 @@ loop-less : tie.Need-loop-less Inv-loop μ-loop
 loop-less c = search needs
 
 loop-again : tie.Need-loop-again Inv-loop μ-loop
-loop-again c = ?
+loop-again c =
+    let e = rw (c .before .before .before .before .before .unit-numbers .ensures) at (c .before .before .put-numbers .ensures) in
+    sweep-next _ _ _ _ _ _ (c .before .before .before .before .before .before .before .before .loop .inv) (c .before .before .before .before .before .before .before .loop-test .taken) e (ap length e ∙ length-written _ _ _)
 
 same-length : tie.Need-same-length Inv-loop μ-loop
 same-length c = search needs
