@@ -10,14 +10,14 @@ use lib.Dec.{ltb}
 use lib.ListN.{length, getD, set}
 use Rattle.numbers.specs.Decides.{Decides}
 use Rattle.numbers.specs.Limits.{PORTS, UNITS}
-use Rattle.table.specs.Scan.{anyBelow}
+use Rattle.table.specs.Scan.{anyBelow, repeat}
 use Rattle.table.specs.ScanLaws.{cases, any-below-false, any-below-true}
 use Rattle.units.specs.Units.{isMark}
 use Rattle.model.specs.EarlyLaws.{both}
 use Rattle.model.specs.Sequence.{writeAt}
 use Rattle.model.specs.Start.{numberTold}
 use Rattle.model.specs.State.{Tables}
-use Rattle.header.specs.Numbers.{UNIT-COUNT-AT, KNOWN-AT, CPUS-AT, DEVICES-AT, MACHINE-NUMBERS, unitsPart, HeaderGood, badMark, changed}
+use Rattle.header.specs.Numbers.{UNIT-COUNT-AT, KNOWN-AT, CPUS-AT, DEVICES-AT, MACHINE-NUMBERS, unitsPart, HeaderGood, badMark, changed, setupNumbers, unitWritten}
 use Rattle.header.specs.WriteLaws.{written-append}
 
 -- ---- which numbers are a header
@@ -50,3 +50,8 @@ pub three-writes : (numbers : List ℕ) (t : Tables) → length (t .cpu .ports) 
 three-writes numbers t h =
     let e : CPUS-AT + length (t .cpu .ports) ≡ DEVICES-AT = omega arith in
     sym (rw e at (written-append (writeAt numbers KNOWN-AT (t .known ∷ t .cpu .hand ∷ t .dma .hand ∷ [])) CPUS-AT (t .cpu .ports) (t .dma .ports)))
+
+-- ---- all of them, written in turn
+pub in-turn : (n : ℕ) (numbers one two three : List ℕ) (t : Tables) → one ≡ writeAt numbers 0 (setupNumbers (t .setup)) → two ≡ changed one t →
+    three ≡ repeat (unitWritten (t .setup .units)) 0 n two → three ≡ repeat (unitWritten (t .setup .units)) 0 n (changed (writeAt numbers 0 (setupNumbers (t .setup))) t)
+in-turn n numbers one two three t first second third = third ∙ rw (second, first)

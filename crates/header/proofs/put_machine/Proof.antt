@@ -1,4 +1,8 @@
 use borrow.Author.Needs.{needs}
+use mathlib.Core.List.{[]}
+use Rattle.numbers.specs.Limits.{UNITS}
+use Rattle.model.specs.Header.{tablesOf}
+use Rattle.header.specs.HeaderLaws.{in-turn}
 use Rattle.header.proofs.put_machine.Statement.{statement}
 use Rattle.header.proofs.put_machine.Tie as tie
 
@@ -18,7 +22,9 @@ same-length : tie.Need-same-length
 same-length c = search needs
 
 returns : tie.Need-returns
-returns c = ?
+returns c =
+    let s = c .before .before .before .before .before .before .before .before .before .before .before .before .before .before .before in
+    in-turn UNITS (s .args .numbers .now) _ _ _ (tablesOf (s .args .m) [] [] [] [] [] [] [] []) (c .before .before .before .before .before .before .before .before .before .before .put-numbers .ensures) (c .before .before .before .before .before .before .put-changed .ensures) (c .before .before .put-units .ensures)
 
 pub put-machine-spec : {M : Type 1} → statement M
 put-machine-spec =

@@ -3,9 +3,7 @@ use Prim.Native.Nat.{_-_}
 use Rattle.numbers.specs.Limits.{UNITS}
 use Rattle.table.specs.Loops.{Sweeping, sweep-start, sweep-next, sweep-end}
 use Rattle.header.specs.Numbers.{unitWritten}
-use Rattle.header.specs.WriteLaws.{length-written}
-use mathlib.Core.Path.{_∙_, ap}
-use lib.ListN.{length}
+use native.Mathlib.Omega.{arith}
 use Rattle.header.proofs.put_units.Statement.{statement}
 use Rattle.header.proofs.put_units.Tie as tie
 
@@ -48,7 +46,7 @@ loop-less c = search needs
 loop-again : tie.Need-loop-again Inv-loop μ-loop
 loop-again c =
     let e = rw (c .before .before .before .before .before .unit-numbers .ensures) at (c .before .before .put-numbers .ensures) in
-    sweep-next _ _ _ _ _ _ (c .before .before .before .before .before .before .before .before .loop .inv) (c .before .before .before .before .before .before .before .loop-test .taken) e (ap length e ∙ length-written _ _ _)
+    sweep-next _ _ _ _ _ _ (c .before .before .before .before .before .before .before .before .loop .inv) (c .before .before .before .before .before .before .before .loop-test .taken) e (omega arith)
 
 same-length : tie.Need-same-length Inv-loop μ-loop
 same-length c = search needs
