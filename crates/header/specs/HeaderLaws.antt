@@ -1,57 +1,88 @@
--- What is written of a machine is read again.
-use Prim.Native.Nat.{ℕ, _+_, _*_, _≤_, _<_}
-use mathlib.Core.Bool.{Bool, true, false, true≢false, not, _&&_}
+-- What is written of a machine is read again: the laws by which numbers alone carry a state.
+use Prim.Native.Nat.{ℕ, suc, _+_, _*_, _≤_, _<_}
+use mathlib.Core.Bool.{true}
 use mathlib.Core.List.{List, [], _∷_, _++_}
-use mathlib.Core.Logic.{⊎-elim}
-use mathlib.Core.Path.{_≡_, refl, sym, _∙_}
+use mathlib.Core.Path.{_≡_, refl, sym, ap, _∙_}
 use native.Mathlib.Omega.{arith}
-use borrow.Author.Tests.{lt-ltb, ltb-true, not-true, not-false}
-use lib.Dec.{ltb}
-use lib.ListN.{length, getD, set}
-use Rattle.numbers.specs.Decides.{Decides}
+use lib.ListN.{length, getD, set, take, drop, length-append, length-drop, List·getD-append}
+use lib.Seq.{length-take-le, getD-take, getD-drop, getD-append-add, set-getD, ext-getD}
 use Rattle.numbers.specs.Limits.{PORTS, UNITS}
-use Rattle.table.specs.Scan.{anyBelow, repeat}
-use Rattle.table.specs.ScanLaws.{cases, any-below-false, any-below-true}
-use Rattle.units.specs.Units.{isMark}
-use Rattle.model.specs.EarlyLaws.{both}
+use Rattle.table.specs.Scan.{repeat}
+use Rattle.units.specs.Units.{noUnit}
+use Rattle.model.specs.Header.{setupOf, tablesOf, stateOf}
 use Rattle.model.specs.Sequence.{writeAt}
-use Rattle.model.specs.Start.{numberTold}
-use Rattle.model.specs.State.{Tables}
-use Rattle.header.specs.Numbers.{UNIT-COUNT-AT, KNOWN-AT, CPUS-AT, DEVICES-AT, MACHINE-NUMBERS, unitsPart, HeaderGood, badMark, changed, setupNumbers, unitWritten}
-use Rattle.header.specs.WriteLaws.{written-append}
+use Rattle.model.specs.Start.{UNIT-NUMBERS, numberTold, unitsFrom}
+use Rattle.model.specs.State.{Tables, Setup, State}
+use Rattle.header.specs.Numbers.{UNIT-COUNT-AT, KNOWN-AT, CPUS-AT, DEVICES-AT, UNITS-AT, MACHINE-NUMBERS, part, unitsPart, machineOf, HeaderGood, changing, changed, unitNumbers, setupNumbers, unitWritten, begun}
+use Rattle.header.specs.PieceLaws.{three-writes}
+use Rattle.header.specs.UnitLaws.{mark-good, length-begun, units-behind, unit-here, number-at, units-again}
+use Rattle.header.specs.WriteLaws.{length-written, written-before, written-behind, written-here, drop-written, written-same}
 
--- ---- which numbers are a header
-module _ (numbers : List ℕ) where
-  abbrev bad : ℕ → Bool
-  bad = badMark (unitsPart numbers) (getD numbers UNIT-COUNT-AT 0)
+-- ---- parts
+part-is : (numbers : List ℕ) (at n : ℕ) (ns : List ℕ) → at + n ≤ length numbers → length ns ≡ n → ((j : ℕ) → j < n → getD numbers (at + j) 0 ≡ getD ns j 0) → part numbers at n ≡ ns
+part-is numbers at n ns l h same = ext-getD 0 (part numbers at n) ns (long ∙ sym h) (λ j b. each j (rw long at b))
+  where
+    long : length (part numbers at n) ≡ n
+    long = length-take-le n (drop at numbers) (omega (arith, length-drop at numbers))
 
-  abbrev markAt : ℕ → ℕ
-  markAt k = numberTold (unitsPart numbers) k 5
+    each : (j : ℕ) → j < n → getD (part numbers at n) j 0 ≡ getD ns j 0
+    each j b = getD-take n (drop at numbers) j 0 b ∙ (getD-drop at numbers j 0 ∙ same j b)
 
-  good-mark : (k : ℕ) → bad k ≡ false → k < getD numbers UNIT-COUNT-AT 0 → isMark (markAt k) ≡ true
-  good-mark k e h = not-false (isMark (markAt k)) (rw (lt-ltb k (getD numbers UNIT-COUNT-AT 0) h) at e)
+-- ---- a header after an operation
+pub changed-length : (numbers : List ℕ) (t : Tables) → length (changed numbers t) ≡ length numbers
+changed-length numbers t = length-written numbers KNOWN-AT (changing t)
 
-  none-bad : HeaderGood numbers → anyBelow bad UNITS ≡ true → ⊥
-  none-bad g e =
-      let (k, h, b) = any-below-true bad UNITS e in
-      let (within, none) = both (ltb k (getD numbers UNIT-COUNT-AT 0)) (not (isMark (markAt k))) b in
-      true≢false (sym (g .marks k h (ltb-true _ _ within)) ∙ not-true (isMark (markAt k)) none)
+-- what is written back unchanged changes nothing
+pub changed-same : (numbers : List ℕ) → length numbers ≡ MACHINE-NUMBERS → (sets pairs cpuMap cpuWalker cpuCache dmaMap dmaWalker dmaCache : List ℕ) →
+    changed numbers (tablesOf (machineOf numbers) sets pairs cpuMap cpuWalker cpuCache dmaMap dmaWalker dmaCache) ≡ numbers
+changed-same numbers whole sets pairs cpuMap cpuWalker cpuCache dmaMap dmaWalker dmaCache =
+    sym (three-writes numbers (tablesOf (machineOf numbers) sets pairs cpuMap cpuWalker cpuCache dmaMap dmaWalker dmaCache) (ports CPUS-AT (omega arith)))
+    ∙ rw (set-getD numbers 4 0, set-getD numbers 5 0, set-getD numbers 6 0, rewritten CPUS-AT (omega arith)) (rewritten DEVICES-AT (omega arith))
+  where
+    ports : (at : ℕ) → at + PORTS ≤ MACHINE-NUMBERS → length (part numbers at PORTS) ≡ PORTS
+    ports at h = length-take-le PORTS (drop at numbers) (omega (arith, length-drop at numbers))
 
-  pub header-decided : length numbers ≡ MACHINE-NUMBERS → Decides (not (anyBelow bad UNITS)) (HeaderGood numbers)
-  header-decided l =
-      record {
-        sound = λ e. record { whole = l; marks = λ k h b. good-mark k (any-below-false bad UNITS k (not-true (anyBelow bad UNITS) e) h) b };
-        complete = λ g. ⊎-elim (λ t. absurd (none-bad g t)) (λ f. rw f) (cases (anyBelow bad UNITS));
-      }
+    rewritten : (at : ℕ) → at + PORTS ≤ MACHINE-NUMBERS → writeAt numbers at (part numbers at PORTS) ≡ numbers
+    rewritten at h =
+        written-same numbers at (part numbers at PORTS)
+        (λ j b. sym (getD-take PORTS (drop at numbers) j 0 (rw (ports at h) at b) ∙ getD-drop at numbers j 0))
 
--- ---- the numbers that an operation may change, written in three pieces
-pub three-writes : (numbers : List ℕ) (t : Tables) → length (t .cpu .ports) ≡ PORTS →
-    writeAt (writeAt (writeAt numbers KNOWN-AT (t .known ∷ t .cpu .hand ∷ t .dma .hand ∷ [])) CPUS-AT (t .cpu .ports)) DEVICES-AT (t .dma .ports) ≡ changed numbers t
-three-writes numbers t h =
-    let e : CPUS-AT + length (t .cpu .ports) ≡ DEVICES-AT = omega arith in
-    sym (rw e at (written-append (writeAt numbers KNOWN-AT (t .known ∷ t .cpu .hand ∷ t .dma .hand ∷ [])) CPUS-AT (t .cpu .ports) (t .dma .ports)))
+module _ (numbers : List ℕ) (t : Tables) (whole : length numbers ≡ MACHINE-NUMBERS) (cpus : length (t .cpu .ports) ≡ PORTS) (devices : length (t .dma .ports) ≡ PORTS) where
+  ends : KNOWN-AT + length (changing t) ≡ UNITS-AT
+  ends = omega (arith, length-append (t .cpu .ports) (t .dma .ports))
 
--- ---- all of them, written in turn
-pub in-turn : (n : ℕ) (numbers one two three : List ℕ) (t : Tables) → one ≡ writeAt numbers 0 (setupNumbers (t .setup)) → two ≡ changed one t →
-    three ≡ repeat (unitWritten (t .setup .units)) 0 n two → three ≡ repeat (unitWritten (t .setup .units)) 0 n (changed (writeAt numbers 0 (setupNumbers (t .setup))) t)
-in-turn n numbers one two three t first second third = third ∙ rw (second, first)
+  units-kept : unitsPart (changed numbers t) ≡ unitsPart numbers
+  units-kept = ap (take (UNITS * UNIT-NUMBERS)) (drop-written numbers KNOWN-AT (changing t) UNITS-AT (omega (arith, ends)))
+
+  -- numbers that are those of a changed header as far as the units
+  module _ (now : List ℕ) (long : length now ≡ MACHINE-NUMBERS) (same : (j : ℕ) → j < UNITS-AT → getD now j 0 ≡ getD (changed numbers t) j 0) where
+    change-at : (j : ℕ) → j < length (changing t) → getD now (KNOWN-AT + j) 0 ≡ getD (changing t) j 0
+    change-at j h = same (KNOWN-AT + j) (omega (arith, ends)) ∙ written-here numbers KNOWN-AT (changing t) j h (omega (arith, ends))
+
+    cpus-are : part now CPUS-AT PORTS ≡ t .cpu .ports
+    cpus-are = part-is now CPUS-AT PORTS (t .cpu .ports) (omega arith) cpus each
+      where
+        each : (j : ℕ) → j < PORTS → getD now (CPUS-AT + j) 0 ≡ getD (t .cpu .ports) j 0
+        each j b =
+            let z : KNOWN-AT + suc (suc (suc j)) ≡ CPUS-AT + j = omega arith in
+            rw z at (change-at (suc (suc (suc j))) (omega (arith, ends))) ∙ List·getD-append (t .cpu .ports) (t .dma .ports) 0 j (omega arith)
+
+    devices-are : part now DEVICES-AT PORTS ≡ t .dma .ports
+    devices-are = part-is now DEVICES-AT PORTS (t .dma .ports) (omega arith) devices each
+      where
+        each : (j : ℕ) → j < PORTS → getD now (DEVICES-AT + j) 0 ≡ getD (t .dma .ports) j 0
+        each j b =
+            let z : KNOWN-AT + suc (suc (suc (length (t .cpu .ports) + j))) ≡ DEVICES-AT + j = omega arith in
+            rw z at (change-at (suc (suc (suc (length (t .cpu .ports) + j)))) (omega (arith, ends))) ∙ getD-append-add (t .cpu .ports) (t .dma .ports) j 0
+
+    tables-are : setupOf (machineOf now) ≡ t .setup → tablesOf (machineOf now) (t .sets) (t .pairs) (t .cpu .map) (t .cpu .walker) (t .cpu .cache) (t .dma .map) (t .dma .walker) (t .dma .cache) ≡ t
+    tables-are setup =
+        λ i.
+        record {
+          setup = setup i;
+          known = change-at 0 (omega arith) i;
+          sets = t .sets;
+          pairs = t .pairs;
+          cpu = record { map = t .cpu .map; walker = t .cpu .walker; cache = t .cpu .cache; hand = change-at 1 (omega arith) i; ports = cpus-are i };
+          dma = record { map = t .dma .map; walker = t .dma .walker; cache = t .dma .cache; hand = change-at 2 (omega arith) i; ports = devices-are i };
+        }

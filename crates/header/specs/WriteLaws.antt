@@ -5,7 +5,7 @@ use mathlib.Core.Path.{_≡_, refl, sym, _∙_}
 use native.Mathlib.Numerals.{add-one}
 use native.Mathlib.Omega.{arith}
 use lib.ListN.{length, getD, set, take, drop, length-set}
-use lib.Seq.{take-suc, take-all, length-take-le, drop-set-lt, getD-set-same, getD-set-other}
+use lib.Seq.{take-suc, take-all, length-take-le, drop-set-lt, getD-set-same, getD-set-other, set-getD}
 use Rattle.model.specs.Sequence.{writeAt}
 
 pub length-written : (room : List ℕ) (i : ℕ) (ns : List ℕ) → length (writeAt room i ns) ≡ length room
@@ -35,6 +35,19 @@ written-append room i [] ms = let z : i + 0 ≡ i = omega arith in rw z
 written-append room i (n ∷ ns) ms =
     let z : i + suc (length ns) ≡ i + 1 + length ns = omega arith in
     rw z (written-append (set room i n) (i + 1) ns ms)
+
+-- ---- what stands behind, and numbers that were there
+pub drop-written : (room : List ℕ) (i : ℕ) (ns : List ℕ) (j : ℕ) → i + length ns ≤ j → drop j (writeAt room i ns) ≡ drop j room
+drop-written room i [] j h = refl
+drop-written room i (n ∷ ns) j h = drop-written (set room i n) (i + 1) ns j (omega arith) ∙ drop-set-lt j room i n (omega arith)
+
+pub written-same : (room : List ℕ) (i : ℕ) (ns : List ℕ) → ((j : ℕ) → j < length ns → getD room (i + j) 0 ≡ getD ns j 0) → writeAt room i ns ≡ room
+written-same room i [] h = refl
+written-same room i (n ∷ ns) h =
+    let z : i + 0 ≡ i = omega arith in
+    let e : getD room i 0 ≡ n = rw z at (h 0 (omega arith)) in
+    let more : (j : ℕ) → j < length ns → getD room (i + 1 + j) 0 ≡ getD ns j 0 = λ j b. let y : i + suc j ≡ i + 1 + j = omega arith in rw y at (h (suc j) (omega arith)) in
+    rw (← e, set-getD room i 0) (written-same room (i + 1) ns more)
 
 -- ---- the numbers of a list one by one: k of them written so far
 pub record Putting (room : List ℕ) (i : ℕ) (ns now : List ℕ) (k : ℕ) : Type 0 where

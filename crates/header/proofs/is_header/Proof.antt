@@ -1,6 +1,6 @@
 use borrow.Author.Needs.{needs}
 use Rattle.numbers.specs.DecidesLaws.{says-no}
-use Rattle.header.specs.HeaderLaws.{header-decided}
+use Rattle.header.specs.PieceLaws.{header-decided}
 use Rattle.header.proofs.is_header.Statement.{statement}
 use Rattle.header.proofs.is_header.Tie as tie
 

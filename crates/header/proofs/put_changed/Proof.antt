@@ -3,7 +3,7 @@ use native.Mathlib.Omega.{arith}
 use mathlib.Core.List.{[]}
 use mathlib.Core.Path.{sym, _∙_}
 use Rattle.model.specs.Header.{tablesOf}
-use Rattle.header.specs.HeaderLaws.{three-writes}
+use Rattle.header.specs.PieceLaws.{three-writes}
 use Rattle.header.proofs.put_changed.Statement.{statement}
 use Rattle.header.proofs.put_changed.Tie as tie
 

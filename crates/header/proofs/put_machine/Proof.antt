@@ -2,7 +2,7 @@ use borrow.Author.Needs.{needs}
 use mathlib.Core.List.{[]}
 use Rattle.numbers.specs.Limits.{UNITS}
 use Rattle.model.specs.Header.{tablesOf}
-use Rattle.header.specs.HeaderLaws.{in-turn}
+use Rattle.header.specs.PieceLaws.{in-turn}
 use Rattle.header.proofs.put_machine.Statement.{statement}
 use Rattle.header.proofs.put_machine.Tie as tie
 
