@@ -8,10 +8,10 @@ use lib.ListN.{length, getD, set, take, drop, length-append, length-drop, List·
 use lib.Seq.{length-take-le, getD-take, getD-drop, getD-append-add, set-getD, ext-getD}
 use Rattle.numbers.specs.Limits.{PORTS, UNITS}
 use Rattle.table.specs.Scan.{repeat}
-use Rattle.units.specs.Units.{noUnit}
+use Rattle.units.specs.Units.{isMark, noUnit}
 use Rattle.model.specs.Header.{setupOf, tablesOf, stateOf}
 use Rattle.model.specs.Sequence.{writeAt}
-use Rattle.model.specs.Start.{UNIT-NUMBERS, numberTold, unitsFrom}
+use Rattle.model.specs.Start.{UNIT-NUMBERS, countTold, numberTold, unitsTold, unitsFrom}
 use Rattle.model.specs.State.{Tables, Setup, State}
 use Rattle.header.specs.Numbers.{UNIT-COUNT-AT, KNOWN-AT, CPUS-AT, DEVICES-AT, UNITS-AT, MACHINE-NUMBERS, part, unitsPart, machineOf, HeaderGood, changing, changed, unitNumbers, setupNumbers, unitWritten, begun}
 use Rattle.header.specs.PieceLaws.{three-writes}
@@ -86,3 +86,57 @@ module _ (numbers : List ℕ) (t : Tables) (whole : length numbers ≡ MACHINE-N
           cpu = record { map = t .cpu .map; walker = t .cpu .walker; cache = t .cpu .cache; hand = change-at 1 (omega arith) i; ports = cpus-are i };
           dma = record { map = t .dma .map; walker = t .dma .walker; cache = t .dma .cache; hand = change-at 2 (omega arith) i; ports = devices-are i };
         }
+
+pub changed-good : (numbers : List ℕ) (t : Tables) → HeaderGood numbers → length (t .cpu .ports) ≡ PORTS → length (t .dma .ports) ≡ PORTS → HeaderGood (changed numbers t)
+changed-good numbers t good cpus devices =
+    record {
+      whole = changed-length numbers t ∙ good .whole;
+      marks = λ k h b.
+      ap (λ (units : List ℕ). isMark (numberTold units k 5)) (units-kept numbers t (good .whole) cpus devices)
+      ∙ good .marks k h (rw (written-before numbers KNOWN-AT (changing t) UNIT-COUNT-AT (omega arith)) at b);
+    }
+
+pub state-changed : (numbers : List ℕ) (s : State) → length numbers ≡ MACHINE-NUMBERS → length (s .tables .cpu .ports) ≡ PORTS → length (s .tables .dma .ports) ≡ PORTS → s .tables .setup ≡ setupOf (machineOf numbers) →
+    stateOf (machineOf (changed numbers (s .tables))) (s .tables .sets) (s .tables .pairs) (s .tables .cpu .map) (s .tables .cpu .walker) (s .tables .cpu .cache) (s .tables .dma .map) (s .tables .dma .walker) (s .tables .dma .cache) (s .memory) ≡ s
+state-changed numbers s whole cpus devices setup =
+    let t = s .tables in
+    let before : (j : ℕ) → j < KNOWN-AT → getD (changed numbers t) j 0 ≡ getD numbers j 0 = written-before numbers KNOWN-AT (changing t) in
+    let kept : setupOf (machineOf (changed numbers t)) ≡ setupOf (machineOf numbers) =
+    λ i.
+    record {
+      pages = before 0 (omega arith) i;
+      sharedBase = before 1 (omega arith) i;
+      sharedCount = before 2 (omega arith) i;
+      units = unitsTold (units-kept numbers t whole cpus devices i);
+      unitCount = before UNIT-COUNT-AT (omega arith) i;
+    } in
+    let tables = tables-are numbers t whole cpus devices (changed numbers t) (changed-length numbers t ∙ whole) (λ j b. refl) (kept ∙ sym setup) in
+    λ i. record { tables = tables i; memory = s .memory }
+
+-- ---- a header after start
+module _ (numbers : List ℕ) (s : State) (whole : length numbers ≡ MACHINE-NUMBERS) (all : length (s .tables .setup .units) ≡ UNITS) (cpus : length (s .tables .cpu .ports) ≡ PORTS) (devices : length (s .tables .dma .ports) ≡ PORTS) where
+  abbrev four : List ℕ
+  four = setupNumbers (s .tables .setup)
+
+  abbrev room : List ℕ
+  room = changed (writeAt numbers 0 four) (s .tables)
+
+  whole-room : length room ≡ MACHINE-NUMBERS
+  whole-room = changed-length (writeAt numbers 0 four) (s .tables) ∙ (length-written numbers 0 four ∙ whole)
+
+  long : length (begun numbers (s .tables)) ≡ MACHINE-NUMBERS
+  long = length-begun (s .tables .setup .units) 0 UNITS room ∙ whole-room
+
+  same : (j : ℕ) → j < UNITS-AT → getD (begun numbers (s .tables)) j 0 ≡ getD room j 0
+  same j h = units-behind (s .tables .setup .units) 0 UNITS room j (omega arith)
+
+  setup-at : (j : ℕ) → j < KNOWN-AT → getD (begun numbers (s .tables)) j 0 ≡ getD four j 0
+  setup-at j h =
+      let z : 0 + j ≡ j = omega arith in
+      same j (omega arith) ∙ (written-before (writeAt numbers 0 four) KNOWN-AT (changing (s .tables)) j h ∙ rw z at (written-here numbers 0 four j h (omega arith)))
+
+  unit-told : (k field : ℕ) → k < UNITS → field < UNIT-NUMBERS → numberTold (unitsPart (begun numbers (s .tables))) k field ≡ getD (unitNumbers (getD (s .tables .setup .units) k noUnit)) field 0
+  unit-told k field h b = number-at (begun numbers (s .tables)) k field h b ∙ unit-here (s .tables .setup .units) 0 UNITS room k field (omega arith) (omega arith) b (omega (arith, whole-room))
+
+  pub begun-good : HeaderGood (begun numbers (s .tables))
+  begun-good = record { whole = long; marks = λ k h b. ap isMark (unit-told k 5 h (omega arith)) ∙ mark-good (getD (s .tables .setup .units) k noUnit .mark) }
