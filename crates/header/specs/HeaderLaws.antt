@@ -92,8 +92,8 @@ changed-good numbers t good cpus devices =
     record {
       whole = changed-length numbers t ∙ good .whole;
       marks = λ k h b.
-      ap (λ (units : List ℕ). isMark (numberTold units k 5)) (units-kept numbers t (good .whole) cpus devices)
-      ∙ good .marks k h (rw (written-before numbers KNOWN-AT (changing t) UNIT-COUNT-AT (omega arith)) at b);
+          ap (λ (units : List ℕ). isMark (numberTold units k 5)) (units-kept numbers t (good .whole) cpus devices)
+          ∙ good .marks k h (rw (written-before numbers KNOWN-AT (changing t) UNIT-COUNT-AT (omega arith)) at b);
     }
 
 pub state-changed : (numbers : List ℕ) (s : State) → length numbers ≡ MACHINE-NUMBERS → length (s .tables .cpu .ports) ≡ PORTS → length (s .tables .dma .ports) ≡ PORTS → s .tables .setup ≡ setupOf (machineOf numbers) →
@@ -140,3 +140,23 @@ module _ (numbers : List ℕ) (s : State) (whole : length numbers ≡ MACHINE-NU
 
   pub begun-good : HeaderGood (begun numbers (s .tables))
   begun-good = record { whole = long; marks = λ k h b. ap isMark (unit-told k 5 h (omega arith)) ∙ mark-good (getD (s .tables .setup .units) k noUnit .mark) }
+
+  units-long : length (unitsPart (begun numbers (s .tables))) ≡ UNITS * UNIT-NUMBERS
+  units-long = length-take-le (UNITS * UNIT-NUMBERS) (drop UNITS-AT (begun numbers (s .tables))) (omega (arith, length-drop UNITS-AT (begun numbers (s .tables)), long))
+
+  units-are : unitsFrom (unitsPart (begun numbers (s .tables))) 0 UNITS ≡ s .tables .setup .units
+  units-are = units-again (unitsPart (begun numbers (s .tables))) (s .tables .setup .units) UNITS (rw units-long (omega arith)) all unit-told
+
+  pub state-begun : stateOf (machineOf (begun numbers (s .tables))) (s .tables .sets) (s .tables .pairs) (s .tables .cpu .map) (s .tables .cpu .walker) (s .tables .cpu .cache) (s .tables .dma .map) (s .tables .dma .walker) (s .tables .dma .cache) (s .memory) ≡ s
+  state-begun =
+      let setup : setupOf (machineOf (begun numbers (s .tables))) ≡ s .tables .setup =
+      λ i.
+      record {
+        pages = setup-at 0 (omega arith) i;
+        sharedBase = setup-at 1 (omega arith) i;
+        sharedCount = setup-at 2 (omega arith) i;
+        units = units-are i;
+        unitCount = setup-at UNIT-COUNT-AT (omega arith) i;
+      } in
+      let tables = tables-are (writeAt numbers 0 four) (s .tables) (length-written numbers 0 four ∙ whole) cpus devices (begun numbers (s .tables)) long same setup in
+      λ i. record { tables = tables i; memory = s .memory }

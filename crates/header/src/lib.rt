@@ -66,7 +66,14 @@ fn ports_in(ports: &[u64]) -> [u64; 8]
     ensures { λ r. ⌜ r ≡ now (ports .entry) ⌝ }
 {
     [
-        ports[0], ports[1], ports[2], ports[3], ports[4], ports[5], ports[6], ports[7],
+        ports[0],
+        ports[1],
+        ports[2],
+        ports[3],
+        ports[4],
+        ports[5],
+        ports[6],
+        ports[7],
     ]
 }
 
