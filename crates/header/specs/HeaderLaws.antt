@@ -1,22 +1,20 @@
 -- What is written of a machine is read again: the laws by which numbers alone carry a state.
 use Prim.Native.Nat.{ℕ, suc, _+_, _*_, _≤_, _<_}
-use mathlib.Core.Bool.{true}
-use mathlib.Core.List.{List, [], _∷_, _++_}
+use mathlib.Core.List.{List}
 use mathlib.Core.Path.{_≡_, refl, sym, ap, _∙_}
 use native.Mathlib.Omega.{arith}
-use lib.ListN.{length, getD, set, take, drop, length-append, length-drop, List·getD-append}
+use lib.ListN.{length, getD, take, drop, length-append, length-drop, List·getD-append}
 use lib.Seq.{length-take-le, getD-take, getD-drop, getD-append-add, set-getD, ext-getD}
 use Rattle.numbers.specs.Limits.{PORTS, UNITS}
-use Rattle.table.specs.Scan.{repeat}
 use Rattle.units.specs.Units.{isMark, noUnit}
 use Rattle.model.specs.Header.{setupOf, tablesOf, stateOf}
 use Rattle.model.specs.Sequence.{writeAt}
-use Rattle.model.specs.Start.{UNIT-NUMBERS, countTold, numberTold, unitsTold, unitsFrom}
-use Rattle.model.specs.State.{Tables, Setup, State}
-use Rattle.header.specs.Numbers.{UNIT-COUNT-AT, KNOWN-AT, CPUS-AT, DEVICES-AT, UNITS-AT, MACHINE-NUMBERS, part, unitsPart, machineOf, HeaderGood, changing, changed, unitNumbers, setupNumbers, unitWritten, begun}
+use Rattle.model.specs.Start.{UNIT-NUMBERS, numberTold, unitsTold, unitsFrom}
+use Rattle.model.specs.State.{Tables, State}
+use Rattle.header.specs.Numbers.{UNIT-COUNT-AT, KNOWN-AT, CPUS-AT, DEVICES-AT, UNITS-AT, MACHINE-NUMBERS, part, unitsPart, machineOf, HeaderGood, changing, changed, unitNumbers, setupNumbers, begun}
 use Rattle.header.specs.PieceLaws.{three-writes}
-use Rattle.header.specs.UnitLaws.{mark-good, length-begun, units-behind, unit-here, number-at, units-again}
-use Rattle.header.specs.WriteLaws.{length-written, written-before, written-behind, written-here, drop-written, written-same}
+use Rattle.header.specs.UnitLaws.{mark-good, length-begun, before-units, unit-here, number-at, units-again}
+use Rattle.header.specs.WriteLaws.{length-written, written-before, written-here, drop-written, written-same}
 
 -- ---- parts
 part-is : (numbers : List ℕ) (at n : ℕ) (ns : List ℕ) → at + n ≤ length numbers → length ns ≡ n → ((j : ℕ) → j < n → getD numbers (at + j) 0 ≡ getD ns j 0) → part numbers at n ≡ ns
@@ -128,7 +126,7 @@ module _ (numbers : List ℕ) (s : State) (whole : length numbers ≡ MACHINE-NU
   long = length-begun (s .tables .setup .units) 0 UNITS room ∙ whole-room
 
   same : (j : ℕ) → j < UNITS-AT → getD (begun numbers (s .tables)) j 0 ≡ getD room j 0
-  same j h = units-behind (s .tables .setup .units) 0 UNITS room j (omega arith)
+  same j h = before-units (s .tables .setup .units) 0 UNITS room j (omega arith)
 
   setup-at : (j : ℕ) → j < KNOWN-AT → getD (begun numbers (s .tables)) j 0 ≡ getD four j 0
   setup-at j h =

@@ -6,8 +6,8 @@ use mathlib.Core.Path.{_≡_}
 use lib.Dec.{eqb, ltb}
 use lib.ListN.{length, getD, take, drop}
 use Rattle.numbers.specs.Choice.{if_then_else_}
-use Rattle.numbers.specs.Limits.{PORTS, UNITS, ANSWER-NUMBERS}
-use Rattle.numbers.specs.Meaning.{refusalNumber, answerNumbers}
+use Rattle.numbers.specs.Limits.{PORTS, UNITS}
+use Rattle.numbers.specs.Meaning.{refusalNumber}
 use Rattle.numbers.specs.declared.Answer.{Answer}
 use Rattle.numbers.specs.declared.Answer.the-variants.{Accepted, Refused}
 use Rattle.numbers.specs.declared.Lowest.{Lowest}

@@ -38,10 +38,10 @@ module _ (units : List Unit) where
   length-begun i zero room = refl
   length-begun i (suc n) room = length-begun (suc i) n (unitWritten units i room) ∙ length-written room (UNITS-AT + i * UNIT-NUMBERS) (unitNumbers (getD units i noUnit))
 
-  pub units-behind : (i n : ℕ) (room : List ℕ) (j : ℕ) → j < UNITS-AT + i * UNIT-NUMBERS → getD (repeat (unitWritten units) i n room) j 0 ≡ getD room j 0
-  units-behind i zero room j h = refl
-  units-behind i (suc n) room j h =
-      units-behind (suc i) n (unitWritten units i room) j (omega arith) ∙ written-before room (UNITS-AT + i * UNIT-NUMBERS) (unitNumbers (getD units i noUnit)) j h
+  pub before-units : (i n : ℕ) (room : List ℕ) (j : ℕ) → j < UNITS-AT + i * UNIT-NUMBERS → getD (repeat (unitWritten units) i n room) j 0 ≡ getD room j 0
+  before-units i zero room j h = refl
+  before-units i (suc n) room j h =
+      before-units (suc i) n (unitWritten units i room) j (omega arith) ∙ written-before room (UNITS-AT + i * UNIT-NUMBERS) (unitNumbers (getD units i noUnit)) j h
 
   pub unit-here : (i n : ℕ) (room : List ℕ) (k field : ℕ) → i ≤ k → k < i + n → field < UNIT-NUMBERS → UNITS-AT + (i + n) * UNIT-NUMBERS ≤ length room →
       getD (repeat (unitWritten units) i n room) (UNITS-AT + k * UNIT-NUMBERS + field) 0 ≡ getD (unitNumbers (getD units k noUnit)) field 0
@@ -50,7 +50,7 @@ module _ (units : List Unit) where
       let p = UNITS-AT + i * UNIT-NUMBERS in
       let six = unitNumbers (getD units i noUnit) in
       ⊎-elim
-      (λ e. rw e (units-behind (suc i) n (writeAt room p six) (p + field) (omega arith) ∙ (written-here room p six field b (omega arith) ∙ ap (λ (m : ℕ). getD (unitNumbers (getD units m noUnit)) field 0) (sym e))))
+      (λ e. rw e (before-units (suc i) n (writeAt room p six) (p + field) (omega arith) ∙ (written-here room p six field b (omega arith) ∙ ap (λ (m : ℕ). getD (unitNumbers (getD units m noUnit)) field 0) (sym e))))
       (λ d. unit-here (suc i) n (writeAt room p six) k field (omega arith) (omega arith) b (omega (arith, length-written room p six)))
       (equal k i)
 

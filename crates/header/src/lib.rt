@@ -1,12 +1,11 @@
 // The header of a machine as numbers alone, as it crosses to C: read into a machine, and written back.
 ghost use mathlib.Core.Path.{_≡_};
-ghost use Prim.Native.Nat.{_+_, _*_, _<_, _≤_};
+ghost use Prim.Native.Nat.{_+_, _*_, _≤_};
 ghost use lib.ListN.{length};
 ghost use Rattle.numbers.specs.Decides.{Decides};
 ghost use Rattle.numbers.specs.Limits.{PORTS, UNITS};
 ghost use Rattle.numbers.specs.Meaning.{answerNumbers};
 ghost use Rattle.table.specs.Scan.{anyBelow, repeat};
-ghost use Rattle.model.specs.Header.{tablesOf};
 ghost use Rattle.model.specs.Sequence.{writeAt};
 ghost use Rattle.model.specs.Start.{UNIT-NUMBERS};
 ghost use Rattle.header.specs.Numbers.{MACHINE-NUMBERS, machineOf, HeaderGood, badMark, changedBy, unitNumbers, unitWritten, begunBy, numberOf, answered, lowestNumber, freeNumbers};

@@ -1,6 +1,5 @@
 use borrow.Author.Needs.{needs}
 use Prim.Native.Nat.{_-_}
-use mathlib.Core.Path.{sym, _∙_}
 use Rattle.numbers.specs.Limits.{UNITS}
 use Rattle.table.specs.Loops.{Trying, try-start, try-next, try-yes, try-no}
 use Rattle.header.specs.Numbers.{badMark}
