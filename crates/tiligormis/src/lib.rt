@@ -5,6 +5,7 @@ ghost use Rattle.numbers.specs.Limits.{SLOTS};
 ghost use Rattle.tiligormis.specs.Slots.{wordOf, slotOf, slotAt, loaded, stored, AllFit};
 
 pub mod entries;
+pub mod slots;
 
 // ---- A slot of a translation cache. Its numbers fill 64 bits, so that any record is the slot of one word.
 #[repr(C)]
