@@ -85,30 +85,32 @@ pub fn put(words: &mut [u64], key: u64, word: u64)
     }
 }
 
-// Empties every place whose word has the key.
+// Empties every place whose word has the key. Each turn stores, so that several words can be done at once.
 pub fn erase(words: &mut [u64], key: u64)
     ensures { λ r. ⌜ now (words .exit) ≡ erase keyOf (now (words .entry)) key ⌝ }
 {
     let mut i = 0;
     while i < words.len() {
-        if numbers::key_of(words[i]) == key {
-            words[i] = 0;
-        }
+        let w = words[i];
+        words[i] = if numbers::key_of(w) == key { 0 } else { w };
         i += 1;
     }
 }
 
-// Empties every slot of a cache whose word is of this address, whatever its port, and answers how many there were.
+// Empties every slot of a cache whose word is of this address, whatever its port, and answers how many there were. Each turn
+// stores, as in erase.
 pub fn drop_slots(cache: &mut [u64], address: u64) -> u64
     ensures { λ r. ⌜ (r ≡ count (hasKey addressOf address) (now (cache .entry))) × (now (cache .exit) ≡ erase addressOf (now (cache .entry)) address) ⌝ }
 {
     let mut dropped = 0;
     let mut i = 0;
     while i < cache.len() {
-        if numbers::address_of(cache[i]) == address {
-            cache[i] = 0;
+        let mut w = cache[i];
+        if numbers::address_of(w) == address {
+            w = 0;
             dropped += 1;
         }
+        cache[i] = w;
         i += 1;
     }
     dropped
