@@ -2,19 +2,38 @@
 // Table code goes by the slice's length and knows no capacity.
 ghost use mathlib.Core.Path.{_≡_};
 ghost use Rattle.numbers.specs.Packing.{keyOf, addressOf};
+ghost use Rattle.table.specs.Loops.{Seeking};
 ghost use Rattle.table.specs.Scan.{count};
-ghost use Rattle.table.specs.Table.{hasKey, find, lookup, lowestFree, freeEntries, place, put, erase};
+ghost use Rattle.table.specs.Table.{isEmpty, hasKey, find, lookup, lowestFree, freeEntries, place, put, erase};
 
 pub enum Found {
     At(usize),
     Nothing,
 }
 
+// A place before which no word has the key: four words a step, for as long as there are four and none of them has it.
+fn past_other_keys(words: &[u64], key: u64) -> usize
+    ensures { λ r. ⌜ Seeking (hasKey keyOf key) (now (words .entry)) r ⌝ }
+{
+    let mut spot = 0;
+    while spot + 4 <= words.len() {
+        if (numbers::key_of(words[spot]) == key)
+            | (numbers::key_of(words[spot + 1]) == key)
+            | (numbers::key_of(words[spot + 2]) == key)
+            | (numbers::key_of(words[spot + 3]) == key)
+        {
+            return spot;
+        }
+        spot += 4;
+    }
+    spot
+}
+
 // The lowest place whose word has the key.
 pub fn find(words: &[u64], key: u64) -> Found
     ensures { λ r. ⌜ r ≡ find keyOf (now (words .entry)) key ⌝ }
 {
-    let mut spot = 0;
+    let mut spot = past_other_keys(words, key);
     while spot < words.len() {
         if numbers::key_of(words[spot]) == key {
             return Found::At(spot);
@@ -35,11 +54,29 @@ pub fn lookup(words: &[u64], key: u64) -> u64
     }
 }
 
+// A place before which every place is filled, found as past_other_keys finds its own.
+fn past_filled(words: &[u64]) -> usize
+    ensures { λ r. ⌜ Seeking isEmpty (now (words .entry)) r ⌝ }
+{
+    let mut spot = 0;
+    while spot + 4 <= words.len() {
+        if (words[spot] == 0)
+            | (words[spot + 1] == 0)
+            | (words[spot + 2] == 0)
+            | (words[spot + 3] == 0)
+        {
+            return spot;
+        }
+        spot += 4;
+    }
+    spot
+}
+
 // The lowest empty place.
 pub fn lowest_free(words: &[u64]) -> Found
     ensures { λ r. ⌜ r ≡ lowestFree (now (words .entry)) ⌝ }
 {
-    let mut spot = 0;
+    let mut spot = past_filled(words);
     while spot < words.len() {
         if words[spot] == 0 {
             return Found::At(spot);
