@@ -6,7 +6,8 @@ use std::collections::BTreeSet;
 use second::author::Rng;
 use second::machine::*;
 
-/// Changes a machine; nothing where it has not got what the change is about.
+/// Changes a machine; nothing where it has not got what the change is about. An assignment is `()`,
+/// so that `Some(place = value)` is a change that was made.
 pub type Damage = fn(&mut Machine, &mut Rng) -> Option<()>;
 pub type SideDamage = fn(&mut Machine, Side, &mut Rng) -> Option<()>;
 
@@ -15,6 +16,7 @@ const FAR: [u64; 4] = [1 << 32, IDLE, 1 << 63, u64::MAX];
 
 pub const SETUP: &[(&str, Damage)] = &[
     ("nothing changed", |_, _| Some(())),
+    ("the empty machine", |m, _| Some(*m = Machine::empty())),
     ("no pages", |m, _| resize(m, 0)),
     ("no pages but their memory", |m, _| Some(m.pages = 0)),
     ("a page more", |m, _| {
@@ -59,6 +61,14 @@ pub const SETUP: &[(&str, Damage)] = &[
     }),
     ("a unit less", |m, _| m.units.pop().map(|_| ())),
     ("shared span past the last page", |m, _| Some(m.shared.base = m.pages - m.shared.count + 1)),
+    ("an empty shared span above N", |m, rng| {
+        (m.shared.count == 0).then_some(())?;
+        Some(m.shared.base = m.pages + 1 + rng.below(PAGES))
+    }),
+    ("an empty shared span elsewhere", |m, rng| {
+        (m.shared.count == 0).then_some(())?;
+        Some(m.shared.base = rng.below(m.pages + 1))
+    }),
     ("shared span that wraps", |m, _| Some(m.shared = Span { base: u64::MAX, count: 1 })),
     ("shared span a page longer", |m, _| Some(m.shared.count += 1)),
     ("shared span a page shorter", |m, _| {
@@ -102,6 +112,12 @@ pub const TABLES: &[(&str, Damage)] = &[
     ("a page at N or above in the pool", |m, rng| {
         let page = any(rng, m.pages..PAGES)?;
         m.pool.insert(page).then_some(())
+    }),
+    ("a page of the pool held for DMA by two VMs", |m, rng| {
+        let page = any(rng, m.pool.iter().copied())?;
+        let (one, other) = (known(m, rng)?, known(m, rng)?);
+        m.dma.owned.get_mut(&one)?.insert(page);
+        m.dma.owned.get_mut(&other)?.insert(page).then_some(())
     }),
     ("a pair of one VM", |m, rng| {
         let (vm, page) = held(m, Side::Cpu, rng)?;

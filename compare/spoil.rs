@@ -109,6 +109,15 @@ pub const SETS_AND_HEADER: &[Named<Owned>] = &[
         let page = any(rng, (0..PAGES).filter(free))?;
         Some(*word_of(owned, SHARED, page) |= 1 << (page % 64))
     }),
+    ("a shared span shorter than its set", false, |owned, _| {
+        owned.machine.shared_count = owned.machine.shared_count.checked_sub(1)?;
+        Some(())
+    }),
+    ("a shared span that is not its set", false, |owned, _| {
+        let header = &mut owned.machine;
+        let past = header.shared_base + header.shared_count == header.pages;
+        (header.shared_count > 0 && !past).then(|| header.shared_base += 1)
+    }),
     ("a word twice in map and walker", false, |owned, rng| {
         twice(&mut owned.cpu_map, &mut owned.cpu_walker, rng)
     }),

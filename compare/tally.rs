@@ -91,7 +91,7 @@ impl fmt::Display for Tally {
         writeln!(f, "the same rows in {batches} batches, with the state after each")?;
         writeln!(f, "  lengths:times  {}", list(self.batches_by_span()))?;
         writeln!(f, "  {} batches first with too little room for answers", self.short_rooms)?;
-        writeln!(f, "{} times all of a memory of over 16 pages", self.whole_memories)?;
+        writeln!(f, "{} times after a row all of a memory of over 16 pages", self.whole_memories)?;
         writeln!(f, "{} free queries, {} validities", self.free_queries, self.validities)?;
         writeln!(f, "answers, number:times  {}", list(self.by_number()))?;
         writeln!(f, "answers of each operation, 0 for unknown ones")?;
