@@ -4,8 +4,17 @@ use crate::numbers::*;
 use crate::structs::{Answer, FreePages, Machine, Row, Slot, Unit};
 use crate::{accepted, ffi};
 
-/// A box lent to be changed. The slices may have any length and any content; a valid box has those
-/// named at the fields, among other rules. That no two of them overlap, Rust sees to.
+/// A box lent to be changed. The slices may have any length and any content; a valid box has the
+/// lengths named at the fields, and keeps the rules of docs/MACHINE.md, section 4.
+///
+/// No two slices overlap: Rust refuses to lend one table for two.
+///
+/// ```compile_fail,E0382
+/// let mut owned = tiligormis::Owned::new(8);
+/// let mut lent = owned.lent();
+/// lent.cpu_walker = lent.cpu_map;
+/// lent.valid();
+/// ```
 pub struct Lent<'a> {
     pub machine: &'a mut Machine,
     /// [`SETS`] * [`SET_WORDS`] words: the pool, the shared span, then CPU and DMA pages of each VM.

@@ -25,6 +25,8 @@ mod numbers;
 mod owned;
 mod slots;
 mod structs;
+#[cfg(test)]
+mod tests;
 
 pub use lent::{Lent, LentRef};
 pub use numbers::*;

@@ -101,38 +101,21 @@ pub const fn row<const GIVEN: usize>(numbers: [u64; GIVEN]) -> Row {
 
 const _: () = assert!(size_of::<usize>() == 8);
 
-const _: () = assert!(size_of::<Slot>() == 8);
-const _: () = assert!(offset_of!(Slot, port) == 0);
-const _: () = assert!(offset_of!(Slot, vm) == 1);
-const _: () = assert!(offset_of!(Slot, guest) == 2);
-const _: () = assert!(offset_of!(Slot, entry) == 4);
+/// Asserts how a struct is laid out: its size, and the place and type of each field.
+macro_rules! layout {
+    ($name:ty, $size:expr; $($field:ident: $kind:ty = $place:expr),*) => {
+        const _: () = assert!(size_of::<$name>() == $size);
+        $(const _: () = assert!(offset_of!($name, $field) == $place);)*
+        const _: fn(&$name) = |whole| { $(let _: &$kind = &whole.$field;)* };
+    };
+}
 
-const _: () = assert!(size_of::<Unit>() == 8 * UNIT_NUMBERS);
-const _: () = assert!(offset_of!(Unit, vm) == 0);
-const _: () = assert!(offset_of!(Unit, guest) == 8);
-const _: () = assert!(offset_of!(Unit, page) == 16);
-const _: () = assert!(offset_of!(Unit, count) == 24);
-const _: () = assert!(offset_of!(Unit, access) == 32);
-const _: () = assert!(offset_of!(Unit, mark) == 40);
-
-const _: () = assert!(size_of::<Machine>() == 8 * MACHINE_NUMBERS);
-const _: () = assert!(offset_of!(Machine, pages) == 0);
-const _: () = assert!(offset_of!(Machine, shared_base) == 8);
-const _: () = assert!(offset_of!(Machine, shared_count) == 16);
-const _: () = assert!(offset_of!(Machine, unit_count) == 24);
-const _: () = assert!(offset_of!(Machine, known) == 32);
-const _: () = assert!(offset_of!(Machine, cpu_hand) == 40);
-const _: () = assert!(offset_of!(Machine, dma_hand) == 48);
-const _: () = assert!(offset_of!(Machine, cpus) == 56);
-const _: () = assert!(offset_of!(Machine, devices) == 120);
-const _: () = assert!(offset_of!(Machine, units) == 184);
-
-const _: () = assert!(size_of::<Answer>() == 8 * ANSWER_NUMBERS);
-const _: () = assert!(offset_of!(Answer, number) == 0);
-const _: () = assert!(offset_of!(Answer, index) == 8);
-const _: () = assert!(offset_of!(Answer, dropped) == 16);
-const _: () = assert!(offset_of!(Answer, word) == 24);
-
-const _: () = assert!(size_of::<FreePages>() == 8 * FREE_NUMBERS);
-const _: () = assert!(offset_of!(FreePages, count) == 0);
-const _: () = assert!(offset_of!(FreePages, lowest) == 8);
+layout!(Slot, 8; port: u8 = 0, vm: u8 = 1, guest: u16 = 2, entry: u32 = 4);
+layout!(Unit, 8 * UNIT_NUMBERS;
+    vm: u64 = 0, guest: u64 = 8, page: u64 = 16, count: u64 = 24, access: u64 = 32, mark: u64 = 40);
+layout!(Machine, 8 * MACHINE_NUMBERS;
+    pages: u64 = 0, shared_base: u64 = 8, shared_count: u64 = 16, unit_count: u64 = 24,
+    known: u64 = 32, cpu_hand: u64 = 40, dma_hand: u64 = 48,
+    cpus: [u64; PORTS] = 56, devices: [u64; PORTS] = 120, units: [Unit; UNITS] = 184);
+layout!(Answer, 8 * ANSWER_NUMBERS; number: u64 = 0, index: u64 = 8, dropped: u64 = 16, word: u64 = 24);
+layout!(FreePages, 8 * FREE_NUMBERS; count: u64 = 0, lowest: u64 = 8);
