@@ -1,7 +1,7 @@
 //! Every way to change a state, under one shape.
 
 use second::author::Rng;
-use second::machine::{Machine, Side};
+use second::machine::{Half, Machine, Map, Side};
 use second::valid::is_valid;
 use tiligormis::Owned;
 
@@ -9,6 +9,7 @@ use crate::damage::{SETUP, SIDES, TABLES};
 use crate::entries::{edit, ENTRY_CHANGES, MAPS, SLOT_CHANGES};
 use crate::pack::pack;
 use crate::spoil::{self, scatter, Named, Spoil};
+use crate::supply::Supply;
 
 /// A changed state: the box, and what the test for validity has to say of it.
 pub struct State {
@@ -26,30 +27,52 @@ pub struct Case {
     pub change: Change,
 }
 
-pub fn cases() -> Vec<Case> {
-    let mut cases = Vec::new();
-    for &(name, damage) in SETUP.iter().chain(TABLES) {
-        cases.push(by_second(name.to_string(), damage));
+/// How many states may be without what a case changes before it counts as never made.
+const TRIES: usize = 300;
+
+impl Case {
+    /// The change of the first state in the supply that has got what it is about.
+    pub fn of_some_state(&self, supply: &mut Supply, rng: &mut Rng) -> Option<State> {
+        (0..TRIES).find_map(|_| {
+            supply.advance(rng);
+            (self.change)(&supply.machine, rng)
+        })
     }
-    for side in [Side::Cpu, Side::Dma] {
-        let side_name = if side == Side::Cpu { "CPU" } else { "DMA" };
-        let named = |name| format!("{side_name}: {name}");
-        for &(name, damage) in SIDES.iter().chain(SLOT_CHANGES) {
-            cases.push(by_second(named(name), move |m, rng| damage(m, side, rng)));
-        }
-        for &(name, edits) in ENTRY_CHANGES {
-            for (maps_name, maps) in MAPS {
-                let name = format!("{side_name}: {name}, {maps_name}");
-                cases.push(by_second(name, move |m, rng| {
-                    let edits = edits(m, side, rng)?;
-                    maps(m.half_mut(side)).into_iter().for_each(|map| edit(map, &edits));
-                    Some(())
-                }));
-            }
+}
+
+pub fn cases() -> Vec<Case> {
+    let plain = SETUP.iter().chain(TABLES);
+    let mut cases: Vec<Case> =
+        plain.map(|&(name, damage)| by_second(name.to_string(), damage)).collect();
+    for (name, side) in [("CPU", Side::Cpu), ("DMA", Side::Dma)] {
+        cases.extend(side_cases(name, side));
+        for (maps_name, maps) in MAPS {
+            cases.extend(map_cases(&format!("{name} {maps_name}"), side, maps));
         }
     }
     cases.extend(box_cases());
     cases
+}
+
+fn side_cases(side_name: &str, side: Side) -> impl Iterator<Item = Case> + '_ {
+    SIDES.iter().chain(SLOT_CHANGES).map(move |&(name, damage)| {
+        by_second(format!("{side_name}: {name}"), move |m, rng| damage(m, side, rng))
+    })
+}
+
+/// Changes of entries in these maps of a side.
+fn map_cases(
+    maps_name: &str,
+    side: Side,
+    maps: fn(&mut Half) -> Vec<&mut Map>,
+) -> impl Iterator<Item = Case> + '_ {
+    ENTRY_CHANGES.iter().map(move |&(name, edits)| {
+        by_second(format!("{maps_name}: {name}"), move |m, rng| {
+            let edits = edits(m, side, rng)?;
+            maps(m.half_mut(side)).into_iter().for_each(|map| edit(map, &edits));
+            Some(())
+        })
+    })
 }
 
 /// Cases that are made on the box.

@@ -191,7 +191,7 @@ impl<'a> Couple<'a> {
     }
 
     fn flush(&mut self) -> Result<(), Difference> {
-        if !self.batch.is_empty() && self.rng.chance(10) {
+        if !self.batch.is_empty() && self.rng.chance(20) {
             self.short_room()?;
         }
         let mut expected = std::mem::take(&mut self.answers);

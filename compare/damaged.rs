@@ -8,9 +8,10 @@ use second::author::Rng;
 use second::machine::{Free, Lent, Machine};
 use second::operate::Row;
 use second::script::Setup;
+use second::valid::broken;
 use tiligormis::{Answer, Owned, ENTRIES, PAIRS, SETS, SET_WORDS, STATE_NOT_VALID};
 
-use crate::cases::{cases, State};
+use crate::cases::{cases, Case, State};
 use crate::couple::{after_refused_start, after_start, UNWRITTEN};
 use crate::differ::{same, state as alike};
 use crate::pack::Difference;
@@ -36,8 +37,6 @@ const ASKED: [(Asked, &str); 5] = [
     (Asked::Start, "damaged_start_over"),
 ];
 
-/// How many states may be without what a case changes before it counts as never made.
-const TRIES: usize = 300;
 /// How many of the rows that come next a changed state is given.
 const ROWS: usize = 8;
 /// An operation that no state refuses but for not being valid, and an unknown one.
@@ -71,30 +70,29 @@ pub fn all(seed: u64, count: u64, make: &Maker) -> Outcome {
     let cases = cases();
     let made = cases.iter().map(|case| (case.name.clone(), [0, 0])).collect();
     let mut outcome = Outcome { made, ..Outcome::default() };
-    for place in (0..cases.len()).cycle() {
+    for (place, case) in cases.iter().enumerate().cycle() {
         if outcome.states >= count {
             break;
         }
-        let change = &cases[place].change;
-        let Some(state) = (0..TRIES).find_map(|_| {
-            supply.advance(&mut rng);
-            change(&supply.machine, &mut rng)
-        }) else {
-            continue;
-        };
+        let Some(state) = case.of_some_state(&mut supply, &mut rng) else { continue };
         for (asked, _) in ASKED {
-            let answered = ask(asked, &state, &supply.setup, &supply.coming(ROWS), make);
-            if let Err(difference) = answered {
-                let Difference { part, detail } = difference;
-                let found = format!("state {} of seed {seed}, {part}: {detail}", outcome.states);
-                let name = &cases[place].name;
-                outcome.findings.entry(asked).or_insert_with(|| format!("{name}: {found}"));
+            let answer = ask(asked, &state, &supply.setup, &supply.coming(ROWS), make);
+            if let Err(difference) = answer {
+                let text = found(case, &state, &difference);
+                let at = format!("state {} of seed {seed}: {text}", outcome.states);
+                outcome.findings.entry(asked).or_insert(at);
             }
         }
         outcome.states += 1;
         outcome.made[place].1[usize::from(!state.valid)] += 1;
     }
     outcome
+}
+
+fn found(case: &Case, state: &State, difference: &Difference) -> String {
+    let broken = state.second.as_ref().and_then(broken);
+    let Difference { part, detail } = difference;
+    format!("{}, clause broken in the second program {broken:?}\n{part}: {detail}", case.name)
 }
 
 /// Asks one thing of a box with the state: by these rows, or by a start with this setup.

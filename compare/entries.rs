@@ -4,7 +4,7 @@
 use second::author::Rng;
 use second::machine::*;
 
-use crate::damage::{any, known, unknown};
+use crate::damage::{any, known, unknown, SideDamage};
 
 type Key = (Vm, Guest);
 /// What stands under some keys from now on.
@@ -70,7 +70,7 @@ fn free_key(m: &Machine, side: Side, vm: Vm, rng: &mut Rng) -> Option<Key> {
 
 /// The maps in which an edit is made.
 pub const MAPS: [(&str, fn(&mut Half) -> Vec<&mut Map>); 3] = [
-    ("software", |half| vec![&mut half.software]),
+    ("map", |half| vec![&mut half.software]),
     ("walker", |half| vec![&mut half.walker]),
     ("both maps", |half| vec![&mut half.software, &mut half.walker]),
 ];
@@ -84,9 +84,7 @@ pub fn edit(map: &mut Map, edits: &Edits) {
     }
 }
 
-pub type SlotDamage = fn(&mut Machine, Side, &mut Rng) -> Option<()>;
-
-pub const SLOT_CHANGES: &[(&str, SlotDamage)] = &[
+pub const SLOT_CHANGES: &[(&str, SideDamage)] = &[
     ("a slot emptied", |m, side, rng| {
         let (place, _) = held(m, side, rng)?;
         fill(m, side, place, None)

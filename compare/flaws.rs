@@ -3,28 +3,30 @@
 use second::machine::{Free, Side};
 use second::operate::Row;
 use second::script::Setup;
-use tiligormis::{Answer, Owned};
+use tiligormis::{Answer, Owned, DATA_BARRIER, STATE_NOT_VALID};
 
 use crate::couple::Check;
 use crate::damaged::Asked;
 use crate::pack::{pair_word, set_of, POOL};
 use crate::subject::{Library, Subject};
 
-/// Where a flaw shows, and what it does there. Each function is handed the right result.
+/// Where a flaw shows, and what it makes of the right result.
 #[derive(Clone, Copy)]
 pub enum Place {
-    Start(fn(&mut Owned, u64) -> u64),
-    /// After each row that was judged, by either entry.
+    Start(fn(&mut Owned, &mut u64)),
+    /// After each row, by either entry.
     Row(fn(&mut Owned, &Row, &mut Answer)),
-    /// After each data barrier likewise.
-    Barrier(fn(&mut Owned, &mut Answer)),
-    /// After each call of the one-operation entry.
+    /// The answer of each data barrier.
+    Answer(fn(&mut Answer)),
+    /// The box after each data barrier.
+    Table(fn(&mut Owned)),
+    /// The box after each call of the one-operation entry.
     Operation(fn(&mut Owned)),
-    /// After a sequence of more than one row.
-    Batch(fn(&mut Owned, &mut [Answer], u64) -> u64),
-    /// After every sequence.
-    Sequence(fn(&mut Owned, &mut [Answer], u64) -> u64),
-    Free(fn(Free) -> Free),
+    /// After each sequence.
+    Sequence(fn(&mut Owned, &mut [Answer], &mut u64)),
+    /// After each sequence of more than one row.
+    Batch(fn(&mut Owned, &mut [Answer], &mut u64)),
+    Free(fn(&mut Free)),
     Valid(fn(bool) -> bool),
 }
 
@@ -34,13 +36,24 @@ pub struct Flawed {
     pub place: Place,
 }
 
+impl Flawed {
+    fn after_row(&mut self, row: &Row, answer: &mut Answer) {
+        match self.place {
+            Place::Row(flaw) => flaw(&mut self.library.owned, row, answer),
+            Place::Answer(flaw) if row[0] == DATA_BARRIER => flaw(answer),
+            Place::Table(flaw) if row[0] == DATA_BARRIER => flaw(&mut self.library.owned),
+            _ => {}
+        }
+    }
+}
+
 impl Subject for Flawed {
     fn start(&mut self, setup: &Setup) -> u64 {
-        let number = self.library.start(setup);
-        match self.place {
-            Place::Start(flaw) => flaw(&mut self.library.owned, number),
-            _ => number,
+        let mut number = self.library.start(setup);
+        if let Place::Start(flaw) = self.place {
+            flaw(&mut self.library.owned, &mut number);
         }
+        number
     }
 
     fn operation(&mut self, row: &Row) -> Answer {
@@ -53,23 +66,25 @@ impl Subject for Flawed {
     }
 
     fn sequence(&mut self, rows: &[Row], answers: &mut [Answer]) -> u64 {
-        let number = self.library.sequence(rows, answers);
+        let mut number = self.library.sequence(rows, answers);
         if number == 0 {
             rows.iter().zip(&mut *answers).for_each(|(row, answer)| self.after_row(row, answer));
         }
+        let owned = &mut self.library.owned;
         match self.place {
-            Place::Batch(flaw) if rows.len() > 1 => flaw(&mut self.library.owned, answers, number),
-            Place::Sequence(flaw) => flaw(&mut self.library.owned, answers, number),
-            _ => number,
+            Place::Sequence(flaw) => flaw(owned, answers, &mut number),
+            Place::Batch(flaw) if rows.len() > 1 => flaw(owned, answers, &mut number),
+            _ => {}
         }
+        number
     }
 
     fn free(&self) -> Free {
-        let free = self.library.free();
-        match self.place {
-            Place::Free(flaw) => flaw(free),
-            _ => free,
+        let mut free = self.library.free();
+        if let Place::Free(flaw) = self.place {
+            flaw(&mut free);
         }
+        free
     }
 
     fn valid(&self) -> bool {
@@ -85,207 +100,98 @@ impl Subject for Flawed {
     }
 }
 
-impl Flawed {
-    fn after_row(&mut self, row: &Row, answer: &mut Answer) {
-        match self.place {
-            Place::Row(flaw) => flaw(&mut self.library.owned, row, answer),
-            Place::Barrier(flaw) if row[0] == tiligormis::DATA_BARRIER => {
-                flaw(&mut self.library.owned, answer);
-            }
-            _ => {}
-        }
-    }
-}
-
 /// A flaw, the check that must find it, and the part that it must name.
 pub type Flaw<C> = (&'static str, C, &'static str, Place);
 
-/// Flaws of the answers and of the entries.
+/// Flaws of answers, queries and starts.
 pub const ANSWERS: &[Flaw<Check>] = &[
-    ("number", Check::Row, "answer's number", Place::Barrier(|_, a| a.number = 2)),
-    ("index", Check::Row, "answer's index", Place::Barrier(|_, a| a.index = 1)),
-    ("dropped", Check::Row, "answer's dropped slots", Place::Barrier(|_, a| a.dropped = 1)),
-    ("word", Check::Row, "answer's word", Place::Barrier(|_, a| a.word = 1 << 63)),
-    ("batch_number", Check::Batch, "sequence's number", Place::Batch(|_, _, _| 2)),
-    (
-        "batch_answer",
-        Check::Batch,
-        "sequence's answers",
-        Place::Batch(|_, answers, number| {
-            answers[0].dropped += 1;
-            number
-        }),
-    ),
-    (
-        "room_beyond",
-        Check::Row,
-        "room beyond the answers",
-        Place::Sequence(|_, answers, number| {
-            if let [_, beyond] = answers {
-                beyond.number = 0;
-            }
-            number
-        }),
-    ),
-    (
-        "batch_state",
-        Check::Batch,
-        "known VMs",
-        Place::Batch(|owned, _, number| {
-            owned.machine.known ^= 1 << 9;
-            number
-        }),
-    ),
-    ("free_count", Check::Free, "free query", Place::Free(|free| Free { count: 7, ..free })),
-    ("free_lowest", Check::Free, "free query", Place::Free(|free| Free { lowest: None, ..free })),
+    ("number", Check::Row, "answer's number", Place::Answer(|a| a.number = 2)),
+    ("index", Check::Row, "answer's index", Place::Answer(|a| a.index = 1)),
+    ("dropped", Check::Row, "answer's dropped slots", Place::Answer(|a| a.dropped = 1)),
+    ("word", Check::Row, "answer's word", Place::Answer(|a| a.word = 1 << 63)),
+    ("room_beyond", Check::Row, "room beyond the answers", Place::Sequence(room_beyond)),
+    ("batch_number", Check::Batch, "sequence's number", Place::Batch(|_, _, number| *number = 1)),
+    ("batch_answer", Check::Batch, "sequence's answers", Place::Batch(|_, a, _| a[0].word += 1)),
+    ("batch_state", Check::Batch, "known VMs", Place::Batch(|o, _, _| o.machine.known ^= 512)),
+    ("short_room", Check::Batch, "short room's number", Place::Batch(never_2)),
+    ("refused_box", Check::Row, "refused box", Place::Row(change_if_refused)),
+    ("free_count", Check::Free, "free query", Place::Free(|free| free.count += 1)),
+    ("free_lowest", Check::Free, "free query", Place::Free(|free| free.lowest = None)),
     ("validity", Check::Validity, "validity", Place::Valid(|_| false)),
-    ("start_number", Check::Start, "start's number", Place::Start(|_, _| 3)),
-    (
-        "start_memory",
-        Check::Start,
-        "memory",
-        Place::Start(|owned, number| {
-            owned.memory[600] = 1;
-            number
-        }),
-    ),
-    (
-        "start_spare_unit",
-        Check::Start,
-        "units",
-        Place::Start(|owned, number| {
-            owned.machine.units[31].mark = 0;
-            number
-        }),
-    ),
+    ("start_number", Check::Start, "start's number", Place::Start(|_, number| *number = 3)),
+    ("start_memory", Check::Start, "memory", Place::Start(|o, _| o.memory[600] = 1)),
+    ("start_spare_unit", Check::Start, "units", Place::Start(|o, _| o.machine.units[31].mark = 0)),
 ];
 
-/// A table that changes by itself while a barrier is carried out.
-pub const STATES: &[Flaw<Check>] = &[
-    ("pages", Check::Row, "lengths", Place::Barrier(|owned, _| owned.machine.pages -= 1)),
-    (
-        "shared_span",
-        Check::Row,
-        "shared set",
-        Place::Barrier(|owned, _| {
-            owned.machine.shared_base -= 1;
-        }),
-    ),
-    ("units", Check::Row, "units", Place::Barrier(|owned, _| owned.machine.units[1].mark = 3)),
-    ("known", Check::Row, "known VMs", Place::Barrier(|owned, _| owned.machine.known ^= 1 << 9)),
-    ("cpu_hand", Check::Row, "CPU hand", Place::Barrier(|owned, _| owned.machine.cpu_hand ^= 1)),
-    ("dma_hand", Check::Row, "DMA hand", Place::Barrier(|owned, _| owned.machine.dma_hand ^= 1)),
-    ("cpus", Check::Row, "CPUs", Place::Barrier(|owned, _| owned.machine.cpus[7] = 1)),
-    ("devices", Check::Row, "devices", Place::Barrier(|owned, _| owned.machine.devices[7] = 1)),
-    ("pool", Check::Row, "pool", Place::Barrier(|owned, _| turn_page(owned, POOL, 3))),
-    (
-        "cpu_pages",
-        Check::Row,
-        "CPU pages",
-        Place::Barrier(|owned, _| {
-            turn_page(owned, set_of(Side::Cpu, 1), 3);
-        }),
-    ),
-    (
-        "dma_pages",
-        Check::Row,
-        "DMA pages",
-        Place::Barrier(|owned, _| {
-            turn_page(owned, set_of(Side::Dma, 1), 3);
-        }),
-    ),
-    (
-        "pages_of_an_unknown_vm",
-        Check::Row,
-        "CPU pages",
-        Place::Barrier(|owned, _| {
-            turn_page(owned, set_of(Side::Cpu, 9), 3);
-        }),
-    ),
-    ("pair", Check::Row, "pairs", Place::Barrier(|owned, _| owned.pairs[0] = 0)),
-    (
-        "pair_twice",
-        Check::Row,
-        "pairs",
-        Place::Barrier(|owned, _| {
-            owned.pairs[100] = pair_word(2, 1, 0).unwrap_or(0);
-        }),
-    ),
-    ("cpu_map", Check::Row, "CPU map", Place::Barrier(|owned, _| owned.cpu_map[0] ^= 1)),
-    (
-        "cpu_walker",
-        Check::Row,
-        "CPU walker",
-        Place::Barrier(|owned, _| {
-            owned.cpu_walker[0] ^= 1 << 16;
-        }),
-    ),
-    ("dma_map", Check::Row, "DMA map", Place::Barrier(|owned, _| owned.dma_map[511] = 1 << 31)),
-    (
-        "dma_walker",
-        Check::Row,
-        "DMA walker",
-        Place::Barrier(|owned, _| {
-            owned.dma_walker[511] = owned.dma_walker[0];
-        }),
-    ),
-    ("cpu_cache", Check::Row, "CPU cache", Place::Barrier(|owned, _| owned.cpu_cache.swap(0, 63))),
-    ("dma_cache", Check::Row, "DMA cache", Place::Barrier(|owned, _| owned.dma_cache[0].port = 3)),
-    ("memory", Check::Row, "memory", Place::Barrier(|owned, _| owned.memory[700] ^= 1)),
-];
-
-fn turn_page(owned: &mut Owned, set: usize, page: u64) {
-    owned.sets[set * tiligormis::SET_WORDS + page as usize / 64] ^= 1 << (page % 64);
+fn room_beyond(_: &mut Owned, answers: &mut [Answer], _: &mut u64) {
+    if let [_, beyond] = answers {
+        beyond.number = 0;
+    }
 }
 
-/// Flaws that only a damaged box brings to light.
+fn never_2(_: &mut Owned, _: &mut [Answer], number: &mut u64) {
+    *number %= 2;
+}
+
+fn change_if_refused(owned: &mut Owned, _: &Row, answer: &mut Answer) {
+    owned.machine.cpu_hand ^= u64::from(answer.number == STATE_NOT_VALID);
+}
+
+/// A part of the box that changes by itself during a barrier, and the part to be named.
+pub const TABLES: &[(&str, &str, fn(&mut Owned))] = &[
+    ("pages", "lengths", |owned| owned.machine.pages -= 1),
+    ("shared_span", "shared set", |owned| owned.machine.shared_base -= 1),
+    ("units", "units", |owned| owned.machine.units[1].mark = 3),
+    ("known", "known VMs", |owned| owned.machine.known ^= 1 << 9),
+    ("cpu_hand", "CPU hand", |owned| owned.machine.cpu_hand ^= 1),
+    ("dma_hand", "DMA hand", |owned| owned.machine.dma_hand ^= 1),
+    ("cpus", "CPUs", |owned| owned.machine.cpus[7] = 1),
+    ("devices", "devices", |owned| owned.machine.devices[7] = 1),
+    ("pool", "pool", |owned| turn_page(owned, POOL)),
+    ("cpu_pages", "CPU pages", |owned| turn_page(owned, set_of(Side::Cpu, 1))),
+    ("dma_pages", "DMA pages", |owned| turn_page(owned, set_of(Side::Dma, 1))),
+    ("pages_of_an_unknown_vm", "CPU pages", |owned| turn_page(owned, set_of(Side::Cpu, 9))),
+    ("pair_gone", "pairs", |owned| owned.pairs[0] = 0),
+    ("pair_twice", "pairs", |owned| owned.pairs[99] = pair_word(2, 1, 0).unwrap_or(0)),
+    ("cpu_map_generation", "CPU map", |owned| owned.cpu_map[0] ^= 1),
+    ("cpu_walker_access", "CPU walker", |owned| owned.cpu_walker[0] ^= 1 << 16),
+    ("dma_map_more", "DMA map", |owned| owned.dma_map[511] = 1 << 31),
+    ("dma_walker_twice", "DMA walker", |owned| owned.dma_walker[511] = owned.dma_walker[0]),
+    ("cpu_slot_elsewhere", "CPU cache", |owned| owned.cpu_cache.swap(0, 63)),
+    ("dma_slot_port", "DMA cache", |owned| owned.dma_cache[0].port = 3),
+    ("memory", "memory", |owned| owned.memory[700] ^= 1),
+];
+
+/// A page of the pool goes in or out.
+fn turn_page(owned: &mut Owned, set: usize) {
+    owned.sets[set * tiligormis::SET_WORDS] ^= 1 << 3;
+}
+
+/// Flaws that only a changed state brings to light.
 pub const DAMAGED: &[Flaw<Asked>] = &[
     ("says_valid", Asked::Validity, "validity", Place::Valid(|_| true)),
     ("says_not_valid", Asked::Validity, "validity", Place::Valid(|_| false)),
-    ("accepts", Asked::Operation, "answer", Place::Row(|_, _, a| a.number = 0)),
-    ("writes_an_index", Asked::Operation, "answer", Place::Row(|_, _, a| a.index = 1)),
-    (
-        "changes_the_box",
-        Asked::Operation,
-        "refused box",
-        Place::Row(|owned, _, answer| {
-            owned.machine.cpu_hand ^= u64::from(answer.number == tiligormis::STATE_NOT_VALID);
-        }),
-    ),
-    ("sequence_accepts", Asked::Sequence, "sequence's number", Place::Sequence(|_, _, _| 0)),
-    (
-        "sequence_says_2",
-        Asked::Sequence,
-        "sequence's number",
-        Place::Sequence(|_, _, number| 2 * number),
-    ),
-    (
-        "sequence_writes",
-        Asked::Sequence,
-        "room of a refused sequence",
-        Place::Sequence(|_, answers, number| {
-            answers.iter_mut().for_each(|answer| answer.word += number);
-            number
-        }),
-    ),
-    (
-        "sequence_changes",
-        Asked::Sequence,
-        "refused box",
-        Place::Sequence(|owned, _, number| {
-            owned.machine.known ^= number;
-            number
-        }),
-    ),
-    ("free_accepts", Asked::Free, "free query", Place::Free(|free| Free { number: 0, ..free })),
-    ("start_of_any_length", Asked::Start, "start's number", Place::Start(|_, _| 0)),
-    (
-        "start_keeps_nothing",
-        Asked::Start,
-        "refused start",
-        Place::Start(|owned, number| {
-            owned.dma_cache.truncate(64 * (1 - number) as usize);
-            number
-        }),
-    ),
+    ("accepts", Asked::Operation, "answer", Place::Row(|_, _, answer| answer.number = 0)),
+    ("gives_an_index", Asked::Operation, "answer", Place::Row(|_, _, answer| answer.index = 1)),
+    ("changes", Asked::Operation, "refused box", Place::Row(change_if_refused)),
+    ("sequence_accepts", Asked::Sequence, "sequence's number", Place::Sequence(|_, _, n| *n = 0)),
+    ("sequence_says_2", Asked::Sequence, "sequence's number", Place::Sequence(|_, _, n| *n *= 2)),
+    ("sequence_answers", Asked::Sequence, "room of a refused sequence", Place::Sequence(answers)),
+    ("sequence_changes", Asked::Sequence, "refused box", Place::Sequence(changes)),
+    ("free_accepts", Asked::Free, "free query", Place::Free(|free| free.number = 0)),
+    ("start_of_any_length", Asked::Start, "start's number", Place::Start(|_, n| *n = 0)),
+    ("start_writes", Asked::Start, "refused start", Place::Start(|o, _| o.memory.push(0))),
+    ("start_gives_pages", Asked::Start, "pages of a refused start", Place::Start(gives_pages)),
 ];
+
+fn answers(_: &mut Owned, answers: &mut [Answer], number: &mut u64) {
+    answers.iter_mut().for_each(|answer| answer.word += *number);
+}
+
+fn changes(owned: &mut Owned, _: &mut [Answer], number: &mut u64) {
+    owned.machine.known ^= *number;
+}
+
+fn gives_pages(owned: &mut Owned, number: &mut u64) {
+    owned.machine.pages += *number;
+}

@@ -13,7 +13,7 @@ use crate::cases::cases;
 use crate::couple::{run, Check, Finding};
 use crate::damaged::{self, Asked};
 use crate::differ::state;
-use crate::flaws::{Flaw, Flawed, Place, ANSWERS, DAMAGED, STATES};
+use crate::flaws::{Flaw, Flawed, Place, ANSWERS, DAMAGED, TABLES};
 use crate::pack::pack;
 use crate::report::Report;
 use crate::rows::{compare, Outcome};
@@ -37,9 +37,9 @@ const RICH: &str = "
     23 0 16 0 5\n24 0 17 511 7
 ";
 
-/// The same, then barriers, at which flaws show, and a query.
+/// The same, then barriers, at which flaws show, a query, and a start that is refused.
 fn script() -> String {
-    RICH.to_string() + &"25\n".repeat(20) + "free\n"
+    RICH.to_string() + &"25\n".repeat(200) + "free\nbox 8 0 9\n1 1\n1 2\n"
 }
 
 fn only_trial(script: &str) -> Trial {
@@ -154,10 +154,7 @@ fn every_bit() -> Result<(), String> {
 fn every_case() -> Result<(), String> {
     let (mut rng, mut supply) = (Rng::new(2), Supply::new(2));
     for case in cases() {
-        let Some(changed) = (0..300).find_map(|_| {
-            supply.advance(&mut rng);
-            (case.change)(&supply.machine, &mut rng)
-        }) else {
+        let Some(changed) = case.of_some_state(&mut supply, &mut rng) else {
             return Err(format!("{} was never made", case.name));
         };
         let same = changed.second.as_ref() == Some(&supply.machine);
@@ -235,8 +232,9 @@ pub fn report() -> ExitCode {
     for flaw in ANSWERS {
         report.check(&format!("self_test_answers_{}", flaw.0), found(flaw));
     }
-    for flaw in STATES {
-        report.check(&format!("self_test_states_{}", flaw.0), found(flaw));
+    for &(name, part, table) in TABLES {
+        let flaw = (name, Check::Row, part, Place::Table(table));
+        report.check(&format!("self_test_tables_{name}"), found(&flaw));
     }
     for flaw in DAMAGED {
         report.check(&format!("self_test_damaged_{}", flaw.0), found_in_damaged(flaw));
