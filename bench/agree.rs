@@ -1,4 +1,5 @@
-//! The three machines held to the same answers, and the mixed rows: both from the generator of the second program.
+//! The three machines held to the same answers, and the mixed rows: both from the generator of
+//! the second program.
 
 use second::generate;
 use second::script::{self, Event, Events};

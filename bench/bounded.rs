@@ -1,5 +1,5 @@
-//! (a) The machine in ordinary Rust over the same bounded tables: arrays of packed words searched from the front, page sets
-//! as bits, 64 slots a cache. It trusts its own state and judges nothing.
+//! (a) The machine in ordinary Rust over the same bounded tables: arrays of packed words searched
+//! from the front, page sets as bits, 64 slots a cache. It trusts its own state and judges nothing.
 
 use crate::rows::*;
 

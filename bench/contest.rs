@@ -137,16 +137,19 @@ pub fn time<R>(call: impl FnOnce() -> R) -> f64 {
     before.elapsed().as_nanos() as f64
 }
 
-/// Each machine by turns, in every round; of each the least time of all rounds. `turn` gives the time of one.
-pub fn contest(
+/// Each machine by turns, in every round; of each the least of all rounds. `turn` gives the times
+/// of one machine in one round.
+pub fn contest<const TIMES: usize>(
     three: &mut Three,
     rounds: usize,
-    mut turn: impl FnMut(&mut dyn Machine) -> f64,
-) -> Times {
-    let mut least = [f64::INFINITY; 3];
+    mut turn: impl FnMut(&mut dyn Machine) -> [f64; TIMES],
+) -> [Times; TIMES] {
+    let mut least = [[f64::INFINITY; 3]; TIMES];
     for _ in 0..rounds {
-        for (least, machine) in least.iter_mut().zip(three.each()) {
-            *least = least.min(turn(machine));
+        for (place, machine) in three.each().into_iter().enumerate() {
+            for (least, spent) in least.iter_mut().zip(turn(machine)) {
+                least[place] = least[place].min(spent);
+            }
         }
     }
     least

@@ -1,5 +1,5 @@
-//! (b) The machine as one would write it in Rust with nothing else in mind: hash maps, sets and vectors of the standard
-//! library. It trusts its own state and judges nothing.
+//! (b) The machine as one would write it in Rust with nothing else in mind: hash maps, sets and
+//! vectors of the standard library. It trusts its own state and judges nothing.
 
 use std::collections::{BTreeSet, HashMap, HashSet};
 

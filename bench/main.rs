@@ -1,4 +1,5 @@
-//! Times the library against two Rust versions of the machine and prints one table of ratios. docs/BENCH.md says how.
+//! Times the library against two Rust versions of the machine and prints one table of ratios.
+//! docs/BENCH.md says how.
 //!
 //!     bench [ROUNDS]      first compares answers, then measures
 //!     bench check         compares answers alone

@@ -1,5 +1,5 @@
-//! What both Rust versions of the machine have in common: limits, rows read into operations, and answers.
-//! docs/MACHINE.md says what each means.
+//! What both Rust versions of the machine have in common: limits, rows read into operations, and
+//! answers. docs/MACHINE.md says what each means.
 
 pub const PAGE_WORDS: usize = 512;
 pub const PAGES: usize = 1024;
