@@ -104,6 +104,11 @@ pub fn generate(seed: u64, rows: u64) -> String {
     generate_sized(rng, pages, rows)
 }
 
+/// The same of a box of `pages` pages.
+pub fn generate_of_size(seed: u64, pages: u64, rows: u64) -> String {
+    generate_sized(Rng::new(seed), pages, rows)
+}
+
 fn generate_sized(rng: Rng, pages: u64, rows: u64) -> String {
     let mut writer = Writer::new(rng);
     writer.open(pages);

@@ -10,14 +10,15 @@ use lib.Bits.{bitOr, or-lt, or-zero-l}
 use lib.Dec.{eqb}
 use lib.ListN.{getD}
 use lib.Pow.{pow-pos}
+use Rattle.numbers.specs.CaseLaws.{equal}
 use Rattle.numbers.specs.Decides.{Decides}
 use Rattle.numbers.specs.DecidesLaws.{same-answer, decides-as, decides-equal, decides-and}
 use Rattle.numbers.specs.Limits.{VMS}
 use Rattle.pages.specs.Bits.{hasBit}
-use Rattle.pages.specs.BitLaws.{equal-or}
+use Rattle.pages.specs.WordLaws.{hasBit-zero, same-bits}
 use Rattle.model.specs.Views.{knows}
 use Rattle.homes.specs.Columns.{poolWord, sharedWord, cpuWord, dmaWord, homeWord, homesOf, belowWord, spanWord, Apart, Once, Union, VmGood, VmsGood, HomesGood, ColumnGood}
-use Rattle.homes.specs.WordLaws.{hasBit-zero, same-bits, or-either, either-or}
+use Rattle.homes.specs.WordLaws.{or-either, either-or}
 
 -- ---- words one after another
 module _ (f : ℕ → ℕ) where
@@ -29,7 +30,7 @@ module _ (f : ℕ → ℕ) where
   union-next n w b u = record { fits = or-lt 64 w (f n) (u .fits) b; has = has; from = from }
     where
       has : (i j : ℕ) → i < suc n → j < 64 → hasBit (f i) j ≡ true → hasBit (bitOr w (f n)) j ≡ true
-      has i j h l t = either-or w (f n) j (⊎-elim (λ e. inr (rw e at t)) (λ d. inl (u .has i j (omega arith) l t)) (equal-or i n))
+      has i j h l t = either-or w (f n) j (⊎-elim (λ e. inr (rw e at t)) (λ d. inl (u .has i j (omega arith) l t)) (equal i n))
 
       from : (j : ℕ) → j < 64 → hasBit (bitOr w (f n)) j ≡ true → (i : ℕ) × (i < suc n) × (hasBit (f i) j ≡ true)
       from j l t = ⊎-elim (λ x. let (i, h, y) = u .from j l x in (i, omega arith, y)) (λ x. (n, omega arith, x)) (or-either w (f n) j t)
@@ -52,15 +53,15 @@ module _ (f : ℕ → ℕ) where
 
   -- one word more keeps the bits in one word each where it has none of those before, and only there
   once-next : (n w : ℕ) → Union f n w → Apart w (f n) → Once f n → Once f (suc n)
-  once-next n w u a o i i′ j h h′ l t t′ = ⊎-elim last before (equal-or i n)
+  once-next n w u a o i i′ j h h′ l t t′ = ⊎-elim last before (equal i n)
     where
       last : i ≡ n → i ≡ i′
-      last e = ⊎-elim (λ e′. e ∙ sym e′) (λ d. absurd (a j l (u .has i′ j (omega arith) l t′) (rw e at t))) (equal-or i′ n)
+      last e = ⊎-elim (λ e′. e ∙ sym e′) (λ d. absurd (a j l (u .has i′ j (omega arith) l t′) (rw e at t))) (equal i′ n)
 
       before : (i ≡ n → ⊥) → i ≡ i′
       before d =
           ⊎-elim (λ e′. absurd (a j l (u .has i j (omega arith) l t) (rw e′ at t′)))
-          (λ d′. o i i′ j (omega arith) (omega arith) l t t′) (equal-or i′ n)
+          (λ d′. o i i′ j (omega arith) (omega arith) l t t′) (equal i′ n)
 
   once-apart : (n w m : ℕ) → Union f n w → n < m → Once f m → Apart w (f n)
   once-apart n w m u h o j l t t′ = let (i, g, x) = u .from j l t in let e = o i n j (omega arith) h l x t′ in omega arith
@@ -104,8 +105,8 @@ module _ (known : ℕ) (sets : List ℕ) (k : ℕ) where
       record {
         one-home = once-next (homeWord sets k) (homesOf n) held (r .homes) (g .one-home) (r .vms .one-home);
         one-dma = once-next (dmaWord sets k) n dmaHeld (r .holders) (g .one-dma) (r .vms .one-dma);
-        dma-home = λ vm j h l t. ⊎-elim (λ e. rw e (g .dma-home j l (rw e at t))) (λ d. r .vms .dma-home vm j (omega arith) l t) (equal-or vm n);
-        holder-known = λ vm j h l t. ⊎-elim (λ e. rw e (g .holder-known j l (rw e at t))) (λ d. r .vms .holder-known vm j (omega arith) l t) (equal-or vm n);
+        dma-home = λ vm j h l t. ⊎-elim (λ e. rw e (g .dma-home j l (rw e at t))) (λ d. r .vms .dma-home vm j (omega arith) l t) (equal vm n);
+        holder-known = λ vm j h l t. ⊎-elim (λ e. rw e (g .holder-known j l (rw e at t))) (λ d. r .vms .holder-known vm j (omega arith) l t) (equal vm n);
       }
 
   pub pass-next : ((i : ℕ) → getD sets i 0 < 2 ^ 64) → (n held dmaHeld : ℕ) → Passing known sets k n held dmaHeld → n < VMS → NextGood n held dmaHeld →

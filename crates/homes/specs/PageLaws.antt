@@ -8,15 +8,17 @@ use native.Mathlib.Omega.{arith}
 use borrow.Author.Tests.{lt-ltb, ltb-true, le-ltb}
 use lib.Dec.{leb}
 use lib.ListN.{getD}
+use Rattle.numbers.specs.CaseLaws.{cases, equal}
 use Rattle.numbers.specs.Limits.{PAGES, VMS, SETS, SET-WORDS}
-use Rattle.pages.specs.Bits.{hasBit, contains}
-use Rattle.pages.specs.BitLaws.{decide, equal-or, below-or}
+use Rattle.pages.specs.Bits.{hasBit}
+use Rattle.pages.specs.BitLaws.{below-or}
 use Rattle.pages.specs.Rows.{poolRow, sharedRow, cpuRow, dmaRow, holds}
+use Rattle.pages.specs.WordLaws.{same-bits, holds-word}
 use Rattle.model.specs.Start.{inSpan}
 use Rattle.model.specs.Valid.{Home, pool, shared, cpu, PagesGood}
 use Rattle.model.specs.Views.{knows, owns, holdsDma, inPool, inShared}
 use Rattle.homes.specs.Columns.{columnWord, sharedWord, homeRow, homeWord, homesOf, belowWord, spanWord, VmsGood, ColumnGood}
-use Rattle.homes.specs.WordLaws.{same-bits, below-bit, below-fits, span-bit, span-fits}
+use Rattle.homes.specs.WordLaws.{below-bit, below-fits, span-bit, span-fits}
 
 -- ---- homes by their order
 pub home-at : (i : ℕ) → i < homesOf VMS → Home (homeRow i)
@@ -43,22 +45,15 @@ kinds zero h = inl (0, omega arith, refl)
 kinds (suc zero) h = inl (1, omega arith, refl)
 kinds (suc (suc r)) h = ⊎-elim
     (λ (e : r % 2 ≡ 0). inl (homesOf (r / 2), omega arith, omega arith))
-    (λ d. inr (r / 2, omega arith, omega arith)) (equal-or (r % 2) 0)
+    (λ d. inr (r / 2, omega arith, omega arith)) (equal (r % 2) 0)
 
 -- ---- bit j of column k is page k * 64 + j
 module _ (sets : List ℕ) (k j : ℕ) (l : j < 64) (row : ℕ) where
-  holds-is : holds sets row (k * 64 + j) ≡ hasBit (columnWord sets row k) j
-  unfolding contains
-  holds-is =
-      let d : (row * PAGES + (k * 64 + j)) / 64 ≡ row * SET-WORDS + k = omega arith in
-      let m : (row * PAGES + (k * 64 + j)) % 64 ≡ j = omega arith in
-      rw (d, m)
-
   bit-holds : hasBit (columnWord sets row k) j ≡ true → holds sets row (k * 64 + j) ≡ true
-  bit-holds t = holds-is ∙ t
+  bit-holds t = holds-word sets k j l row ∙ t
 
   holds-bit : holds sets row (k * 64 + j) ≡ true → hasBit (columnWord sets row k) j ≡ true
-  holds-bit t = sym holds-is ∙ t
+  holds-bit t = sym (holds-word sets k j l row) ∙ t
 
 -- ---- from the columns to the pages
 module _ (pages base count known : ℕ) (sets : List ℕ) (all : (k : ℕ) → k < SET-WORDS → ColumnGood pages base count known sets k) where
@@ -101,10 +96,10 @@ module _ (pages base count known : ℕ) (sets : List ℕ) (all : (k : ℕ) → k
             ⊎-elim (home-inside (homesOf vm) (omega arith)) (home-inside 0 (omega arith)) (c .homes .vms .dma-home vm j g l (rw q at (down row t)))
 
     page-outside : pages ≤ page → (row : ℕ) → row < SETS → holds sets row page ≡ false
-    page-outside o row h = ⊎-elim (λ t. absurd (let z = row-inside row h t in omega arith)) (λ f. f) (decide (holds sets row page))
+    page-outside o row h = ⊎-elim (λ t. absurd (let z = row-inside row h t in omega arith)) (λ f. f) (cases (holds sets row page))
 
     page-span : inShared sets page ≡ inSpan base count page
-    page-span = rw whole at (holds-is sets k j l sharedRow ∙ ap (λ (w : ℕ). hasBit w j) (c .span) ∙ span-bit base count k j l)
+    page-span = rw whole at (holds-word sets k j l sharedRow ∙ ap (λ (w : ℕ). hasBit w j) (c .span) ∙ span-bit base count k j l)
 
     page-home : page < pages → (row : ℕ) × (Home row × (holds sets row page ≡ true))
     page-home h =
@@ -159,11 +154,11 @@ module _ (pages base count known : ℕ) (sets : List ℕ) (most : base + count �
     span-same = ⊎-elim within outside (below-or page pages)
       where
         within : page < pages → hasBit (sharedWord sets k) j ≡ hasBit (spanWord base count k) j
-        within h = sym (holds-is sets k j l sharedRow) ∙ good .span page h ∙ sym (span-bit base count k j l)
+        within h = sym (holds-word sets k j l sharedRow) ∙ good .span page h ∙ sym (span-bit base count k j l)
 
         outside : pages ≤ page → hasBit (sharedWord sets k) j ≡ hasBit (spanWord base count k) j
         outside h =
-            sym (holds-is sets k j l sharedRow) ∙ good .inside sharedRow page (omega arith) (omega arith) h
+            sym (holds-word sets k j l sharedRow) ∙ good .inside sharedRow page (omega arith) (omega arith) h
             ∙ sym (span-bit base count k j l ∙ rw (le-ltb page (base + count) (omega arith)) (and-false (leb base page)))
 
     some-home : hasBit (belowWord pages k) j ≡ true → (i : ℕ) × (i < homesOf VMS) × (hasBit (homeWord sets k i) j ≡ true)

@@ -3,16 +3,18 @@ use Prim.Native.Nat.{ℕ, zero, suc, _+_, _-_, _*_, _/_, _%_, _^_, _≤_, _<_, m
 use mathlib.Core.Bool.{Bool, true, false, true≢false, _&&_, _||_, xor, or-true}
 use mathlib.Core.Logic.{_⊎_, inl, inr, ⊎-elim}
 use mathlib.Core.Path.{_≡_, refl, sym, _∙_}
-use native.Mathlib.Nat.{div-eq-of-lt, pow-suc, lt-of-lt-of-le}
+use native.Mathlib.Nat.{div-eq-of-lt, lt-of-lt-of-le}
 use native.Mathlib.Omega.{arith}
 use borrow.Author.Tests.{lt-ltb, le-ltb, le-leb, lt-leb}
 use lib.Bits.{bitAnd, bitOr, bitXor, differ, and-step, or-step, xor-step, and-shr, or-shr, xor-shr, and-lt, or-lt, xor-lt}
 use lib.Dec.{eqb, ltb}
-use lib.Pow.{pow-add, pow-pos, pow-mono, ones-lt, ones-split, high, shr-shr}
+use lib.Pow.{pow-add, pow-pos, pow-mono, ones-lt, ones-split, high}
+use Rattle.numbers.specs.CaseLaws.{cases}
 use Rattle.numbers.specs.Decides.{Decides}
 use Rattle.numbers.specs.DecidesLaws.{decides-as, decides-itself, decides-equal, decides-and, decides-or}
 use Rattle.pages.specs.Bits.{bit, hasBit}
-use Rattle.pages.specs.BitLaws.{decide, bit-lt, below-or}
+use Rattle.pages.specs.BitLaws.{bit-lt, below-or}
+use Rattle.pages.specs.WordLaws.{same-bits, zero-none, none-zero}
 use Rattle.model.specs.EarlyLaws.{both}
 use Rattle.model.specs.Start.{inSpan}
 use Rattle.homes.specs.Columns.{belowWord, spanWord, Apart, VmGood}
@@ -50,29 +52,6 @@ module _ (w v j : ℕ) where
       let e : bitXor (w / 2 ^ j) (v / 2 ^ j) % 2 ≡ differ (bit w j) (bit v j) = omega (arith, xor-step (w / 2 ^ j) (v / 2 ^ j)) in
       rw (xor-shr w v j, e) (bits (λ x y. eqb (differ x y) 1 ≡ xor (eqb x 1) (eqb y 1)) refl refl refl refl)
 
-  -- two words with the same bit j
-  bit-same : hasBit w j ≡ hasBit v j → bit w j ≡ bit v j
-  bit-same =
-      bits (λ x y. eqb x 1 ≡ eqb y 1 → x ≡ y) (λ e. refl) (λ e. absurd (true≢false (sym e))) (λ e. absurd (true≢false e)) (λ e. refl)
-
-pub hasBit-zero : (j : ℕ) → hasBit 0 j ≡ false
-hasBit-zero j = rw (div-eq-of-lt (pow-pos j))
-
--- ---- words with the same bits are the same
-bit-suc : (w j : ℕ) → bit w (suc j) ≡ bit (w / 2) j
-bit-suc w j = let e : 1 + j ≡ suc j = omega arith in sym (rw (shr-shr w 1 j, e))
-
-bits-same : (n w v : ℕ) → w < 2 ^ n → v < 2 ^ n → ((j : ℕ) → j < n → bit w j ≡ bit v j) → w ≡ v
-bits-same zero w v a b h = omega arith
-bits-same (suc n) w v a b h =
-    let e : 2 ^ suc n ≡ 2 ^ n * 2 = pow-suc 2 n in
-    let top : w / 2 ≡ v / 2 = bits-same n (w / 2) (v / 2) (omega arith) (omega arith) (λ j l. sym (bit-suc w j) ∙ h (suc j) (omega arith) ∙ bit-suc v j) in
-    let low : w / 1 % 2 ≡ v / 1 % 2 = h 0 (omega arith) in
-    omega arith
-
-pub same-bits : (w v : ℕ) → w < 2 ^ 64 → v < 2 ^ 64 → ((j : ℕ) → j < 64 → hasBit w j ≡ hasBit v j) → w ≡ v
-same-bits w v a b h = bits-same 64 w v a b (λ j l. bit-same w v j (h j l))
-
 -- ---- the pages below n, and those of a span
 ones-in : (m j : ℕ) → j < m → hasBit (2 ^ m - 1) j ≡ true
 ones-in m j h =
@@ -105,7 +84,7 @@ between base count page = ⊎-elim before after (below-or page base)
     before h = let g : page < base + count = omega arith in rw (lt-ltb page base h, lt-ltb page (base + count) g, lt-leb base page h)
 
     after : base ≤ page → xor (ltb page (base + count)) (ltb page base) ≡ inSpan base count page
-    after h = rw (le-ltb page base h, le-leb base page h) (⊎-elim (λ t. rw t) (λ f. rw f) (decide (ltb page (base + count))))
+    after h = rw (le-ltb page base h, le-leb base page h) (⊎-elim (λ t. rw t) (λ f. rw f) (cases (ltb page (base + count))))
 
 pub span-bit : (base count k j : ℕ) → j < 64 → hasBit (spanWord base count k) j ≡ inSpan base count (k * 64 + j)
 span-bit base count k j l =
@@ -129,12 +108,6 @@ module _ (w v j : ℕ) where
   pub either-or : (hasBit w j ≡ true) ⊎ (hasBit v j ≡ true) → hasBit (bitOr w v) j ≡ true
   either-or s = hasBit-or w v j ∙ ⊎-elim (λ t. rw t) (λ t. rw t (or-true (hasBit w j))) s
 
-zero-none : (w j : ℕ) → w ≡ 0 → hasBit w j ≡ true → ⊥
-zero-none w j e t = true≢false (sym t ∙ rw e (hasBit-zero j))
-
-none-zero : (w : ℕ) → w < 2 ^ 64 → ((j : ℕ) → j < 64 → hasBit w j ≡ true → ⊥) → w ≡ 0
-none-zero w a h = same-bits w 0 a (pow-pos 64) (λ j l. ⊎-elim (λ t. absurd (h j l t)) (λ f. f ∙ sym (hasBit-zero j)) (decide (hasBit w j)))
-
 -- ---- what the tests of words decide
 pub apart-decides : (w v : ℕ) → w < 2 ^ 64 → v < 2 ^ 64 → Decides (eqb (bitAnd w v) 0) (Apart w v)
 apart-decides w v a b =
@@ -150,14 +123,14 @@ within-decides w v a b =
     (λ h. same-bits (bitAnd w v) w (and-lt 64 w v a b) a (λ j l. hasBit-and w v j ∙ kept h j l))
   where
     kept : ((j : ℕ) → j < 64 → hasBit w j ≡ true → hasBit v j ≡ true) → (j : ℕ) → j < 64 → (hasBit w j && hasBit v j) ≡ hasBit w j
-    kept h j l = ⊎-elim (λ (t : hasBit w j ≡ true). rw (h j l t, t)) (λ f. rw f) (decide (hasBit w j))
+    kept h j l = ⊎-elim (λ (t : hasBit w j ≡ true). rw (h j l t, t)) (λ f. rw f) (cases (hasBit w j))
 
 -- w has no bit unless t
 pub unless-decides : (t : Bool) (w : ℕ) → w < 2 ^ 64 → Decides (t || eqb w 0) ((j : ℕ) → j < 64 → hasBit w j ≡ true → t ≡ true)
 unless-decides t w a =
     decides-as (decides-or (decides-itself t) (decides-equal w 0))
     (λ s j l x. ⊎-elim (λ y. y) (λ z. absurd (zero-none w j z x)) s)
-    (λ h. ⊎-elim inl (λ f. inr (none-zero w a (λ j l x. true≢false (sym (h j l x) ∙ f)))) (decide t))
+    (λ h. ⊎-elim inl (λ f. inr (none-zero w a (λ j l x. true≢false (sym (h j l x) ∙ f)))) (cases t))
 
 -- the four tests of a VM
 module _ (known : Bool) (pool held dmaHeld cpu dma : ℕ) (a : pool < 2 ^ 64) (b : held < 2 ^ 64) (c : dmaHeld < 2 ^ 64) (d : cpu < 2 ^ 64) (e : dma < 2 ^ 64) where

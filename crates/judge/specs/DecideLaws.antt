@@ -8,9 +8,9 @@ use native.Mathlib.Omega.{arith}
 use borrow.Author.Count.{below-more}
 use lib.Dec.{eqb}
 use lib.ListN.{length, getD}
+use Rattle.numbers.specs.CaseLaws.{equal}
 use Rattle.numbers.specs.Decides.{Decides}
 use Rattle.numbers.specs.DecidesLaws.{decides-as, decides-equal, decides-or}
-use Rattle.table.specs.ScanLaws.{equal}
 use Rattle.table.specs.Table.{Has}
 use Rattle.judge.specs.Parts.{NotEmpty}
 

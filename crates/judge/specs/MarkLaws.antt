@@ -10,10 +10,11 @@ use borrow.Author.Tests.{eq-eqb, eqb-true, not-false}
 use lib.Dec.{eqb}
 use lib.ListN.{length, getD, take, replicate, length-replicate}
 use lib.Seq.{take-all}
+use Rattle.numbers.specs.CaseLaws.{cases, equal}
 use Rattle.numbers.specs.DecidesLaws.{says-yes, says-no, passed, failed, decides-or, decides-equal, same-answer}
 use Rattle.numbers.specs.Limits.{PAGES, VMS, SET-WORDS}
 use Rattle.numbers.specs.Packing.{leftOf, rightOf, pageOf, filledOf, pairKeyOf}
-use Rattle.table.specs.ScanLaws.{cases, equal, has-any, any-true}
+use Rattle.table.specs.ScanLaws.{has-any, any-true}
 use Rattle.table.specs.Table.{Has, Distinct}
 use Rattle.pages.specs.Bits.{contains}
 use Rattle.pages.specs.Rows.{holds, add}

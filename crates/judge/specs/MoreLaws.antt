@@ -7,7 +7,7 @@ use native.Mathlib.Numerals.{add-one}
 use native.Mathlib.Omega.{arith}
 use lib.ListN.{length, getD, take, length-append, List·getD-append}
 use lib.Seq.{take-suc, getD-append-seam, getD-take, length-take-le}
-use Rattle.table.specs.ScanLaws.{equal}
+use Rattle.numbers.specs.CaseLaws.{equal}
 use Rattle.table.specs.Table.{Has, Distinct}
 use Rattle.judge.specs.Parts.{NotEmpty}
 

@@ -5,10 +5,10 @@ use mathlib.Core.List.{List}
 use mathlib.Core.Logic.{_⊎_, inl, inr, ⊎-elim}
 use mathlib.Core.Path.{_≡_, refl, sym, _∙_}
 use native.Mathlib.Omega.{arith}
+use Rattle.numbers.specs.CaseLaws.{cases}
 use Rattle.numbers.specs.Limits.{VMS}
 use Rattle.numbers.specs.Packing.{leftOf, rightOf, pageOf, filledOf, pairKey, pairKeyOf}
 use Rattle.numbers.specs.PackingLaws.{pair-either}
-use Rattle.table.specs.ScanLaws.{cases}
 use Rattle.pages.specs.Rows.{cpuRow}
 use Rattle.model.specs.KnownLaws.{knows-below}
 use Rattle.model.specs.Valid.{KnownGood, PagesGood, PairGood, Home}

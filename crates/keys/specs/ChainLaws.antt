@@ -8,7 +8,7 @@ use lib.Dec.{ltb}
 use lib.ListN.{length, getD, set, replicate, length-set, length-replicate, getD-replicate}
 use lib.Seq.{getD-set-same, getD-set-other}
 use borrow.Author.Tests.{ltb-true, ltb-false}
-use Rattle.table.specs.ScanLaws.{cases, equal}
+use Rattle.numbers.specs.CaseLaws.{cases, equal}
 use Rattle.keys.specs.Keys.{CLASSES, classOf, InClass, Each, Last, Links, Chained}
 
 pub class-small : (w : ℕ) → classOf w < CLASSES

@@ -8,12 +8,12 @@ use native.Mathlib.Omega.{arith}
 use lib.Dec.{eqb, ltb}
 use lib.ListN.{length, getD}
 use borrow.Author.Tests.{eq-eqb, ne-eqb, eqb-true, eqb-false, ltb-true, ltb-false}
+use Rattle.numbers.specs.CaseLaws.{cases, equal}
 use Rattle.numbers.specs.Decides.{Decides}
 use Rattle.numbers.specs.DecidesLaws.{says-yes, says-no, decides-as, decides-equal}
 use Rattle.numbers.specs.Limits.{VMS}
 use Rattle.numbers.specs.Packing.{portOf, filledOf, keyOf, addressOf}
 use Rattle.numbers.specs.PackingLaws.{word-whole, key-filled, address-key}
-use Rattle.table.specs.ScanLaws.{cases, equal}
 use Rattle.table.specs.Table.{Has, Distinct, find, lookup}
 use Rattle.table.specs.TableLaws.{find-at, find-none, lookup-has, has-lookup}
 use Rattle.table.specs.declared.Found.the-variants.{At, Nothing}

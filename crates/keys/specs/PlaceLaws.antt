@@ -8,9 +8,9 @@ use lib.Dec.{eqb, ltb}
 use lib.ListN.{length, getD, set, replicate, length-set, length-replicate, getD-replicate}
 use lib.Seq.{getD-set-same, getD-set-other}
 use borrow.Author.Tests.{ltb-true, ltb-false}
+use Rattle.numbers.specs.CaseLaws.{cases, equal}
 use Rattle.numbers.specs.Decides.{Decides}
 use Rattle.numbers.specs.DecidesLaws.{decides-as, decides-equal}
-use Rattle.table.specs.ScanLaws.{cases, equal}
 use Rattle.table.specs.Table.{Has}
 use Rattle.keys.specs.Keys.{PLACES, classOf, lowOf, InClass, Each, ClassOnce, ClassAgree, Links, Blank, Inside, Shown, Shows, Entered, Unseen, Seen, Matched, NoneLeft}
 use Rattle.keys.specs.ChainLaws.{Chain, Standing, walk-on, walk-less, walk-seen}

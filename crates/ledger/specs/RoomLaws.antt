@@ -4,7 +4,8 @@ use mathlib.Core.List.{List}
 use mathlib.Core.Path.{_≡_, refl, sym, _∙_}
 use mathlib.Core.Logic.{⊎-elim}
 use borrow.Author.Tests.{le-leb, leb-true}
-use Rattle.table.specs.ScanLaws.{cases, found-never}
+use Rattle.numbers.specs.CaseLaws.{cases}
+use Rattle.table.specs.ScanLaws.{found-never}
 use Rattle.table.specs.Table.{lowestFree, roomFor, isFound}
 use Rattle.table.specs.TableLaws.{free-place, place-free}
 use Rattle.table.specs.declared.Found.{Found}

@@ -59,7 +59,10 @@ fn borrower_maps(sets: &[u64], cpu_map: &[u64], vm: VmId, page: PhysPage) -> boo
     requires { ⌜ (vm .0 < VMS) × (page .0 < PAGES) × (length (now sets) ≡ SETS * SET-WORDS) ⌝ }
     ensures { λ r. ⌜ r ≡ borrowerMaps (now (sets .entry)) (now («cpu_map» .entry)) (vm .0) (page .0) ⌝ }
 {
-    !views::claims(Side::Cpu, sets, vm, page) & views::any(cpu_map, Test::Maps(vm, page))
+    if views::claims(Side::Cpu, sets, vm, page) {
+        return false;
+    }
+    views::any(cpu_map, Test::Maps(vm, page))
 }
 
 // Empties every place that has the pair of this key.

@@ -1,8 +1,8 @@
 -- The answer room: an answer is four stores, each in the next place.
 use Prim.Native.Nat.{ℕ, _+_}
-use mathlib.Core.List.{List, [], _∷_}
-use mathlib.Core.Path.{_≡_, refl, _∙_}
-use lib.ListN.{length, getD, set, length-set}
+use mathlib.Core.List.{List}
+use mathlib.Core.Path.{_≡_, refl}
+use lib.ListN.{getD, set}
 use Rattle.numbers.specs.Meaning.{answerNumbers}
 use Rattle.numbers.specs.declared.Answer.{Answer}
 use Rattle.numbers.specs.declared.Answer.the-variants.{Accepted, Refused}
@@ -14,7 +14,3 @@ pub four-stores :
     ≡ writeAt room i (answerNumbers answer)
 four-stores room i (Accepted dropped word) = refl
 four-stores room i (Refused refusal index) = refl
-
-pub length-writeAt : (room : List ℕ) (i : ℕ) (numbers : List ℕ) → length (writeAt room i numbers) ≡ length room
-length-writeAt room i [] = refl
-length-writeAt room i (n ∷ ns) = length-writeAt (set room i n) (i + 1) ns ∙ length-set room i n

@@ -11,8 +11,7 @@ use Rattle.numbers.specs.Limits.{ROW-NUMBERS, ANSWER-NUMBERS}
 use Rattle.numbers.specs.Meaning.{answerNumbers}
 use Rattle.numbers.specs.declared.Operation.{Operation}
 use Rattle.table.specs.Loops.{Repeating, repeat-start, repeat-next, repeat-end}
-use Rattle.model.specs.State.{State, Tables, Route, Setup}
-use Rattle.model.specs.Header.{setupOf}
+use Rattle.model.specs.State.{State, Tables, Route}
 use Rattle.model.specs.declared.Machine.{Machine}
 use Rattle.operate.specs.Outcome.{Fit}
 use Rattle.numbers.specs.declared.Answer.{Answer}
@@ -25,9 +24,9 @@ use Rattle.rows.specs.Decoded.{known}
 use Rattle.rows.specs.declared.Decoded.{Decoded}
 use Rattle.rows.specs.declared.Decoded.the-variants.{Known, Unknown}
 use Rattle.model.specs.Sequence.{Progress, turn, after, stepRow, stepKnown, operationIn, rowAt, recorded, shapeAnswer, sequence}
+use Rattle.model.specs.WriteLaws.{length-written}
 use Rattle.model.specs.EarlyLaws.{past}
 use Rattle.model.specs.ShapeLaws.{SameRoute, SameShape, SameSizes, step-sizes}
-use Rattle.machine.specs.RoomLaws.{length-writeAt}
 use Rattle.machine.specs.Run.{ran, shapeOf}
 
 -- ---- sizes pass on
@@ -59,7 +58,7 @@ unfolding stepRow
 turn-sizes rows k p = row-sizes (p .state) (operationIn (rowAt rows k))
 
 turn-room : (rows : List ℕ) (k : ℕ) (p : Progress) → length (turn rows k p .room) ≡ length (p .room)
-turn-room rows k p = length-writeAt (p .room) (k * ANSWER-NUMBERS) (answerNumbers (stepRow (p .state) (rowAt rows k) .answer))
+turn-room rows k p = length-written (p .room) (k * ANSWER-NUMBERS) (answerNumbers (stepRow (p .state) (rowAt rows k) .answer))
 
 -- ---- after k of n rows
 pub record Running (rows : List ℕ) (n : ℕ) (start now : Progress) (k : ℕ) : Type 0 where
@@ -108,12 +107,10 @@ turn-unknown rows k p d e f = ap (λ (x : Stepped). recorded x k (p .room)) (row
 
 -- ---- what the joined operation asks for still holds
 pub fit-kept :
-    (m next : Machine) (sets memory sets′ memory′ : List ℕ) →
-    Fit m sets memory → setupOf next ≡ setupOf m → length sets′ ≡ length sets → length memory′ ≡ length memory → Fit next sets′ memory′
-fit-kept m next sets memory sets′ memory′ f e l n =
-    let p : next .pages ≡ m .pages = ap (λ (s : Setup). s .pages) e in
-    let u : next .«unit_count» ≡ m .«unit_count» = ap (λ (s : Setup). s .unitCount) e in
-    record { few-pages = rw p (f .few-pages); few-units = rw u (f .few-units); sets-length = l ∙ f .sets-length; memory-length = rw p (n ∙ f .memory-length) }
+    (fixed : Machine) (sets memory sets′ memory′ : List ℕ) →
+    Fit fixed sets memory → length sets′ ≡ length sets → length memory′ ≡ length memory → Fit fixed sets′ memory′
+fit-kept fixed sets memory sets′ memory′ f l n =
+    record { few-pages = f .few-pages; few-units = f .few-units; sets-length = l ∙ f .sets-length; memory-length = n ∙ f .memory-length }
 
 -- ---- the whole sequence, from what its shape said
 pub shape-room : (rows room : ℕ) (a : Answer) {dropped word : ℕ} → a ≡ shapeOf rows room → a ≡ Accepted dropped word → rows / ROW-NUMBERS * ANSWER-NUMBERS ≤ room

@@ -6,7 +6,7 @@ ghost use Rattle.numbers.specs.Limits.{ROW-NUMBERS, ANSWER-NUMBERS};
 ghost use Rattle.numbers.specs.Meaning.{answerNumbers};
 ghost use Rattle.model.specs.Header.{stateOf};
 ghost use Rattle.model.specs.Sequence.{writeAt, turn, after, sequence};
-ghost use Rattle.operate.specs.Outcome.{Fit};
+ghost use Rattle.operate.specs.Outcome.{Fit, withRegisters};
 ghost use Rattle.machine.specs.Run.{progress, ran, shapeOf};
 
 pub mod entries;
@@ -16,6 +16,7 @@ use numbers::ANSWER_NUMBERS;
 use numbers::Answer;
 use numbers::ROW_NUMBERS;
 use numbers::Refusal;
+use operate::Registers;
 use rows::Decoded;
 
 // Answer k's four numbers, in their place of the answer room.
@@ -34,9 +35,10 @@ fn write_answer(room: &mut [u64], k: usize, answer: Answer)
     room[word] = numbers[3];
 }
 
-// Row k carried out and answered; an unknown operation is refused.
+// Row k carried out and answered; an unknown operation is refused. From row to row only the registers are handed on.
 fn turn(
-    m: Machine,
+    fixed: Machine,
+    registers: Registers,
     sets: &mut [u64],
     pairs: &mut [u64],
     cpu_map: &mut [u64],
@@ -49,17 +51,18 @@ fn turn(
     rows: &[u64],
     room: &mut [u64],
     k: usize,
-) -> Machine
-    requires { ⌜ Fit m (now sets) (now memory) ⌝ }
+) -> Registers
+    requires { ⌜ Fit fixed (now sets) (now memory) ⌝ }
     requires { ⌜ ((k + 1) * ROW-NUMBERS ≤ length (now rows)) × ((k + 1) * ANSWER-NUMBERS ≤ length (now room)) ⌝ }
-    ensures { λ r. ⌜ progress r (now (sets .exit)) (now (pairs .exit)) (now («cpu_map» .exit)) (now («cpu_walker» .exit)) (now («cpu_cache» .exit)) (now («dma_map» .exit)) (now («dma_walker» .exit)) (now («dma_cache» .exit)) (now (memory .exit)) (now (room .exit))
-        ≡ turn (now (rows .entry)) k (progress m (now (sets .entry)) (now (pairs .entry)) (now («cpu_map» .entry)) (now («cpu_walker» .entry)) (now («cpu_cache» .entry)) (now («dma_map» .entry)) (now («dma_walker» .entry)) (now («dma_cache» .entry)) (now (memory .entry)) (now (room .entry))) ⌝ }
+    ensures { λ r. ⌜ progress (withRegisters fixed r) (now (sets .exit)) (now (pairs .exit)) (now («cpu_map» .exit)) (now («cpu_walker» .exit)) (now («cpu_cache» .exit)) (now («dma_map» .exit)) (now («dma_walker» .exit)) (now («dma_cache» .exit)) (now (memory .exit)) (now (room .exit))
+        ≡ turn (now (rows .entry)) k (progress (withRegisters fixed registers) (now (sets .entry)) (now (pairs .entry)) (now («cpu_map» .entry)) (now («cpu_walker» .entry)) (now («cpu_cache» .entry)) (now («dma_map» .entry)) (now («dma_walker» .entry)) (now («dma_cache» .entry)) (now (memory .entry)) (now (room .entry))) ⌝ }
 {
     let decoded = rows::operation_at(rows, k);
     match decoded {
         Decoded::Known(operation) => {
-            let done = operate::operate(
-                m,
+            let stepped = operate::step(
+                fixed,
+                registers,
                 sets,
                 pairs,
                 cpu_map,
@@ -71,9 +74,9 @@ fn turn(
                 memory,
                 operation,
             );
-            let answer = done.answer;
+            let answer = stepped.answer;
             write_answer(room, k, answer);
-            let next = done.machine;
+            let next = stepped.registers;
             next
         }
         Decoded::Unknown => {
@@ -85,14 +88,15 @@ fn turn(
                     index: 0,
                 },
             );
-            m
+            registers
         }
     }
 }
 
 // The first `count` rows, one after the other, a refused row too.
 fn run(
-    m: Machine,
+    fixed: Machine,
+    registers: Registers,
     sets: &mut [u64],
     pairs: &mut [u64],
     cpu_map: &mut [u64],
@@ -105,16 +109,17 @@ fn run(
     rows: &[u64],
     room: &mut [u64],
     count: usize,
-) -> Machine
-    requires { ⌜ Fit m (now sets) (now memory) ⌝ }
+) -> Registers
+    requires { ⌜ Fit fixed (now sets) (now memory) ⌝ }
     requires { ⌜ (count * ROW-NUMBERS ≤ length (now rows)) × (count * ANSWER-NUMBERS ≤ length (now room)) ⌝ }
-    ensures { λ r. ⌜ progress r (now (sets .exit)) (now (pairs .exit)) (now («cpu_map» .exit)) (now («cpu_walker» .exit)) (now («cpu_cache» .exit)) (now («dma_map» .exit)) (now («dma_walker» .exit)) (now («dma_cache» .exit)) (now (memory .exit)) (now (room .exit))
-        ≡ after (now (rows .entry)) count (progress m (now (sets .entry)) (now (pairs .entry)) (now («cpu_map» .entry)) (now («cpu_walker» .entry)) (now («cpu_cache» .entry)) (now («dma_map» .entry)) (now («dma_walker» .entry)) (now («dma_cache» .entry)) (now (memory .entry)) (now (room .entry))) ⌝ }
+    ensures { λ r. ⌜ progress (withRegisters fixed r) (now (sets .exit)) (now (pairs .exit)) (now («cpu_map» .exit)) (now («cpu_walker» .exit)) (now («cpu_cache» .exit)) (now («dma_map» .exit)) (now («dma_walker» .exit)) (now («dma_cache» .exit)) (now (memory .exit)) (now (room .exit))
+        ≡ after (now (rows .entry)) count (progress (withRegisters fixed registers) (now (sets .entry)) (now (pairs .entry)) (now («cpu_map» .entry)) (now («cpu_walker» .entry)) (now («cpu_cache» .entry)) (now («dma_map» .entry)) (now («dma_walker» .entry)) (now («dma_cache» .entry)) (now (memory .entry)) (now (room .entry))) ⌝ }
 {
-    let mut next = m;
+    let mut next = registers;
     let mut k = 0;
     while k < count {
         next = turn(
+            fixed,
             next,
             sets,
             pairs,
@@ -188,8 +193,10 @@ fn carry_out(
         };
     }
     let count = rows.len() / ROW_NUMBERS;
+    let registers = operate::registers_of(m);
     let next = run(
         m,
+        registers,
         sets,
         pairs,
         cpu_map,
@@ -205,6 +212,6 @@ fn carry_out(
     );
     Ran {
         answer: answer,
-        machine: next,
+        machine: operate::with_registers(m, next),
     }
 }

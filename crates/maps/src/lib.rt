@@ -102,11 +102,11 @@ pub fn map_page(
     }
     let key = numbers::key(vm, guest);
     let spot = table::place(map, key);
-    if let Found::Nothing = spot {
+    let Found::At(at) = spot else {
         return refuse(Refusal::NoRoom, 0);
-    }
+    };
     let word = numbers::map_word(vm, guest, numbers::entry(page, access, generation));
-    table::put(map, key, word);
+    map[at] = word;
     table::put(walker, key, word);
     accept(table::drop_slots(cache, key))
 }

@@ -1,41 +1,20 @@
 -- Answer row k of a sequence is the answer of row k from the state after the rows before it, and room past the answers is kept.
 use Prim.Native.Nat.{ℕ, zero, suc, _+_, _*_, _≤_, _<_}
-use mathlib.Core.List.{List, [], _∷_}
+use mathlib.Core.List.{List}
 use mathlib.Core.Logic.{⊎-elim}
 use mathlib.Core.Path.{_≡_, refl, _∙_}
 use native.Mathlib.Omega.{arith}
-use lib.ListN.{length, getD, set, length-set}
-use lib.Seq.{getD-set-same, getD-set-other}
+use lib.ListN.{length, getD}
+use Rattle.numbers.specs.CaseLaws.{equal}
 use Rattle.numbers.specs.Limits.{ANSWER-NUMBERS}
 use Rattle.numbers.specs.Meaning.{answerNumbers}
 use Rattle.numbers.specs.declared.Answer.{Answer}
 use Rattle.numbers.specs.declared.Answer.the-variants.{Accepted, Refused}
-use Rattle.table.specs.ScanLaws.{equal}
 use Rattle.model.specs.Sequence.{writeAt, Progress, stepRow, rowAt, turn, after}
+use Rattle.model.specs.WriteLaws.{length-written, written-before, written-behind, written-here}
 use Rattle.model.proofs.Repeats.{repeat-last}
 
--- ---- numbers written over a list
-length-written : (room : List ℕ) (i : ℕ) (ns : List ℕ) → length (writeAt room i ns) ≡ length room
-length-written room i [] = refl
-length-written room i (n ∷ ns) = length-written (set room i n) (i + 1) ns ∙ length-set room i n
-
-written-before : (room : List ℕ) (i : ℕ) (ns : List ℕ) (j : ℕ) → j < i → getD (writeAt room i ns) j 0 ≡ getD room j 0
-written-before room i [] j h = refl
-written-before room i (n ∷ ns) j h = written-before (set room i n) (i + 1) ns j (omega arith) ∙ getD-set-other room i j n 0 (omega arith)
-
-written-behind : (room : List ℕ) (i : ℕ) (ns : List ℕ) (j : ℕ) → i + length ns ≤ j → getD (writeAt room i ns) j 0 ≡ getD room j 0
-written-behind room i [] j h = refl
-written-behind room i (n ∷ ns) j h = written-behind (set room i n) (i + 1) ns j (omega arith) ∙ getD-set-other room i j n 0 (omega arith)
-
-written-here : (room : List ℕ) (i : ℕ) (ns : List ℕ) (j : ℕ) → j < length ns → i + length ns ≤ length room → getD (writeAt room i ns) (i + j) 0 ≡ getD ns j 0
-written-here room i [] j h l = absurd (omega arith)
-written-here room i (n ∷ ns) zero h l =
-    let z : i + 0 ≡ i = omega arith in
-    rw z (written-before (set room i n) (i + 1) ns i (omega arith) ∙ getD-set-same room i n 0 (omega arith))
-written-here room i (n ∷ ns) (suc j) h l =
-    let z : i + suc j ≡ i + 1 + j = omega arith in
-    rw z (written-here (set room i n) (i + 1) ns j (omega arith) (omega (arith, length-set room i n)))
-
+-- an answer is four numbers
 four : (answer : Answer) → length (answerNumbers answer) ≡ ANSWER-NUMBERS
 four (Accepted dropped word) = refl
 four (Refused refusal index) = refl

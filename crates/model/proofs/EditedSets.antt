@@ -6,10 +6,10 @@ use mathlib.Core.Logic.{_⊎_, inl, inr, ⊎-elim}
 use mathlib.Core.Path.{_≡_, refl, sym, _∙_}
 use native.Mathlib.Omega.{arith}
 use lib.ListN.{length}
+use Rattle.numbers.specs.CaseLaws.{equal}
 use Rattle.numbers.specs.Limits.{PAGES, VMS, SETS, SET-WORDS}
 use Rattle.numbers.specs.declared.Side.{Side}
 use Rattle.numbers.specs.declared.Side.the-variants.{Cpu, Dma}
-use Rattle.table.specs.ScanLaws.{equal}
 use Rattle.pages.specs.BitLaws.{below-or}
 use Rattle.pages.specs.Rows.{holds, poolRow, sharedRow, cpuRow, dmaRow}
 use Rattle.pages.specs.RowLaws.{holds-add-same, holds-add-other, holds-remove-same, holds-remove-other, length-remove, length-add}

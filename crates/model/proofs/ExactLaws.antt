@@ -6,6 +6,7 @@ use mathlib.Core.Logic.{⊎-elim}
 use mathlib.Core.Path.{_≡_}
 use lib.Dec.{ltb}
 use borrow.Author.Tests.{ltb-true, ltb-false}
+use Rattle.numbers.specs.CaseLaws.{cases}
 use Rattle.numbers.specs.Choice.{if_then_else_}
 use Rattle.numbers.specs.Decides.{Decides}
 use Rattle.numbers.specs.DecidesLaws.{says-no, refutes, decides-as, decides-not, decides-then, decides-and}
@@ -13,7 +14,7 @@ use Rattle.numbers.specs.declared.Answer.{Answer}
 use Rattle.numbers.specs.declared.Answer.the-variants.{Accepted, Refused}
 use Rattle.numbers.specs.declared.Refusal.{Refusal}
 use Rattle.table.specs.Scan.{any, anyBelow, lowest}
-use Rattle.table.specs.ScanLaws.{cases, has-any, any-true, below-any, any-below-true, lowest-found, lowest-none}
+use Rattle.table.specs.ScanLaws.{has-any, any-true, below-any, any-below-true, lowest-found, lowest-none}
 use Rattle.table.specs.Table.{Has}
 use Rattle.units.specs.declared.Region.{Region}
 use Rattle.model.specs.Conditions.{accepts}

@@ -7,6 +7,7 @@ use mathlib.Core.Path.{_≡_, refl, sym, ap, _∙_}
 use native.Mathlib.Omega.{arith}
 use lib.Dec.{eqb}
 use borrow.Author.Tests.{eqb-false}
+use Rattle.numbers.specs.CaseLaws.{cases}
 use Rattle.numbers.specs.Choice.{if_then_else_}
 use Rattle.numbers.specs.Limits.{VMS, GUEST-PAGES, PAGE-WORDS, PORTS, SLOTS, ACCESSES, GENERATIONS}
 use Rattle.numbers.specs.Decides.{Decides}
@@ -18,7 +19,6 @@ use Rattle.numbers.specs.declared.Refusal.the-variants.{MappingDiffers, AccessL
 use Rattle.numbers.specs.declared.Side.{Side}
 use Rattle.numbers.specs.declared.Target.{Target}
 use Rattle.numbers.specs.declared.Target.the-variants.{Idle, Vm}
-use Rattle.table.specs.ScanLaws.{cases}
 use Rattle.table.specs.Table.{Has, place, isFound, lookup, freeEntries}
 use Rattle.table.specs.TableLaws.{has-lookup, lookup-has}
 use Rattle.model.specs.State.{Tables, route}

@@ -7,6 +7,7 @@ use mathlib.Core.Path.{_≡_, sym, ap, _∙_}
 use native.Mathlib.Omega.{arith}
 use lib.Dec.{eqb}
 use lib.ListN.{getD}
+use Rattle.numbers.specs.CaseLaws.{cases, equal}
 use Rattle.numbers.specs.Limits.{VMS, GUEST-PAGES, ACCESSES}
 use Rattle.numbers.specs.Decides.{Decides}
 use Rattle.numbers.specs.DecidesLaws.{says-no, always, decides-as, decides-itself, decides-less, decides-most, decides-equal, decides-not, decides-and, decides-or, twice-not}
@@ -14,7 +15,6 @@ use Rattle.numbers.specs.Packing.{vmOf, guestOf, pageOf, accessOf, generationOf
 use Rattle.numbers.specs.PackingLaws.{entry-fits, entry-page, entry-access, entry-generation, word-vm, word-guest, word-page, word-access, word-generation, key-same, key-filled}
 use Rattle.numbers.specs.declared.Side.{Side}
 use Rattle.numbers.specs.declared.Side.the-variants.{Cpu, Dma}
-use Rattle.table.specs.ScanLaws.{cases, equal}
 use Rattle.table.specs.Table.{Has, lookup, freeEntries}
 use Rattle.table.specs.TableLaws.{has-lookup, lookup-has}
 use Rattle.units.specs.Units.{suits, isUnit, noUnit, assignable}

@@ -9,6 +9,7 @@ use native.Mathlib.Omega.{arith}
 use lib.Dec.{eqb, leb}
 use lib.ListN.{length, getD}
 use borrow.Author.Tests.{eqb-true, eq-eqb, leb-true, leb-false}
+use Rattle.numbers.specs.CaseLaws.{cases}
 use Rattle.numbers.specs.Limits.{VMS, GUEST-PAGES, PAGES, PORTS, IDLE}
 use Rattle.numbers.specs.Decides.{Decides}
 use Rattle.numbers.specs.DecidesLaws.{says-yes, says-no, always, decides-as, decides-itself, decides-equal, decides-not, decides-and, decides-or}
@@ -16,7 +17,7 @@ use Rattle.numbers.specs.Packing.{portOf, vmOf, guestOf, filledOf, pageOf, acce
 use Rattle.numbers.specs.PackingLaws.{entry-whole, word-key, word-whole, key-same, pair-same, pair-either}
 use Rattle.numbers.specs.declared.Side.{Side}
 use Rattle.numbers.specs.declared.Side.the-variants.{Cpu, Dma}
-use Rattle.table.specs.ScanLaws.{cases, any-at, any-here}
+use Rattle.table.specs.ScanLaws.{any-at, any-here}
 use Rattle.table.specs.Table.{Has, find, place, isFound, orElse, lowestFree, freeEntries}
 use Rattle.table.specs.TableLaws.{find-at, find-none, free-place, place-free}
 use Rattle.table.specs.declared.Found.{Found}

@@ -8,6 +8,7 @@ use mathlib.Core.Path.{_≡_, refl, sym, _∙_}
 use native.Mathlib.Omega.{arith}
 use lib.Dec.{eqb}
 use borrow.Author.Tests.{ltb-true, eqb-false, not-false}
+use Rattle.numbers.specs.CaseLaws.{cases}
 use Rattle.numbers.specs.Limits.{VMS, GUEST-PAGES, READ, WRITE}
 use Rattle.numbers.specs.Packing.{vmOf, pageOf, keyOf, addressOf, key, slotKey}
 use Rattle.numbers.specs.PackingLaws.{key-vm, unported, unported-vm, unported-page}
@@ -16,7 +17,6 @@ use Rattle.numbers.specs.declared.Answer.the-variants.{Accepted}
 use Rattle.numbers.specs.declared.Operation.{Operation}
 use Rattle.numbers.specs.declared.Side.{Side}
 use Rattle.numbers.specs.declared.Side.the-variants.{Cpu, Dma}
-use Rattle.table.specs.ScanLaws.{cases}
 use Rattle.table.specs.Table.{Has, lookup}
 use Rattle.table.specs.TableLaws.{lookup-has}
 use Rattle.model.specs.State.{Tables, Route, route}

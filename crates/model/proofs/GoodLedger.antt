@@ -8,6 +8,7 @@ use native.Mathlib.Omega.{arith}
 use lib.Dec.{eqb}
 use lib.ListN.{length}
 use borrow.Author.Tests.{eqb-false, ne-eqb, ltb-true, not-false}
+use Rattle.numbers.specs.CaseLaws.{cases, equal}
 use Rattle.numbers.specs.Limits.{VMS, PAIRS}
 use Rattle.numbers.specs.Packing.{filledOf, pageOf, vmOf, leftOf, rightOf, pairWord, pairKey, pairKeyOf}
 use Rattle.numbers.specs.PackingLaws.{pair-left, pair-right, pair-page, pair-filled, pair-port, pair-access, pair-generation, pair-key, pair-same}
@@ -18,7 +19,7 @@ use Rattle.numbers.specs.declared.PhysPage.{PhysPage}
 use Rattle.numbers.specs.declared.Side.{Side}
 use Rattle.numbers.specs.declared.Side.the-variants.{Cpu, Dma}
 use Rattle.numbers.specs.declared.VmId.{VmId}
-use Rattle.table.specs.ScanLaws.{cases, equal, length-wipe, has-wipe-inv, has-wipe-keep}
+use Rattle.table.specs.ScanLaws.{length-wipe, has-wipe-inv, has-wipe-keep}
 use Rattle.table.specs.Table.{Has, hasKey, put, erase, roomFor}
 use Rattle.table.specs.TableLaws.{length-put, has-put-inv, has-put-keep, distinct-put, distinct-wipe}
 use Rattle.pages.specs.BitLaws.{hasBit-with-same, hasBit-with-other, hasBit-without-other, withBit-fits, withoutBit-fits}

@@ -6,6 +6,7 @@ use mathlib.Core.Logic.{_⊎_, inl, inr, ⊎-elim}
 use mathlib.Core.Path.{_≡_, refl, sym, _∙_}
 use native.Mathlib.Omega.{arith}
 use borrow.Author.Tests.{ltb-true, not-false}
+use Rattle.numbers.specs.CaseLaws.{cases}
 use Rattle.numbers.specs.Limits.{VMS, GUEST-PAGES, PORTS, SLOTS, IDLE}
 use Rattle.numbers.specs.Meaning.{targetNumber}
 use Rattle.numbers.specs.Packing.{keyOf, key, slotKey, entryOf}
@@ -15,7 +16,7 @@ use Rattle.numbers.specs.declared.Operation.{Operation}
 use Rattle.numbers.specs.declared.Side.{Side}
 use Rattle.numbers.specs.declared.Target.{Target}
 use Rattle.numbers.specs.declared.Target.the-variants.{Idle, Vm}
-use Rattle.table.specs.ScanLaws.{cases, found-never}
+use Rattle.table.specs.ScanLaws.{found-never}
 use Rattle.table.specs.Table.{find, lookup, place, isFound}
 use Rattle.table.specs.TableLaws.{found-at, lookup-nothing}
 use Rattle.model.specs.State.{Tables, route, withPorts}

@@ -6,11 +6,12 @@ use mathlib.Core.Logic.{⊎-elim}
 use mathlib.Core.Path.{_≡_, refl, sym, _∙_}
 use native.Mathlib.Omega.{arith}
 use borrow.Author.Tests.{eq-eqb, ne-eqb, le-leb, lt-ltb}
+use Rattle.numbers.specs.CaseLaws.{equal}
 use Rattle.numbers.specs.Limits.{PAGES, GUEST-PAGES}
 use Rattle.numbers.specs.Packing.{keyOf, vmOf, guestOf, filledOf, pageOf, slotKey}
 use Rattle.numbers.specs.PackingLaws.{key-same, key-vm, key-guest}
 use Rattle.numbers.specs.declared.Side.{Side}
-use Rattle.table.specs.ScanLaws.{equal, has-wipe-inv}
+use Rattle.table.specs.ScanLaws.{has-wipe-inv}
 use Rattle.table.specs.Table.{Has, isFound, wordAt, freeEntries, find, lookup, put}
 use Rattle.table.specs.TableLaws.{lookup-nothing, lookup-put-other, place-room, free-put-new}
 use Rattle.table.specs.declared.Found.{Found}

@@ -9,12 +9,13 @@ use lib.Dec.{eqb, ltb}
 use lib.ListN.{length, set}
 use lib.Seq.{getD-set-same, getD-set-other}
 use borrow.Author.Tests.{eqb-false, ltb-true}
+use Rattle.numbers.specs.CaseLaws.{cases, equal}
 use Rattle.numbers.specs.Limits.{PAGES, VMS, GUEST-PAGES, ACCESSES, GENERATIONS, PORTS, SLOTS, IDLE}
 use Rattle.numbers.specs.Packing.{entryOf, filledOf, keyOf, addressOf, slotWord, mapWord, entry, key}
 use Rattle.numbers.specs.PackingLaws.{entry-fits, entry-filled, entry-page, word-port, word-page, word-vm, word-guest, word-entry, word-filled, word-address, key-whole, key-filled, address-filled, unported, unported-vm, unported-guest, unported-filled, unported-key}
 use Rattle.numbers.specs.declared.Side.{Side}
 use Rattle.table.specs.Scan.{wipe}
-use Rattle.table.specs.ScanLaws.{cases, equal, length-wipe, has-wipe-inv}
+use Rattle.table.specs.ScanLaws.{length-wipe, has-wipe-inv}
 use Rattle.table.specs.Table.{freeEntries, Has, hasKey, Distinct, lookup, place, put, erase, setAt, orElse}
 use Rattle.table.specs.TableLaws.{Alone, lookup-has, has-set-inv, distinct-set, distinct-empty, find-none, place-is, place-none, has-put-inv, distinct-put, distinct-wipe, length-put, lookup-put-other}
 use Rattle.table.specs.AgreeLaws.{Keyed, agree-free, agree-place, agree-put, agree-wipe, lookup-wipe}

@@ -23,7 +23,7 @@ use Rattle.model.specs.Valid.{ValidTables, Valid}
 use Rattle.model.specs.MemoryLaws.{length-applied}
 use Rattle.model.specs.ShapeLaws.{control-shape}
 use Rattle.model.specs.Good.{Wrote}
-use Rattle.model.specs.Secrecy.{PrivateTo, Private, effectIn, SameButValue, equal, cpu-value, dma-value, Shared, withoutWord, NearStores, stop, same, other, Near, alike, stores, Seen, Alike, SameAnswer, Asked, Premise, Kept}
+use Rattle.model.specs.Secrecy.{PrivateTo, Private, effectIn, SameButValue, equal, cpu-value, dma-value, Shared, withoutWord, NearStores, stop, same, other, Near, alike, stores, Seen, Alike, SameAnswer, Asked, Premise, StayAlike}
 use Rattle.model.proofs.Answers.{after-next}
 use Rattle.model.proofs.Kept.{good, row-valid, after-valid}
 use Rattle.model.proofs.EffectLaws.{inside}
@@ -73,7 +73,7 @@ module _ (members : ℕ → Bool) where
   near-answer (stores near) memory x = refl
 
   -- ---- one row
-  pub record StepKept (t : Tables) (operation : Option Operation) (r r′ : Stepped) : Type 0 where
+  pub record StepAlike (t : Tables) (operation : Option Operation) (r r′ : Stepped) : Type 0 where
     pub states : Alike members (Private members) (r .state) (r′ .state)
     pub answers : SameAnswer members (Private members) t operation (r .answer) (r′ .answer)
 
@@ -81,10 +81,10 @@ module _ (members : ℕ → Bool) where
   SharesEqual t operation a b = (left right page word : ℕ) → Shared t operation left right page → members left ≡ true → members right ≡ false → word < PAGE-WORDS → wordIn a page word ≡ wordIn b page word
 
   module _ (t : Tables) (v : ValidTables t) (a b : List ℕ) (like : Alike members (Private members) (record { tables = t; memory = a }) (record { tables = t; memory = b })) where
-    operation-kept : (x y : Operation) → SameButValue (some x) (some y) → Near members (Private members) t (control t x .effect) (control t y .effect) → SharesEqual t (some x) a b →
-        StepKept t (some x) (step (record { tables = t; memory = a }) x) (step (record { tables = t; memory = b }) y)
+    operation-alike : (x y : Operation) → SameButValue (some x) (some y) → Near members (Private members) t (control t x .effect) (control t y .effect) → SharesEqual t (some x) a b →
+        StepAlike t (some x) (step (record { tables = t; memory = a }) x) (step (record { tables = t; memory = b }) y)
     unfolding step
-    operation-kept x y shape near shares =
+    operation-alike x y shape near shares =
         let c = control t x in
         let d = control t y in
         let decides = blind t x y shape in
@@ -105,25 +105,25 @@ module _ (members : ℕ → Bool) where
         }
 
     -- a row of no operation is refused in both
-    known-kept : (x y : Option Operation) → SameButValue x y → Near members (Private members) t (effectIn t x) (effectIn t y) → SharesEqual t x a b →
-        StepKept t x (stepKnown (record { tables = t; memory = a }) x) (stepKnown (record { tables = t; memory = b }) y)
-    known-kept none none shape near shares = record { states = like; answers = record { but-word = refl; whole = λ n. refl } }
-    known-kept (some x) (some y) shape near shares = operation-kept x y shape near shares
+    known-alike : (x y : Option Operation) → SameButValue x y → Near members (Private members) t (effectIn t x) (effectIn t y) → SharesEqual t x a b →
+        StepAlike t x (stepKnown (record { tables = t; memory = a }) x) (stepKnown (record { tables = t; memory = b }) y)
+    known-alike none none shape near shares = record { states = like; answers = record { but-word = refl; whole = λ n. refl } }
+    known-alike (some x) (some y) shape near shares = operation-alike x y shape near shares
 
   pub secret-step : (s s′ : State) (row row′ : List ℕ) → Valid s → Alike members (Private members) s s′ → Asked members (Private members) s s′ row row′ →
-      StepKept (s .tables) (operationIn row) (stepRow s row) (stepRow s′ row′)
+      StepAlike (s .tables) (operationIn row) (stepRow s row) (stepRow s′ row′)
   unfolding stepRow
   secret-step s s′ row row′ v like asked =
-      subst (λ (t : Tables). Alike members (Private members) s (record { tables = t; memory = s′ .memory }) → StepKept (s .tables) (operationIn row) (stepRow s row) (stepRow (record { tables = t; memory = s′ .memory }) row′))
-      (like .tables) (λ l. known-kept (s .tables) (v .tables) (s .memory) (s′ .memory) l (operationIn row) (operationIn row′) (asked .differ .shape) (asked .differ .near) (asked .shares-equal)) like
+      subst (λ (t : Tables). Alike members (Private members) s (record { tables = t; memory = s′ .memory }) → StepAlike (s .tables) (operationIn row) (stepRow s row) (stepRow (record { tables = t; memory = s′ .memory }) row′))
+      (like .tables) (λ l. known-alike (s .tables) (v .tables) (s .memory) (s′ .memory) l (operationIn row) (operationIn row′) (asked .differ .shape) (asked .differ .near) (asked .shares-equal)) like
 
   -- ---- a sequence, after every row
   pub secrecy : (p q : Progress) (rows rows′ : List ℕ) (count : ℕ) → Valid (p .state) → Alike members (Private members) (p .state) (q .state) →
-      Premise members (Private members) p q rows rows′ count → Kept members (Private members) p q rows rows′ count
+      Premise members (Private members) p q rows rows′ count → StayAlike members (Private members) p q rows rows′ count
   secrecy p q rows rows′ count v like asked = record { states = states; answers = λ k h. row k h (states k (omega arith)) .answers }
     where
       row : (k : ℕ) → k < count → Alike members (Private members) (after rows k p .state) (after rows′ k q .state) →
-          StepKept (after rows k p .state .tables) (operationIn (rowAt rows k)) (stepRow (after rows k p .state) (rowAt rows k)) (stepRow (after rows′ k q .state) (rowAt rows′ k))
+          StepAlike (after rows k p .state .tables) (operationIn (rowAt rows k)) (stepRow (after rows k p .state) (rowAt rows k)) (stepRow (after rows′ k q .state) (rowAt rows′ k))
       row k h l = secret-step (after rows k p .state) (after rows′ k q .state) (rowAt rows k) (rowAt rows′ k) (after-valid rows k p v) l (asked k h)
 
       states : (k : ℕ) → k ≤ count → Alike members (Private members) (after rows k p .state) (after rows′ k q .state)
@@ -168,14 +168,14 @@ module _ (members : ℕ → Bool) (P Q : Tables → ℕ → Type 0) (gives : (t 
       let a = asked k h in
       record { differ = record { shape = a .differ .shape; near = near-as _ (after-valid rows k p v .tables) (a .differ .near) }; shares-equal = a .shares-equal }
 
-  kept-as : (p q : Progress) (rows rows′ : List ℕ) (count : ℕ) → Valid (p .state) → Kept members P p q rows rows′ count → Kept members Q p q rows rows′ count
-  kept-as p q rows rows′ count v kept =
+  stay-as : (p q : Progress) (rows rows′ : List ℕ) (count : ℕ) → Valid (p .state) → StayAlike members P p q rows rows′ count → StayAlike members Q p q rows rows′ count
+  stay-as p q rows rows′ count v stay =
       record {
-        states = λ k h. alike-as (after rows k p .state) (after rows′ k q .state) (after-valid rows k p v) (kept .states k h);
+        states = λ k h. alike-as (after rows k p .state) (after rows′ k q .state) (after-valid rows k p v) (stay .states k h);
         answers = λ k h.
             record {
-              but-word = kept .answers k h .but-word;
-              whole = λ n. kept .answers k h .whole (λ seen. n (seen-as _ (after-valid rows k p v .tables) (effectIn (after rows k p .state .tables) (operationIn (rowAt rows k))) seen));
+              but-word = stay .answers k h .but-word;
+              whole = λ n. stay .answers k h .whole (λ seen. n (seen-as _ (after-valid rows k p v .tables) (effectIn (after rows k p .state .tables) (operationIn (rowAt rows k))) seen));
             };
       }
 
@@ -196,9 +196,9 @@ module _ (vm : ℕ) where
       record { holder = vm; member = eq-eqb vm vm refl; holder-ok = p .vm-ok; page-ok = p .page-ok; held = p .held; inside = λ w h on. absurd (p .unshared w h on) }
 
   pub secrecy-one : (p q : Progress) (rows rows′ : List ℕ) (count : ℕ) → Valid (p .state) → Alike (eqb vm) (PrivateTo vm) (p .state) (q .state) →
-      Premise (eqb vm) (PrivateTo vm) p q rows rows′ count → Kept (eqb vm) (PrivateTo vm) p q rows rows′ count
+      Premise (eqb vm) (PrivateTo vm) p q rows rows′ count → StayAlike (eqb vm) (PrivateTo vm) p q rows rows′ count
   secrecy-one p q rows rows′ count v like asked =
-      kept-as (eqb vm) (Private (eqb vm)) (PrivateTo vm) one-of p q rows rows′ count v
+      stay-as (eqb vm) (Private (eqb vm)) (PrivateTo vm) one-of p q rows rows′ count v
       (secrecy (eqb vm) p q rows rows′ count v (alike-as (eqb vm) (PrivateTo vm) (Private (eqb vm)) set-of (p .state) (q .state) v like)
       (premise-as (eqb vm) (PrivateTo vm) (Private (eqb vm)) set-of p q rows rows′ count v asked))
 

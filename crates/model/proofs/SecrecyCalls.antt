@@ -12,7 +12,7 @@ use Rattle.numbers.specs.Meaning.{answerNumbers}
 use Rattle.numbers.specs.declared.Answer.{Answer}
 use Rattle.numbers.specs.declared.Answer.the-variants.{Accepted, Refused}
 use Rattle.model.specs.State.{State}
-use Rattle.model.specs.Effect.{accepted, kept}
+use Rattle.model.specs.Effect.{accepted}
 use Rattle.model.specs.EarlyLaws.{past, never-both}
 use Rattle.model.specs.Sequence.{Progress, Sequenced, rowAt, operationIn, rowCount, after, shapeAnswer, sequence}
 use Rattle.model.specs.Valid.{Valid}
@@ -59,7 +59,7 @@ numbers-alike x y i e h = front x i h ∙ ap (λ (z : Answer). getD (answerNumbe
 module _ (members : ℕ → Bool) where
   -- the states that they leave are alike; so is each answer row but for its last number, which differs only where a member read a
   -- private page
-  pub record CallsKept (s : State) (rows room : List ℕ) (result result′ : Sequenced) : Type 0 where
+  pub record CallsAlike (s : State) (rows room : List ℕ) (result result′ : Sequenced) : Type 0 where
     pub states : Alike members (Private members) (result .progress .state) (result′ .progress .state)
     pub numbers : (k i : ℕ) → k < rowCount rows → i < 3 → getD (result .progress .room) (k * ANSWER-NUMBERS + i) 0 ≡ getD (result′ .progress .room) (k * ANSWER-NUMBERS + i) 0
     pub words : (k i : ℕ) → k < rowCount rows → i < ANSWER-NUMBERS →
@@ -75,18 +75,18 @@ module _ (members : ℕ → Bool) where
         rw (c .progress, c′ .progress)
         (answer-row rows (begun s room) (rowCount rows) k i h b (c .roomy) ∙ e ∙ sym (answer-row rows′ (begun s′ room′) (rowCount rows′) k i (rw same at h) b (c′ .roomy)))
 
-    two-runs : Alike members (Private members) s s′ → rowCount rows ≡ rowCount rows′ → Premise members (Private members) (begun s room) (begun s′ room′) rows rows′ (rowCount rows) → CallsKept s rows room result result′
+    two-runs : Alike members (Private members) s s′ → rowCount rows ≡ rowCount rows′ → Premise members (Private members) (begun s room) (begun s′ room′) rows rows′ (rowCount rows) → CallsAlike s rows room result result′
     two-runs like same asked =
-        let kept = secrecy members (begun s room) (begun s′ room′) rows rows′ (rowCount rows) (c .was-valid) like asked in
+        let stay = secrecy members (begun s room) (begun s′ room′) rows rows′ (rowCount rows) (c .was-valid) like asked in
         record {
-          states = rw (c .progress, c′ .progress, ← same) (kept .states (rowCount rows) (omega arith));
-          numbers = λ k i h b. both-rows same k i h (omega arith) (numbers-alike (answerTo rows (begun s room) k) (answerTo rows′ (begun s′ room′) k) i (kept .answers k h .but-word) b);
-          words = λ k i h b n. both-rows same k i h b (ap (λ (z : Answer). getD (answerNumbers z) i 0) (kept .answers k h .whole n));
+          states = rw (c .progress, c′ .progress, ← same) (stay .states (rowCount rows) (omega arith));
+          numbers = λ k i h b. both-rows same k i h (omega arith) (numbers-alike (answerTo rows (begun s room) k) (answerTo rows′ (begun s′ room′) k) i (stay .answers k h .but-word) b);
+          words = λ k i h b n. both-rows same k i h b (ap (λ (z : Answer). getD (answerNumbers z) i 0) (stay .answers k h .whole n));
         }
 
   pub secrecy-calls : (s s′ : State) (rows rows′ room room′ : List ℕ) (result result′ : Sequenced) →
       JudgedSequence s rows room result → JudgedSequence s′ rows′ room′ result′ → result .answer ≡ accepted → result′ .answer ≡ accepted →
       Alike members (Private members) s s′ → rowCount rows ≡ rowCount rows′ → Premise members (Private members) (begun s room) (begun s′ room′) rows rows′ (rowCount rows) →
-      CallsKept s rows room result result′
+      CallsAlike s rows room result result′
   secrecy-calls s s′ rows rows′ room room′ result result′ j j′ a a′ like same asked =
       two-runs s s′ rows rows′ room room′ result result′ (carried s rows room result j a) (carried s′ rows′ room′ result′ j′ a′) like same asked

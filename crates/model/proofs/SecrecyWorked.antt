@@ -24,7 +24,7 @@ use Rattle.model.specs.Sequence.{operationIn, stepRow, Progress, after}
 use Rattle.model.specs.Valid.{Valid}
 use Rattle.model.specs.Good.{holdsPage}
 use Rattle.model.specs.Access.{accessAnswer, accessPlace}
-use Rattle.model.specs.Secrecy.{PrivateTo, equal, cpu-value, stop, other, Near, alike, stores, Asked, Premise, Kept}
+use Rattle.model.specs.Secrecy.{PrivateTo, equal, cpu-value, stop, other, Near, alike, stores, Asked, Premise, StayAlike}
 use Rattle.model.proofs.Computes.{computes}
 use Rattle.model.proofs.Worked.{Line, row, _⟼_, heardIn, answers, eightPages, lent, started}
 use Rattle.model.proofs.ViewLaws.{no-edge-on}
@@ -256,5 +256,5 @@ asked a b (suc (suc (suc (suc zero)))) h = asked-same _ _ _ (λ e. omega arith)
 asked a b (suc (suc (suc (suc (suc k))))) h = absurd (omega arith)
 
 -- so it holds of them, whichever two values VM 1 writes
-pub secrecy-holds : (a b : ℕ) → Kept (eqb 1) (PrivateTo 1) begun begun (rows a) (rows b) 5
+pub secrecy-holds : (a b : ℕ) → StayAlike (eqb 1) (PrivateTo 1) begun begun (rows a) (rows b) 5
 secrecy-holds a b = secrecy-one 1 begun begun (rows a) (rows b) 5 begun-valid (record { tables = refl; size = refl; words = λ page word h n. refl }) (asked a b)

@@ -7,13 +7,13 @@ use mathlib.Core.List.{List, [], _∷_}
 use mathlib.Core.Logic.{_⊎_, inl, inr, ⊎-elim}
 use mathlib.Core.Path.{_≡_, refl, sym, _∙_}
 use lib.ListN.{length, length-set, getD}
+use Rattle.numbers.specs.CaseLaws.{cases, equal}
 use Rattle.numbers.specs.Limits.{VMS, PAGE-WORDS}
 use Rattle.numbers.specs.Packing.{leftOf, rightOf, pageOf}
 use Rattle.numbers.specs.declared.Answer.{Answer}
 use Rattle.numbers.specs.declared.Answer.the-variants.{Accepted, Refused}
 use Rattle.numbers.specs.declared.Operation.{Operation}
 use Rattle.numbers.specs.declared.Operation.the-variants.{SharePage}
-use Rattle.table.specs.ScanLaws.{cases, equal}
 use Rattle.table.specs.Table.{Has}
 use Rattle.model.specs.State.{Tables}
 use Rattle.model.specs.Effect.{wordIn, Place, Store, Effect, reads, writes, clears, stored, loaded, apply, Control, accepted}

@@ -9,13 +9,13 @@ use native.Mathlib.Omega.{arith}
 use borrow.Author.Tests.{eq-eqb, ltb-true, lt-ltb, le-leb, not-false}
 use lib.ListN.{length, getD, replicate, length-replicate, getD-replicate, List·getD-eq-default}
 use lib.Pow.{pow-pos}
+use Rattle.numbers.specs.CaseLaws.{cases, equal}
 use Rattle.numbers.specs.Choice.{if_then_else_}
 use Rattle.numbers.specs.Limits.{PAGES, PAGE-WORDS, SETS, SET-WORDS, PAIRS, ENTRIES, SLOTS, PORTS, UNITS, IDLE}
 use Rattle.numbers.specs.Packing.{keyOf, pairKeyOf}
 use Rattle.numbers.specs.declared.Side.{Side}
 use Rattle.numbers.specs.declared.Side.the-variants.{Cpu, Dma}
 use Rattle.table.specs.Scan.{repeat}
-use Rattle.table.specs.ScanLaws.{cases, equal}
 use Rattle.table.specs.Table.{Has, Distinct}
 use Rattle.pages.specs.Bits.{contains}
 use Rattle.pages.specs.BitLaws.{below-or}
@@ -27,7 +27,7 @@ use Rattle.model.specs.Views.{isVm, isAccess, inShared}
 use Rattle.model.specs.Effect.{accepted}
 use Rattle.model.specs.EarlyLaws.{both, hold}
 use Rattle.model.specs.Start.{Told, Lent, countTold, numberTold, unitTold, unitsTold, badField, badSpan, startAnswer, inSpan, firstHome, freshSets, freshRoute, setupTold, freshState, emptyState, start}
-use Rattle.model.specs.StartTold.{StartPassed, start-passed, length-units, unit-at}
+use Rattle.model.specs.ToldLaws.{StartPassed, start-passed, length-units, unit-at}
 use Rattle.model.specs.Valid.{RouteLengths, UnitGood, SetupGood, Home, pool, shared, PagesGood, MapGood, SameMap, RouteGood, Valid}
 use Rattle.model.proofs.Repeats.{repeat-keeps}
 

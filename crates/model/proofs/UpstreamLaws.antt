@@ -9,10 +9,11 @@ use native.Mathlib.Omega.{arith}
 use lib.Dec.{eqb}
 use lib.ListN.{getD}
 use borrow.Author.Tests.{eqb-true, eqb-false, eq-eqb, ne-eqb, not-true}
+use Rattle.numbers.specs.CaseLaws.{cases, equal}
 use Rattle.numbers.specs.Limits.{VMS, GUEST-PAGES, PAGES, ACCESSES, READ, WRITE}
 use Rattle.numbers.specs.Packing.{key, keyOf, slotKey, addressOf, pairKey, portOf, vmOf, guestOf, entryOf, filledOf, pageOf, accessOf, generationOf}
 use Rattle.numbers.specs.PackingLaws.{pair-either, pair-same, key-same}
-use Rattle.table.specs.ScanLaws.{cases, equal, found-never}
+use Rattle.table.specs.ScanLaws.{found-never}
 use Rattle.table.specs.Table.{find, lookup, place, put, erase, isFound, wordAt, Has}
 use Rattle.table.specs.TableLaws.{find-none, lookup-has, lookup-nothing, lookup-put-same, lookup-put-other, lookup-erase-same, lookup-erase-other}
 use Rattle.table.specs.declared.Found.{Found}

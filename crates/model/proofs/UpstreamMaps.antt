@@ -8,13 +8,13 @@ use mathlib.Core.Path.{_≡_, refl, sym, ap, _∙_}
 use native.Mathlib.Omega.{arith}
 use lib.Dec.{eqb}
 use borrow.Author.Tests.{eq-eqb, ne-eqb, eqb-true, not-false}
+use Rattle.numbers.specs.CaseLaws.{cases, equal}
 use Rattle.numbers.specs.Choice.{if_then_else_}
 use Rattle.numbers.specs.Limits.{VMS, GUEST-PAGES, PAGES, ACCESSES, GENERATIONS}
 use Rattle.numbers.specs.Packing.{key, keyOf, slotKey, addressOf, mapWord, entry}
 use Rattle.numbers.specs.PackingLaws.{key-filled, entry-fits, entry-page, entry-access, entry-generation, word-page, word-access, word-generation}
 use Rattle.numbers.specs.declared.Answer.the-variants.{Accepted}
 use Rattle.numbers.specs.declared.Side.{Side}
-use Rattle.table.specs.ScanLaws.{cases, equal}
 use Rattle.table.specs.Table.{hasKey, find, lookup, place, erase, isFound}
 use Rattle.table.specs.TableLaws.{lookup-put-same, lookup-put-other, lookup-erase-same, lookup-erase-other, lookup-wipe-same, lookup-wipe-other}
 use Rattle.table.specs.AgreeLaws.{agree-place}

@@ -10,9 +10,9 @@ use lib.Dec.{eqb, ltb}
 use lib.ListN.{length, getD, set, length-set}
 use lib.Seq.{getD-set-same, getD-set-other}
 use borrow.Author.Tests.{eqb-true, eqb-false, eq-eqb, ne-eqb, lt-ltb}
+use Rattle.numbers.specs.CaseLaws.{cases, equal}
 use Rattle.numbers.specs.Choice.{if_then_else_}
 use Rattle.numbers.specs.Limits.{PAGE-WORDS}
-use Rattle.table.specs.ScanLaws.{cases, equal}
 use Rattle.pages.specs.BitLaws.{below-or}
 use Rattle.model.specs.State.{Tables}
 use Rattle.model.specs.Effect.{memoryIndex, clearPage, clearedPages}

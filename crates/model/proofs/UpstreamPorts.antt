@@ -9,6 +9,7 @@ use native.Mathlib.Omega.{arith}
 use lib.ListN.{length, getD, set, length-set}
 use lib.Seq.{getD-set-same, getD-set-other, set-getD, set-set}
 use borrow.Author.Tests.{eq-eqb, ne-eqb, ltb-true, lt-ltb, not-false}
+use Rattle.numbers.specs.CaseLaws.{equal}
 use Rattle.numbers.specs.Choice.{if_then_else_}
 use Rattle.numbers.specs.Limits.{VMS, GUEST-PAGES, PORTS, SLOTS, IDLE}
 use Rattle.numbers.specs.Packing.{key, keyOf, slotKey, slotWord, entryOf, portOf, vmOf, guestOf, filledOf}
@@ -18,7 +19,7 @@ use Rattle.numbers.specs.declared.Target.{Target}
 use Rattle.numbers.specs.declared.Target.the-variants.{Idle, Vm}
 use Rattle.numbers.specs.declared.Side.{Side}
 use Rattle.numbers.specs.declared.Side.the-variants.{Cpu, Dma}
-use Rattle.table.specs.ScanLaws.{equal, found-never, found-count}
+use Rattle.table.specs.ScanLaws.{found-never, found-count}
 use Rattle.table.specs.Table.{isEmpty, freeEntries, lookup, place, Has, Distinct}
 use Rattle.table.specs.TableLaws.{IsPlace, find-none, place-is, place-none, place-room, distinct-alone, lookup-has, lookup-none, has-lookup, has-set-inv, has-set-keep, lookup-set-same, lookup-set-other}
 use Rattle.table.specs.declared.Found.{Found}

@@ -8,12 +8,12 @@ use mathlib.Core.Path.{_≡_, refl, sym, ap, _∙_}
 use native.Mathlib.Omega.{arith}
 use lib.Dec.{eqb, leb, ltb}
 use borrow.Author.Tests.{eq-eqb, ne-eqb, eqb-true, leb-true, ltb-true, le-leb, lt-ltb}
+use Rattle.numbers.specs.CaseLaws.{cases, equal}
 use Rattle.numbers.specs.Choice.{if_then_else_}
 use Rattle.numbers.specs.Limits.{VMS, GUEST-PAGES, PAGES}
 use Rattle.numbers.specs.Packing.{key, keyOf, slotKey, vmOf, guestOf, filledOf}
 use Rattle.numbers.specs.PackingLaws.{key-same}
 use Rattle.table.specs.Scan.{cleared, wipe}
-use Rattle.table.specs.ScanLaws.{cases, equal}
 use Rattle.table.specs.Table.{freeEntries, lookup, put, Distinct}
 use Rattle.table.specs.TableLaws.{lookup-has, lookup-put-same, lookup-put-other, place-room, free-put}
 use Rattle.table.specs.AgreeLaws.{lookup-wipe}

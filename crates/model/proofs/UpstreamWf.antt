@@ -8,12 +8,12 @@ use mathlib.Core.Path.{_≡_, refl, sym, ap, _∙_}
 use native.Mathlib.Omega.{arith}
 use lib.Dec.{ltb}
 use borrow.Author.Tests.{eqb-false, ltb-true, ltb-false, not-true}
+use Rattle.numbers.specs.CaseLaws.{cases}
 use Rattle.numbers.specs.Limits.{VMS, GUEST-PAGES, PAGES, SETS}
 use Rattle.numbers.specs.Packing.{key, keyOf, slotKey, mapWord, entryOf, pairKeyOf, pairKey, filledOf, leftOf, rightOf, pageOf}
 use Rattle.numbers.specs.PackingLaws.{pair-either}
 use Rattle.numbers.specs.declared.Side.{Side}
 use Rattle.numbers.specs.declared.Side.the-variants.{Cpu, Dma}
-use Rattle.table.specs.ScanLaws.{cases}
 use Rattle.table.specs.Table.{lookup, Has}
 use Rattle.table.specs.TableLaws.{lookup-has}
 use Rattle.pages.specs.Rows.{holds, poolRow, sharedRow, cpuRow, dmaRow}

@@ -8,11 +8,12 @@ use native.Mathlib.Omega.{arith}
 use lib.Dec.{eqb}
 use lib.ListN.{length, getD}
 use borrow.Author.Tests.{eq-eqb, ne-eqb, eqb-true, eqb-false, not-true}
+use Rattle.numbers.specs.CaseLaws.{cases}
 use Rattle.numbers.specs.Limits.{VMS, PAGES, IDLE}
 use Rattle.numbers.specs.Packing.{filledOf, pageOf, vmOf, leftOf, rightOf, pairKeyOf, pairKey}
 use Rattle.numbers.specs.declared.Side.{Side}
 use Rattle.table.specs.Scan.{anyBelow}
-use Rattle.table.specs.ScanLaws.{cases, IsFirst, any-here, has-any, any-false, any-true, any-below-false, any-below-true}
+use Rattle.table.specs.ScanLaws.{IsFirst, any-here, has-any, any-false, any-true, any-below-false, any-below-true}
 use Rattle.table.specs.Table.{Has, find, isFound}
 use Rattle.table.specs.TableLaws.{find-at, find-none}
 use Rattle.table.specs.declared.Found.{Found}

@@ -1,5 +1,5 @@
 -- What a step owes to valid tables (docs/MACHINE.md, 12): what it leaves is valid, a VM reaches only what it may, and
--- a page is cleared when, and only when, nobody claims it any longer. Secrecy rests on this.
+-- a page is cleared when a VM's last claim on it ends, and never while somebody claims it. Secrecy rests on this.
 use Prim.{Unit}
 use Prim.Native.Nat.{ℕ, _<_}
 use mathlib.Core.Bool.{Bool, true, false, _||_}

@@ -15,8 +15,10 @@ pub mod MemoryLaws
 pub mod Step
 pub mod ShapeLaws
 pub mod Start
-pub mod StartTold
+pub mod ToldLaws
 pub mod Sequence
+pub mod WriteLaws
+pub mod RefusedLaws
 pub mod Good
 pub mod Entries
 pub mod Upstream

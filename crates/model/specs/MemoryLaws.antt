@@ -8,8 +8,8 @@ use lib.Dec.{ltb}
 use lib.ListN.{length, getD, set, take, drop, replicate, length-set, length-drop}
 use lib.Seq.{length-take-le, drop-drop, getD-set-same, getD-set-other, set-out}
 use borrow.Author.Tests.{ltb-true, ltb-false}
+use Rattle.numbers.specs.CaseLaws.{cases, equal}
 use Rattle.numbers.specs.Limits.{PAGE-WORDS}
-use Rattle.table.specs.ScanLaws.{cases, equal}
 use Rattle.model.specs.Effect.{memoryIndex, wordIn, zeroed, clearPage, clearedPages, Store, stored, Effect, reads, writes, clears, apply}
 
 -- ---- a part set to zero

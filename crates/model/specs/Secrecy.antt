@@ -104,7 +104,7 @@ module _ (members : ℕ → Bool) (Secret : Tables → ℕ → Type 0) where
   abbrev pub Premise : Progress → Progress → List ℕ → List ℕ → ℕ → Type 0
   Premise p q rows rows′ count = (k : ℕ) → k < count → Asked (after rows k p .state) (after rows′ k q .state) (rowAt rows k) (rowAt rows′ k)
 
-  pub record Kept (p q : Progress) (rows rows′ : List ℕ) (count : ℕ) : Type 0 where
+  pub record StayAlike (p q : Progress) (rows rows′ : List ℕ) (count : ℕ) : Type 0 where
     pub states : (k : ℕ) → k ≤ count → Alike (after rows k p .state) (after rows′ k q .state)
     pub answers : (k : ℕ) → k < count →
         SameAnswer (after rows k p .state .tables) (operationIn (rowAt rows k)) (stepRow (after rows k p .state) (rowAt rows k) .answer) (stepRow (after rows′ k q .state) (rowAt rows′ k) .answer)

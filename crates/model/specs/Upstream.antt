@@ -10,7 +10,7 @@ use mathlib.Core.Path.{_≡_}
 use lib.Dec.{eqb, ltb}
 use lib.ListN.{length, getD}
 use Rattle.numbers.specs.Choice.{if_then_else_}
-use Rattle.numbers.specs.Limits.{VMS, PAGES, GUEST-PAGES, PORTS, READ, WRITE}
+use Rattle.numbers.specs.Limits.{VMS, PAGES, GUEST-PAGES, PORTS, READ, WRITE, EXECUTE}
 use Rattle.numbers.specs.Packing.{key, slotKey, keyOf, pageOf, accessOf, generationOf}
 use Rattle.table.specs.Table.{lookup}
 use Rattle.units.specs.declared.Region.{Region}
@@ -33,7 +33,7 @@ pub record S2Entry : Type 0 where
 
 -- an access number is a choice of the three flags
 abbrev pub permsOf : ℕ → AccessPerms
-permsOf access = record { read = eqb (access / READ % 2) 1; write = eqb (access / WRITE % 2) 1; execute = eqb (access / 4 % 2) 1 }
+permsOf access = record { read = eqb (access / READ % 2) 1; write = eqb (access / WRITE % 2) 1; execute = eqb (access / EXECUTE % 2) 1 }
 
 -- ---- sets and maps
 -- a map is none where it has no key: by VM and guest page, and by CPU or device, VM and guest page

@@ -37,7 +37,7 @@ SLOTS = 64
 abbrev pub UNITS : ℕ
 UNITS = 32
 
--- accesses: every sum of READ, WRITE and execute, which is 4
+-- accesses: every sum of READ, WRITE and EXECUTE; no operation asks for the last
 abbrev pub ACCESSES : ℕ
 ACCESSES = 8
 
@@ -46,6 +46,9 @@ READ = 1
 
 abbrev pub WRITE : ℕ
 WRITE = 2
+
+abbrev pub EXECUTE : ℕ
+EXECUTE = 4
 
 -- generations of an entry
 abbrev pub GENERATIONS : ℕ

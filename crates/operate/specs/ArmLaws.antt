@@ -15,7 +15,8 @@ use Rattle.numbers.specs.declared.Operation.{Operation}
 use Rattle.numbers.specs.declared.Operation.the-variants.{AddVm, RemoveVm, AssignPage, ReclaimPage, SharePage, UnsharePage, CpuMap, DmaMap, CpuUnmap, DmaUnmap, InsertRegion, RemoveRegion, DmaInsertRegion, DmaRemoveRegion, SwitchCpu, BindDevice, CpuFill, DmaFill, EmptyCpuSlot, EmptyDmaSlot, CpuRead, DmaRead, CpuWrite, DmaWrite, DataBarrier, InstructionBarrier}
 use Rattle.model.specs.Header.{tablesOf, stateOf}
 use Rattle.model.specs.declared.Machine.{Machine}
-use Rattle.operate.specs.Outcome.{outcome, withKnownIn, withCpusIn, withDevicesIn, withCpuHandIn, withDmaHandIn}
+use Rattle.operate.specs.declared.Registers.{Registers}
+use Rattle.operate.specs.Outcome.{outcome, withRegisters, withKnownIn, withCpusIn, withDevicesIn, withCpuHandIn, withDmaHandIn}
 use Rattle.model.specs.State.{Tables, Route, State, route, withRoute, withKnown, withSets, withPairs, withMaps, withCache, withPorts}
 use Rattle.model.specs.Effect.{Effect, Place, Store, reads, writes, clears, quiet, kept, decided, accepted, apply, clearedPages}
 use Rattle.model.specs.Ledger.{addVmAnswer, addVmKnown, removeVmAnswer, removeVmKnown, assignAnswer, assignSets, reclaimAnswer, reclaimSets, reclaimClears, shareAnswer, sharePairs, unshareAnswer, unsharePairs}
@@ -150,115 +151,118 @@ module _ (t : Tables) (memory : List ℕ) where
   write-arm (Accepted dropped word) vm stores = refl
   write-arm (Refused refusal index) vm stores = refl
 
--- ---- each operation, over a header and its lists
-module _ (m : Machine) (sets pairs cpuMap cpuWalker cpuCache dmaMap dmaWalker dmaCache memory : List ℕ) where
+-- ---- each operation, over what start fixed, the registers and the lists
+module _ (fixed : Machine) (r : Registers) (sets pairs cpuMap cpuWalker cpuCache dmaMap dmaWalker dmaCache memory : List ℕ) where
+  abbrev header : Machine
+  header = withRegisters fixed r
+
   abbrev here : Tables
-  here = tablesOf m sets pairs cpuMap cpuWalker cpuCache dmaMap dmaWalker dmaCache
+  here = tablesOf header sets pairs cpuMap cpuWalker cpuCache dmaMap dmaWalker dmaCache
 
   abbrev now : State
-  now = stateOf m sets pairs cpuMap cpuWalker cpuCache dmaMap dmaWalker dmaCache memory
+  now = stateOf header sets pairs cpuMap cpuWalker cpuCache dmaMap dmaWalker dmaCache memory
 
-  pub add-vm-step : (vm : VmId) → let a = addVmAnswer (m .known) (vm .0) in outcome a (withKnownIn m (kept a (m .known) (addVmKnown (m .known) (vm .0)))) sets pairs cpuMap cpuWalker cpuCache dmaMap dmaWalker dmaCache memory ≡ step now (AddVm vm)
+  pub add-vm-step : (vm : VmId) → let a = addVmAnswer (r .known) (vm .0) in outcome a (withRegisters fixed (withKnownIn r (kept a (r .known) (addVmKnown (r .known) (vm .0))))) sets pairs cpuMap cpuWalker cpuCache dmaMap dmaWalker dmaCache memory ≡ step now (AddVm vm)
   unfolding step control addVmControl
   add-vm-step vm = sym (known-arm here memory _ _)
 
-  pub remove-vm-step : (vm : VmId) → let a = removeVmAnswer (m .known) sets pairs cpuMap dmaMap (m .cpus) (m .devices) (vm .0) in outcome a (withKnownIn m (kept a (m .known) (removeVmKnown (m .known) (vm .0)))) sets pairs cpuMap cpuWalker cpuCache dmaMap dmaWalker dmaCache memory ≡ step now (RemoveVm vm)
+  pub remove-vm-step : (vm : VmId) → let a = removeVmAnswer (r .known) sets pairs cpuMap dmaMap (r .cpus) (r .devices) (vm .0) in outcome a (withRegisters fixed (withKnownIn r (kept a (r .known) (removeVmKnown (r .known) (vm .0))))) sets pairs cpuMap cpuWalker cpuCache dmaMap dmaWalker dmaCache memory ≡ step now (RemoveVm vm)
   unfolding step control removeVmControl
   remove-vm-step vm = sym (known-arm here memory _ _)
 
-  pub assign-step : (vm : VmId) (page : PhysPage) → let a = assignAnswer (m .known) (m .pages) sets (vm .0) (page .0) in outcome a m (kept a sets (assignSets sets (vm .0) (page .0))) pairs cpuMap cpuWalker cpuCache dmaMap dmaWalker dmaCache memory ≡ step now (AssignPage vm page)
+  pub assign-step : (vm : VmId) (page : PhysPage) → let a = assignAnswer (r .known) (fixed .pages) sets (vm .0) (page .0) in outcome a header (kept a sets (assignSets sets (vm .0) (page .0))) pairs cpuMap cpuWalker cpuCache dmaMap dmaWalker dmaCache memory ≡ step now (AssignPage vm page)
   unfolding step control assignControl
   assign-step vm page = sym (move-arm here memory _ _)
 
-  pub reclaim-step : (vm : VmId) (page : PhysPage) → let a = reclaimAnswer (m .known) (m .pages) sets pairs cpuMap (vm .0) (page .0) in outcome a m (kept a sets (reclaimSets sets (vm .0) (page .0))) pairs cpuMap cpuWalker cpuCache dmaMap dmaWalker dmaCache (apply (kept a quiet (clears (reclaimClears sets (vm .0) (page .0)))) memory) ≡ step now (ReclaimPage vm page)
+  pub reclaim-step : (vm : VmId) (page : PhysPage) → let a = reclaimAnswer (r .known) (fixed .pages) sets pairs cpuMap (vm .0) (page .0) in outcome a header (kept a sets (reclaimSets sets (vm .0) (page .0))) pairs cpuMap cpuWalker cpuCache dmaMap dmaWalker dmaCache (apply (kept a quiet (clears (reclaimClears sets (vm .0) (page .0)))) memory) ≡ step now (ReclaimPage vm page)
   unfolding step control reclaimControl
   reclaim-step vm page = sym (sets-arm here memory _ _ _)
 
-  pub share-step : (left right : VmId) (page : PhysPage) → let a = shareAnswer (m .known) (m .pages) sets pairs (left .0) (right .0) (page .0) in outcome a m sets (kept a pairs (sharePairs pairs (left .0) (right .0) (page .0))) cpuMap cpuWalker cpuCache dmaMap dmaWalker dmaCache memory ≡ step now (SharePage left right page)
+  pub share-step : (left right : VmId) (page : PhysPage) → let a = shareAnswer (r .known) (fixed .pages) sets pairs (left .0) (right .0) (page .0) in outcome a header sets (kept a pairs (sharePairs pairs (left .0) (right .0) (page .0))) cpuMap cpuWalker cpuCache dmaMap dmaWalker dmaCache memory ≡ step now (SharePage left right page)
   unfolding step control shareControl
   share-step left right page = sym (pairs-arm here memory _ _)
 
-  pub unshare-step : (left right : VmId) (page : PhysPage) → let a = unshareAnswer (m .known) (m .pages) sets pairs cpuMap (left .0) (right .0) (page .0) in outcome a m sets (kept a pairs (unsharePairs pairs (left .0) (right .0) (page .0))) cpuMap cpuWalker cpuCache dmaMap dmaWalker dmaCache memory ≡ step now (UnsharePage left right page)
+  pub unshare-step : (left right : VmId) (page : PhysPage) → let a = unshareAnswer (r .known) (fixed .pages) sets pairs cpuMap (left .0) (right .0) (page .0) in outcome a header sets (kept a pairs (unsharePairs pairs (left .0) (right .0) (page .0))) cpuMap cpuWalker cpuCache dmaMap dmaWalker dmaCache memory ≡ step now (UnsharePage left right page)
   unfolding step control unshareControl
   unshare-step left right page = sym (pairs-arm here memory _ _)
 
-  pub cpu-map-step : (vm : VmId) (guest : GuestPage) (page : PhysPage) (access generation : ℕ) → let a = mapAnswer Cpu (m .known) (m .pages) sets pairs cpuMap cpuCache (vm .0) (guest .0) (page .0) access generation in outcome a m sets pairs (kept a cpuMap (mapTable cpuMap (vm .0) (guest .0) (page .0) access generation)) (kept a cpuWalker (mapTable cpuWalker (vm .0) (guest .0) (page .0) access generation)) (kept a cpuCache (withoutSlots cpuCache (vm .0) (guest .0))) dmaMap dmaWalker dmaCache memory ≡ step now (CpuMap vm guest page access generation)
+  pub cpu-map-step : (vm : VmId) (guest : GuestPage) (page : PhysPage) (access generation : ℕ) → let a = mapAnswer Cpu (r .known) (fixed .pages) sets pairs cpuMap cpuCache (vm .0) (guest .0) (page .0) access generation in outcome a header sets pairs (kept a cpuMap (mapTable cpuMap (vm .0) (guest .0) (page .0) access generation)) (kept a cpuWalker (mapTable cpuWalker (vm .0) (guest .0) (page .0) access generation)) (kept a cpuCache (withoutSlots cpuCache (vm .0) (guest .0))) dmaMap dmaWalker dmaCache memory ≡ step now (CpuMap vm guest page access generation)
   unfolding step control mapControl
   cpu-map-step vm guest page access generation = sym (maps-arm here memory Cpu _ _ _ _)
 
-  pub cpu-unmap-step : (vm : VmId) (guest : GuestPage) → let a = unmapAnswer (m .known) cpuMap cpuCache (vm .0) (guest .0) in outcome a m sets pairs (kept a cpuMap (unmapTable cpuMap (vm .0) (guest .0))) (kept a cpuWalker (unmapTable cpuWalker (vm .0) (guest .0))) (kept a cpuCache (withoutSlots cpuCache (vm .0) (guest .0))) dmaMap dmaWalker dmaCache memory ≡ step now (CpuUnmap vm guest)
+  pub cpu-unmap-step : (vm : VmId) (guest : GuestPage) → let a = unmapAnswer (r .known) cpuMap cpuCache (vm .0) (guest .0) in outcome a header sets pairs (kept a cpuMap (unmapTable cpuMap (vm .0) (guest .0))) (kept a cpuWalker (unmapTable cpuWalker (vm .0) (guest .0))) (kept a cpuCache (withoutSlots cpuCache (vm .0) (guest .0))) dmaMap dmaWalker dmaCache memory ≡ step now (CpuUnmap vm guest)
   unfolding step control unmapControl
   cpu-unmap-step vm guest = sym (maps-arm here memory Cpu _ _ _ _)
 
-  pub cpu-insert-step : (vm : VmId) (guest : GuestPage) (page : PhysPage) (count access : ℕ) → let a = insertAnswer Cpu (m .known) (m .pages) (m .units) (m .«unit_count») sets cpuMap (regionOf vm guest page count access) in outcome a m (kept a sets (insertSets Cpu sets (regionOf vm guest page count access))) pairs (kept a cpuMap (insertTable cpuMap (regionOf vm guest page count access))) (kept a cpuWalker (insertTable cpuWalker (regionOf vm guest page count access))) cpuCache dmaMap dmaWalker dmaCache memory ≡ step now (InsertRegion vm guest page count access)
+  pub cpu-insert-step : (vm : VmId) (guest : GuestPage) (page : PhysPage) (count access : ℕ) → let a = insertAnswer Cpu (r .known) (fixed .pages) (fixed .units) (fixed .«unit_count») sets cpuMap (regionOf vm guest page count access) in outcome a header (kept a sets (insertSets Cpu sets (regionOf vm guest page count access))) pairs (kept a cpuMap (insertTable cpuMap (regionOf vm guest page count access))) (kept a cpuWalker (insertTable cpuWalker (regionOf vm guest page count access))) cpuCache dmaMap dmaWalker dmaCache memory ≡ step now (InsertRegion vm guest page count access)
   unfolding step control insertControl
   cpu-insert-step vm guest page count access = sym (insert-arm here memory Cpu _ _ _ _)
 
-  pub cpu-remove-step : (vm : VmId) (guest : GuestPage) (page : PhysPage) (count access : ℕ) → let a = removeAnswer Cpu (m .known) (m .pages) (m .units) (m .«unit_count») sets pairs cpuMap cpuCache (regionOf vm guest page count access) in outcome a m (kept a sets (removeSets Cpu sets (regionOf vm guest page count access))) pairs (kept a cpuMap (removeTable cpuMap (regionOf vm guest page count access))) (kept a cpuWalker (removeTable cpuWalker (regionOf vm guest page count access))) (kept a cpuCache (removeTable cpuCache (regionOf vm guest page count access))) dmaMap dmaWalker dmaCache (apply (kept a quiet (clears (removeClears Cpu sets (regionOf vm guest page count access)))) memory) ≡ step now (RemoveRegion vm guest page count access)
+  pub cpu-remove-step : (vm : VmId) (guest : GuestPage) (page : PhysPage) (count access : ℕ) → let a = removeAnswer Cpu (r .known) (fixed .pages) (fixed .units) (fixed .«unit_count») sets pairs cpuMap cpuCache (regionOf vm guest page count access) in outcome a header (kept a sets (removeSets Cpu sets (regionOf vm guest page count access))) pairs (kept a cpuMap (removeTable cpuMap (regionOf vm guest page count access))) (kept a cpuWalker (removeTable cpuWalker (regionOf vm guest page count access))) (kept a cpuCache (removeTable cpuCache (regionOf vm guest page count access))) dmaMap dmaWalker dmaCache (apply (kept a quiet (clears (removeClears Cpu sets (regionOf vm guest page count access)))) memory) ≡ step now (RemoveRegion vm guest page count access)
   unfolding step control removeControl
   cpu-remove-step vm guest page count access = sym (region-arm here memory Cpu _ _ _ _ _ _)
 
-  pub cpu-port-step : (port : ℕ) (target : Target) → let a = portAnswer (m .known) port target in outcome a (withCpusIn m (kept a (m .cpus) (portPorts (m .cpus) port target))) sets pairs cpuMap cpuWalker cpuCache dmaMap dmaWalker dmaCache memory ≡ step now (SwitchCpu port target)
+  pub cpu-port-step : (port : ℕ) (target : Target) → let a = portAnswer (r .known) port target in outcome a (withRegisters fixed (withCpusIn r (kept a (r .cpus) (portPorts (r .cpus) port target)))) sets pairs cpuMap cpuWalker cpuCache dmaMap dmaWalker dmaCache memory ≡ step now (SwitchCpu port target)
   unfolding step control portControl
   cpu-port-step port target = sym (ports-arm here memory Cpu _ _)
 
-  pub cpu-fill-step : (port : ℕ) (guest : GuestPage) → let a = fillAnswer (m .cpus) cpuWalker port (guest .0) in outcome a (withCpuHandIn m (kept a (m .«cpu_hand») (fillHand cpuCache (m .«cpu_hand») (m .cpus) port (guest .0)))) sets pairs cpuMap cpuWalker (kept a cpuCache (fillCache cpuCache (m .«cpu_hand») (m .cpus) cpuWalker port (guest .0))) dmaMap dmaWalker dmaCache memory ≡ step now (CpuFill port guest)
+  pub cpu-fill-step : (port : ℕ) (guest : GuestPage) → let a = fillAnswer (r .cpus) cpuWalker port (guest .0) in outcome a (withRegisters fixed (withCpuHandIn r (kept a (r .«cpu_hand») (fillHand cpuCache (r .«cpu_hand») (r .cpus) port (guest .0))))) sets pairs cpuMap cpuWalker (kept a cpuCache (fillCache cpuCache (r .«cpu_hand») (r .cpus) cpuWalker port (guest .0))) dmaMap dmaWalker dmaCache memory ≡ step now (CpuFill port guest)
   unfolding step control fillControl
   cpu-fill-step port guest = sym (cache-arm here memory Cpu _ _ _)
 
-  pub cpu-empty-step : (slot : ℕ) → let a = emptyAnswer slot in outcome a m sets pairs cpuMap cpuWalker (kept a cpuCache (emptyCache cpuCache slot)) dmaMap dmaWalker dmaCache memory ≡ step now (EmptyCpuSlot slot)
+  pub cpu-empty-step : (slot : ℕ) → let a = emptyAnswer slot in outcome a header sets pairs cpuMap cpuWalker (kept a cpuCache (emptyCache cpuCache slot)) dmaMap dmaWalker dmaCache memory ≡ step now (EmptyCpuSlot slot)
   unfolding step control emptyControl
   cpu-empty-step slot = sym (empty-arm here memory Cpu _ _)
 
-  pub cpu-read-step : (port : ℕ) (guest : GuestPage) (word : ℕ) → let a = accessAnswer (m .cpus) cpuCache cpuWalker READ port (guest .0) word in outcome (answerWith (kept a quiet (reads (vmOn (m .cpus) port) (accessPlace (m .cpus) cpuCache cpuWalker port (guest .0) word ∷ []))) memory a) m sets pairs cpuMap cpuWalker cpuCache dmaMap dmaWalker dmaCache memory ≡ step now (CpuRead port guest word)
+  pub cpu-read-step : (port : ℕ) (guest : GuestPage) (word : ℕ) → let a = accessAnswer (r .cpus) cpuCache cpuWalker READ port (guest .0) word in outcome (answerWith (kept a quiet (reads (vmOn (r .cpus) port) (accessPlace (r .cpus) cpuCache cpuWalker port (guest .0) word ∷ []))) memory a) header sets pairs cpuMap cpuWalker cpuCache dmaMap dmaWalker dmaCache memory ≡ step now (CpuRead port guest word)
   unfolding step control readControl
   cpu-read-step port guest word = sym (read-arm here memory _ _ _)
 
-  pub cpu-write-step : (port : ℕ) (guest : GuestPage) (word value : ℕ) → let a = accessAnswer (m .cpus) cpuCache cpuWalker WRITE port (guest .0) word in outcome a m sets pairs cpuMap cpuWalker cpuCache dmaMap dmaWalker dmaCache (apply (kept a quiet (writes (vmOn (m .cpus) port) (record { place = accessPlace (m .cpus) cpuCache cpuWalker port (guest .0) word; value = value } ∷ []))) memory) ≡ step now (CpuWrite port guest word value)
+  pub cpu-write-step : (port : ℕ) (guest : GuestPage) (word value : ℕ) → let a = accessAnswer (r .cpus) cpuCache cpuWalker WRITE port (guest .0) word in outcome a header sets pairs cpuMap cpuWalker cpuCache dmaMap dmaWalker dmaCache (apply (kept a quiet (writes (vmOn (r .cpus) port) (record { place = accessPlace (r .cpus) cpuCache cpuWalker port (guest .0) word; value = value } ∷ []))) memory) ≡ step now (CpuWrite port guest word value)
   unfolding step control writeControl
   cpu-write-step port guest word value = sym (write-arm here memory _ _ _)
 
-  pub dma-map-step : (vm : VmId) (guest : GuestPage) (page : PhysPage) (access generation : ℕ) → let a = mapAnswer Dma (m .known) (m .pages) sets pairs dmaMap dmaCache (vm .0) (guest .0) (page .0) access generation in outcome a m sets pairs cpuMap cpuWalker cpuCache (kept a dmaMap (mapTable dmaMap (vm .0) (guest .0) (page .0) access generation)) (kept a dmaWalker (mapTable dmaWalker (vm .0) (guest .0) (page .0) access generation)) (kept a dmaCache (withoutSlots dmaCache (vm .0) (guest .0))) memory ≡ step now (DmaMap vm guest page access generation)
+  pub dma-map-step : (vm : VmId) (guest : GuestPage) (page : PhysPage) (access generation : ℕ) → let a = mapAnswer Dma (r .known) (fixed .pages) sets pairs dmaMap dmaCache (vm .0) (guest .0) (page .0) access generation in outcome a header sets pairs cpuMap cpuWalker cpuCache (kept a dmaMap (mapTable dmaMap (vm .0) (guest .0) (page .0) access generation)) (kept a dmaWalker (mapTable dmaWalker (vm .0) (guest .0) (page .0) access generation)) (kept a dmaCache (withoutSlots dmaCache (vm .0) (guest .0))) memory ≡ step now (DmaMap vm guest page access generation)
   unfolding step control mapControl
   dma-map-step vm guest page access generation = sym (maps-arm here memory Dma _ _ _ _)
 
-  pub dma-unmap-step : (vm : VmId) (guest : GuestPage) → let a = unmapAnswer (m .known) dmaMap dmaCache (vm .0) (guest .0) in outcome a m sets pairs cpuMap cpuWalker cpuCache (kept a dmaMap (unmapTable dmaMap (vm .0) (guest .0))) (kept a dmaWalker (unmapTable dmaWalker (vm .0) (guest .0))) (kept a dmaCache (withoutSlots dmaCache (vm .0) (guest .0))) memory ≡ step now (DmaUnmap vm guest)
+  pub dma-unmap-step : (vm : VmId) (guest : GuestPage) → let a = unmapAnswer (r .known) dmaMap dmaCache (vm .0) (guest .0) in outcome a header sets pairs cpuMap cpuWalker cpuCache (kept a dmaMap (unmapTable dmaMap (vm .0) (guest .0))) (kept a dmaWalker (unmapTable dmaWalker (vm .0) (guest .0))) (kept a dmaCache (withoutSlots dmaCache (vm .0) (guest .0))) memory ≡ step now (DmaUnmap vm guest)
   unfolding step control unmapControl
   dma-unmap-step vm guest = sym (maps-arm here memory Dma _ _ _ _)
 
-  pub dma-insert-step : (vm : VmId) (guest : GuestPage) (page : PhysPage) (count access : ℕ) → let a = insertAnswer Dma (m .known) (m .pages) (m .units) (m .«unit_count») sets dmaMap (regionOf vm guest page count access) in outcome a m (kept a sets (insertSets Dma sets (regionOf vm guest page count access))) pairs cpuMap cpuWalker cpuCache (kept a dmaMap (insertTable dmaMap (regionOf vm guest page count access))) (kept a dmaWalker (insertTable dmaWalker (regionOf vm guest page count access))) dmaCache memory ≡ step now (DmaInsertRegion vm guest page count access)
+  pub dma-insert-step : (vm : VmId) (guest : GuestPage) (page : PhysPage) (count access : ℕ) → let a = insertAnswer Dma (r .known) (fixed .pages) (fixed .units) (fixed .«unit_count») sets dmaMap (regionOf vm guest page count access) in outcome a header (kept a sets (insertSets Dma sets (regionOf vm guest page count access))) pairs cpuMap cpuWalker cpuCache (kept a dmaMap (insertTable dmaMap (regionOf vm guest page count access))) (kept a dmaWalker (insertTable dmaWalker (regionOf vm guest page count access))) dmaCache memory ≡ step now (DmaInsertRegion vm guest page count access)
   unfolding step control insertControl
   dma-insert-step vm guest page count access = sym (insert-arm here memory Dma _ _ _ _)
 
-  pub dma-remove-step : (vm : VmId) (guest : GuestPage) (page : PhysPage) (count access : ℕ) → let a = removeAnswer Dma (m .known) (m .pages) (m .units) (m .«unit_count») sets pairs dmaMap dmaCache (regionOf vm guest page count access) in outcome a m (kept a sets (removeSets Dma sets (regionOf vm guest page count access))) pairs cpuMap cpuWalker cpuCache (kept a dmaMap (removeTable dmaMap (regionOf vm guest page count access))) (kept a dmaWalker (removeTable dmaWalker (regionOf vm guest page count access))) (kept a dmaCache (removeTable dmaCache (regionOf vm guest page count access))) (apply (kept a quiet (clears (removeClears Dma sets (regionOf vm guest page count access)))) memory) ≡ step now (DmaRemoveRegion vm guest page count access)
+  pub dma-remove-step : (vm : VmId) (guest : GuestPage) (page : PhysPage) (count access : ℕ) → let a = removeAnswer Dma (r .known) (fixed .pages) (fixed .units) (fixed .«unit_count») sets pairs dmaMap dmaCache (regionOf vm guest page count access) in outcome a header (kept a sets (removeSets Dma sets (regionOf vm guest page count access))) pairs cpuMap cpuWalker cpuCache (kept a dmaMap (removeTable dmaMap (regionOf vm guest page count access))) (kept a dmaWalker (removeTable dmaWalker (regionOf vm guest page count access))) (kept a dmaCache (removeTable dmaCache (regionOf vm guest page count access))) (apply (kept a quiet (clears (removeClears Dma sets (regionOf vm guest page count access)))) memory) ≡ step now (DmaRemoveRegion vm guest page count access)
   unfolding step control removeControl
   dma-remove-step vm guest page count access = sym (region-arm here memory Dma _ _ _ _ _ _)
 
-  pub dma-port-step : (port : ℕ) (target : Target) → let a = portAnswer (m .known) port target in outcome a (withDevicesIn m (kept a (m .devices) (portPorts (m .devices) port target))) sets pairs cpuMap cpuWalker cpuCache dmaMap dmaWalker dmaCache memory ≡ step now (BindDevice port target)
+  pub dma-port-step : (port : ℕ) (target : Target) → let a = portAnswer (r .known) port target in outcome a (withRegisters fixed (withDevicesIn r (kept a (r .devices) (portPorts (r .devices) port target)))) sets pairs cpuMap cpuWalker cpuCache dmaMap dmaWalker dmaCache memory ≡ step now (BindDevice port target)
   unfolding step control portControl
   dma-port-step port target = sym (ports-arm here memory Dma _ _)
 
-  pub dma-fill-step : (port : ℕ) (guest : GuestPage) → let a = fillAnswer (m .devices) dmaWalker port (guest .0) in outcome a (withDmaHandIn m (kept a (m .«dma_hand») (fillHand dmaCache (m .«dma_hand») (m .devices) port (guest .0)))) sets pairs cpuMap cpuWalker cpuCache dmaMap dmaWalker (kept a dmaCache (fillCache dmaCache (m .«dma_hand») (m .devices) dmaWalker port (guest .0))) memory ≡ step now (DmaFill port guest)
+  pub dma-fill-step : (port : ℕ) (guest : GuestPage) → let a = fillAnswer (r .devices) dmaWalker port (guest .0) in outcome a (withRegisters fixed (withDmaHandIn r (kept a (r .«dma_hand») (fillHand dmaCache (r .«dma_hand») (r .devices) port (guest .0))))) sets pairs cpuMap cpuWalker cpuCache dmaMap dmaWalker (kept a dmaCache (fillCache dmaCache (r .«dma_hand») (r .devices) dmaWalker port (guest .0))) memory ≡ step now (DmaFill port guest)
   unfolding step control fillControl
   dma-fill-step port guest = sym (cache-arm here memory Dma _ _ _)
 
-  pub dma-empty-step : (slot : ℕ) → let a = emptyAnswer slot in outcome a m sets pairs cpuMap cpuWalker cpuCache dmaMap dmaWalker (kept a dmaCache (emptyCache dmaCache slot)) memory ≡ step now (EmptyDmaSlot slot)
+  pub dma-empty-step : (slot : ℕ) → let a = emptyAnswer slot in outcome a header sets pairs cpuMap cpuWalker cpuCache dmaMap dmaWalker (kept a dmaCache (emptyCache dmaCache slot)) memory ≡ step now (EmptyDmaSlot slot)
   unfolding step control emptyControl
   dma-empty-step slot = sym (empty-arm here memory Dma _ _)
 
-  pub dma-read-step : (port : ℕ) (guest : GuestPage) (word : ℕ) → let a = accessAnswer (m .devices) dmaCache dmaWalker READ port (guest .0) word in outcome (answerWith (kept a quiet (reads (vmOn (m .devices) port) (accessPlace (m .devices) dmaCache dmaWalker port (guest .0) word ∷ []))) memory a) m sets pairs cpuMap cpuWalker cpuCache dmaMap dmaWalker dmaCache memory ≡ step now (DmaRead port guest word)
+  pub dma-read-step : (port : ℕ) (guest : GuestPage) (word : ℕ) → let a = accessAnswer (r .devices) dmaCache dmaWalker READ port (guest .0) word in outcome (answerWith (kept a quiet (reads (vmOn (r .devices) port) (accessPlace (r .devices) dmaCache dmaWalker port (guest .0) word ∷ []))) memory a) header sets pairs cpuMap cpuWalker cpuCache dmaMap dmaWalker dmaCache memory ≡ step now (DmaRead port guest word)
   unfolding step control readControl
   dma-read-step port guest word = sym (read-arm here memory _ _ _)
 
-  pub dma-write-step : (port : ℕ) (guest : GuestPage) (word value : ℕ) → let a = accessAnswer (m .devices) dmaCache dmaWalker WRITE port (guest .0) word in outcome a m sets pairs cpuMap cpuWalker cpuCache dmaMap dmaWalker dmaCache (apply (kept a quiet (writes (vmOn (m .devices) port) (record { place = accessPlace (m .devices) dmaCache dmaWalker port (guest .0) word; value = value } ∷ []))) memory) ≡ step now (DmaWrite port guest word value)
+  pub dma-write-step : (port : ℕ) (guest : GuestPage) (word value : ℕ) → let a = accessAnswer (r .devices) dmaCache dmaWalker WRITE port (guest .0) word in outcome a header sets pairs cpuMap cpuWalker cpuCache dmaMap dmaWalker dmaCache (apply (kept a quiet (writes (vmOn (r .devices) port) (record { place = accessPlace (r .devices) dmaCache dmaWalker port (guest .0) word; value = value } ∷ []))) memory) ≡ step now (DmaWrite port guest word value)
   unfolding step control writeControl
   dma-write-step port guest word value = sym (write-arm here memory _ _ _)
 
-  pub data-barrier-step : outcome accepted m sets pairs cpuMap cpuWalker cpuCache dmaMap dmaWalker dmaCache memory ≡ step now DataBarrier
+  pub data-barrier-step : outcome accepted header sets pairs cpuMap cpuWalker cpuCache dmaMap dmaWalker dmaCache memory ≡ step now DataBarrier
   unfolding step control decided apply clearedPages
   data-barrier-step = refl
 
-  pub instruction-barrier-step : outcome accepted m sets pairs cpuMap cpuWalker cpuCache dmaMap dmaWalker dmaCache memory ≡ step now InstructionBarrier
+  pub instruction-barrier-step : outcome accepted header sets pairs cpuMap cpuWalker cpuCache dmaMap dmaWalker dmaCache memory ≡ step now InstructionBarrier
   unfolding step control decided apply clearedPages
   instruction-barrier-step = refl
 

@@ -1,29 +1,23 @@
 -- Laws of one bit of a word, its ties to shift and mask, and the laws of sets of numbers kept as bits of words.
 use Prim.Native.Nat.{ℕ, _+_, _-_, _*_, _/_, _%_, _^_, _≤_, _<_}
-use mathlib.Core.Bool.{Bool, true, false}
+use mathlib.Core.Bool.{true, false}
 use mathlib.Core.List.{List}
 use mathlib.Core.Logic.{_⊎_, inl, inr, ⊎-elim}
-use mathlib.Core.Path.{_≡_, refl, sym, ap, _∙_}
+use mathlib.Core.Path.{_≡_, sym, ap, _∙_}
 use native.Mathlib.Nat.{div-eq-of-lt, mod-lt, mod-eq-of-lt, div-add-mod', one-mul}
 use native.Mathlib.Omega.{arith}
 use borrow.Author.Tests.{eqb-true, eqb-false, ltb-true, ltb-false}
 use lib.Bits.{bitAnd, bitOr, and-block, and-mask, and-high, or-add-and, or-lt}
-use lib.Dec.{eqb, ltb, lit<}
+use lib.Dec.{ltb, lit<}
 use lib.ListN.{length, getD, set, length-set, List·getD-eq-default}
 use lib.Pow.{pow-add, pow-lt, pow-pos, shl-exact, shr-shr, shr-lt, split, high, low, field, mod-mod-pow, mod-pow-add, ones-split}
 use lib.Seq.{getD-set-same, getD-set-other, set-out}
+use Rattle.numbers.specs.CaseLaws.{cases, equal}
 use Rattle.pages.specs.Bits.{bit, hasBit, withBit, withoutBit, contains, insert, delete}
 
--- ---- one of two cases
-pub decide : (t : Bool) → (t ≡ true) ⊎ (t ≡ false)
-decide true = inl refl
-decide false = inr refl
-
-pub equal-or : (a b : ℕ) → (a ≡ b) ⊎ (a ≡ b → ⊥)
-equal-or a b = ⊎-elim (λ t. inl (eqb-true a b t)) (λ f. inr (eqb-false a b f)) (decide (eqb a b))
-
+-- ---- below a number or not
 pub below-or : (a b : ℕ) → (a < b) ⊎ (b ≤ a)
-below-or a b = ⊎-elim (λ t. inl (ltb-true a b t)) (λ f. inr (ltb-false a b f)) (decide (ltb a b))
+below-or a b = ⊎-elim (λ t. inl (ltb-true a b t)) (λ f. inr (ltb-false a b f)) (cases (ltb a b))
 
 -- ---- one bit
 pub bit-lt : (w k : ℕ) → bit w k < 2
@@ -154,7 +148,7 @@ module _ (ws : List ℕ) (i : ℕ) where
   set-other : (j v : ℕ) → (j ≡ i → ⊥) → ((k : ℕ) → (k ≡ i % 64 → ⊥) → hasBit v k ≡ hasBit (getD ws (i / 64) 0) k) →
       contains (set ws (i / 64) v) j ≡ contains ws j
   unfolding contains
-  set-other j v n same = ⊎-elim (λ e. ⊎-elim (here e) outside (below-or (i / 64) (length ws))) there (equal-or (j / 64) (i / 64))
+  set-other j v n same = ⊎-elim (λ e. ⊎-elim (here e) outside (below-or (i / 64) (length ws))) there (equal (j / 64) (i / 64))
     where
       here : j / 64 ≡ i / 64 → i / 64 < length ws → contains (set ws (i / 64) v) j ≡ contains ws j
       here e h = rw (e, getD-set-same ws (i / 64) v 0 h) (same (j % 64) (λ q. n (omega arith)))

@@ -3,3 +3,4 @@ pub mod Bits
 pub mod Rows
 pub mod BitLaws
 pub mod RowLaws
+pub mod WordLaws

@@ -10,13 +10,12 @@ use borrow.Author.Count.{below-more}
 use borrow.Author.Tests.{eq-eqb, ne-eqb, eqb-true, eqb-false}
 use lib.Dec.{eqb}
 use lib.ListN.{length}
+use Rattle.numbers.specs.CaseLaws.{cases, equal}
 use Rattle.numbers.specs.Limits.{PAGES, SET-WORDS}
 use Rattle.numbers.specs.declared.Lowest.the-variants.{Page, Nothing}
 use Rattle.numbers.specs.declared.PhysPage.{PhysPage}
 use Rattle.table.specs.Scan.{countBelow, lowest, lowestFrom}
 use Rattle.pages.specs.BitLaws.{
-  decide,
-  equal-or,
   below-or,
   contains-insert-same,
   contains-insert-other,
@@ -59,7 +58,7 @@ module _ (sets : List ℕ) (row page : ℕ) where
 module _ (p : ℕ → Bool) where
   count-le : (n : ℕ) → countBelow p n ≤ n
   count-le zero = omega arith
-  count-le (suc n) = ⊎-elim (λ t. rw t (omega (arith, count-le n))) (λ f. rw f (omega (arith, count-le n))) (decide (p n))
+  count-le (suc n) = ⊎-elim (λ t. rw t (omega (arith, count-le n))) (λ f. rw f (omega (arith, count-le n))) (cases (p n))
 
   count-zero : (n : ℕ) → ((k : ℕ) → k < n → p k ≡ false) → countBelow p n ≡ 0
   count-zero zero h = refl
@@ -71,7 +70,7 @@ module _ (p : ℕ → Bool) where
       ⊎-elim
       (λ t. absurd (omega (arith, rw t at e)))
       (λ f. below-more _ n (count-none n (rw f at e)) f k (omega arith))
-      (decide (p n))
+      (cases (p n))
 
   -- what the search of the n numbers from i on says of where it ends
   record Ends (i n stop : ℕ) : Type 0 where
@@ -81,13 +80,13 @@ module _ (p : ℕ → Bool) where
 
   ends : (i n : ℕ) → Ends i n (lowestFrom p i n)
   ends i zero = record { within = omega arith; below = λ k a b. absurd (omega arith); here = λ h. absurd (omega arith) }
-  ends i (suc n) = ⊎-elim found (later (ends (suc i) n)) (decide (p i))
+  ends i (suc n) = ⊎-elim found (later (ends (suc i) n)) (cases (p i))
     where
       found : p i ≡ true → Ends i (suc n) (lowestFrom p i (suc n))
       found t = rw t (record { within = omega arith; below = λ k a b. absurd (omega arith); here = λ h. t })
 
       low : Ends (suc i) n (lowestFrom p (suc i) n) → p i ≡ false → (k : ℕ) → i ≤ k → k < lowestFrom p (suc i) n → p k ≡ false
-      low e f k a b = ⊎-elim (λ q. rw q f) (λ d. e .below k (omega arith) b) (equal-or k i)
+      low e f k a b = ⊎-elim (λ q. rw q f) (λ d. e .below k (omega arith) b) (equal k i)
 
       later : Ends (suc i) n (lowestFrom p (suc i) n) → p i ≡ false → Ends i (suc n) (lowestFrom p i (suc n))
       later e f = rw f (record { within = omega (arith, e .within); below = low e f; here = λ h. e .here (omega arith) })
@@ -110,7 +109,7 @@ module _ (p q : ℕ → Bool) where
   count-one : (i n : ℕ) → i < n → p i ≡ true → q i ≡ false → ((k : ℕ) → (k ≡ i → ⊥) → q k ≡ p k) →
       countBelow q n + 1 ≡ countBelow p n
   count-one i zero l t f h = absurd (omega arith)
-  count-one i (suc n) l t f h = ⊎-elim last (earlier (λ g. count-one i n g t f h)) (equal-or n i)
+  count-one i (suc n) l t f h = ⊎-elim last (earlier (λ g. count-one i n g t f h)) (equal n i)
     where
       last : n ≡ i → countBelow q (suc n) + 1 ≡ countBelow p (suc n)
       last e = let r = count-alike n (λ k g. h k (omega arith)) in rw (e, t, f, ← e) (omega arith)
@@ -118,7 +117,7 @@ module _ (p q : ℕ → Bool) where
       earlier : (i < n → countBelow q n + 1 ≡ countBelow p n) → (n ≡ i → ⊥) → countBelow q (suc n) + 1 ≡ countBelow p (suc n)
       earlier r d =
           let e = r (omega arith) in
-          rw (h n d) (⊎-elim (λ g. rw g (omega arith)) (λ g. rw g (omega arith)) (decide (p n)))
+          rw (h n d) (⊎-elim (λ g. rw g (omega arith)) (λ g. rw g (omega arith)) (cases (p n)))
 
 -- ---- the free pages
 abbrev pub inPool : List ℕ → ℕ → Bool
@@ -141,14 +140,14 @@ page-nothing : (page : PhysPage) → Page page ≡ Nothing → ⊥
 page-nothing page e = let z : _≡_ {A = ℕ} 0 1 = cc in omega arith
 
 at-end : (n stop : ℕ) → lowestOf n stop ≡ Nothing → stop ≡ n
-at-end n stop e = ⊎-elim (λ t. eqb-true stop n t) (λ f. absurd (page-nothing _ (rw f at e))) (decide (eqb stop n))
+at-end n stop e = ⊎-elim (λ t. eqb-true stop n t) (λ f. absurd (page-nothing _ (rw f at e))) (cases (eqb stop n))
 
 at-page : (n stop : ℕ) (page : PhysPage) → lowestOf n stop ≡ Page page → (stop ≡ page .0) × (stop ≡ n → ⊥)
 at-page n stop page e =
     ⊎-elim
     (λ t. absurd (page-nothing page (sym (rw t at e))))
     (λ f. let e′ = rw f at e in (cc, eqb-false stop n f))
-    (decide (eqb stop n))
+    (cases (eqb stop n))
 
 module _ (sets : List ℕ) (n : ℕ) where
   -- the count, one page further

@@ -3,6 +3,7 @@ ghost use mathlib.Core.Path.{_≡_};
 ghost use Prim.Native.Nat.{_+_, _*_, _/_, _<_, _≤_};
 ghost use lib.ListN.{length};
 ghost use Rattle.numbers.specs.Limits.{PAGES, SET-WORDS};
+ghost use Rattle.table.specs.Scan.{anyBelow};
 ghost use Rattle.pages.specs.Bits.{hasBit, withBit, withoutBit};
 ghost use Rattle.pages.specs.Rows.{cpuRow, dmaRow, holds, add, remove, freeCount, lowestFree};
 use numbers::Lowest;
@@ -84,6 +85,23 @@ pub fn remove(sets: &mut [u64], row: u64, page: PhysPage)
 {
     let at = word_of(row, page);
     sets[at] = without_bit(sets[at], page.0 % 64);
+}
+
+// ---- Whether a set has a page at all: it has one exactly where a word of it is not 0.
+
+pub fn holds_any(sets: &[u64], row: u64) -> bool
+    requires { ⌜ (row + 1) * SET-WORDS ≤ length (now sets) ⌝ }
+    ensures { λ r. ⌜ r ≡ anyBelow (λ page. holds (now (sets .entry)) row page) PAGES ⌝ }
+{
+    let from = word_of(row, PhysPage(0));
+    let mut k = 0;
+    while k < SET_WORDS {
+        if sets[from + k] != 0 {
+            return true;
+        }
+        k += 1;
+    }
+    false
 }
 
 // ---- The free pages of a machine of so many pages: those in the pool. Each visits every page.

@@ -10,11 +10,12 @@ use borrow.Author.Tests.{eqb-true, le-leb, lt-leb, lt-ltb, le-ltb, ltb-true, ltb
 use lib.Dec.{eqb, ltb}
 use lib.ListN.{length, getD, set, drop, length-append, drop-of-length-le}
 use lib.Seq.{append-snoc, drop-cons}
+use Rattle.numbers.specs.CaseLaws.{cases}
 use Rattle.numbers.specs.Choice.{if_then_else_}
 use Rattle.numbers.specs.Limits.{IDLE, ROW-NUMBERS}
 use Rattle.script.specs.Lines.{RETURN, HASH, isBlank, withoutReturn, withoutComment, whole, wordsFrom, wordOf, isNumber, allNumbers, valueOf, boxOf, unitOf, rowOf, freeOf, numbersIn, takesIdle, second, withoutIdle, meaning, lineOf}
 use Rattle.script.specs.Steps.{firstPart, lengthened, spoilt, pushed, isEmpty, numberBy, opened, mayIdle, withIdle, added, ended, lineFrom, taken, arrived, fedWith, noWords, noText, lineStart, textEnd, lineEnd, fedAll}
-use Rattle.script.specs.WordLaws.{cases, either, partAll, part-snoc, first-begun, stays-begun, word-read}
+use Rattle.script.specs.WordLaws.{either, partAll, part-snoc, first-begun, stays-begun, word-read}
 use Rattle.script.specs.declared.Word.{Word}
 use Rattle.script.specs.declared.Word.the-variants.{Number, BoxWord, UnitWord, FreeWord, IdleWord, OtherWord}
 use Rattle.script.specs.declared.Part.{Part}

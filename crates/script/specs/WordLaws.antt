@@ -3,7 +3,6 @@ use Prim.{Unit, tt}
 use Prim.Native.Nat.{ℕ, _+_, _-_, _*_, _/_, _%_, _≤_, _<_}
 use mathlib.Core.Bool.{Bool, true, false, true≢false}
 use mathlib.Core.List.{List, [], _∷_, _++_}
-use mathlib.Core.Logic.{_⊎_, inl, inr}
 use mathlib.Core.Path.{_≡_, refl, sym, ap, _∙_}
 use native.Mathlib.Omega.{arith}
 use borrow.Author.Tests.{eqb-true, leb-true, leb-false, le-leb, lt-leb, ne-eqb}
@@ -15,10 +14,6 @@ use Rattle.script.specs.declared.Word.{Word}
 use Rattle.script.specs.declared.Word.the-variants.{BoxWord, UnitWord, FreeWord, IdleWord, OtherWord}
 use Rattle.script.specs.declared.Part.{Part}
 use Rattle.script.specs.declared.Part.the-variants.{Nothing, Digits, Letters, Strange}
-
-pub cases : (t : Bool) → (t ≡ true) ⊎ (t ≡ false)
-cases true = inl refl
-cases false = inr refl
 
 pub either : {A : Type 0} (t : Bool) (a : A) → (if t then a else a) ≡ a
 either true a = refl

@@ -9,11 +9,11 @@ use borrow.Author.Tests.{lt-ltb, le-ltb, ltb-true, ltb-false}
 use lib.Dec.{ltb}
 use lib.ListN.{length, getD, set, replicate, length-replicate, getD-replicate, length-set}
 use lib.Seq.{getD-set-same, getD-set-other, ext-getD}
+use Rattle.numbers.specs.CaseLaws.{cases, equal}
 use Rattle.numbers.specs.Choice.{if_then_else_}
 use Rattle.numbers.specs.declared.Answer.{Answer}
 use Rattle.numbers.specs.declared.Answer.the-variants.{Accepted, Refused}
 use Rattle.numbers.specs.declared.Refusal.{Refusal}
-use Rattle.table.specs.ScanLaws.{cases, equal}
 use Rattle.table.specs.Loops.{Sweeping, sweep-next}
 use Rattle.table.specs.Scan.{repeat}
 use Rattle.pages.specs.Rows.{poolRow, sharedRow}
@@ -22,7 +22,7 @@ use Rattle.units.specs.Units.{noUnit}
 use Rattle.units.specs.declared.Unit.{Unit}
 use Rattle.model.specs.Effect.{kept}
 use Rattle.model.specs.Start.{Told, Lent, countTold, unitTold, unitsFrom, startAnswer, inSpan, firstHome, Started, freshState, emptyState, start}
-use Rattle.model.specs.StartTold.{StartPassed, start-passed, upTo, length-units, unit-at}
+use Rattle.model.specs.ToldLaws.{StartPassed, start-passed, upTo, length-units, unit-at}
 use Rattle.model.specs.declared.Machine.{Machine}
 use Rattle.start.specs.Begun.{began, zeros, freshHeader, emptyHeader}
 

@@ -78,7 +78,7 @@ fn no_units() -> [Unit; 32]
 }
 
 // The units that are told, and no unit past them.
-fn units_told(units: &[u64]) -> [Unit; 32]
+pub fn units_told(units: &[u64]) -> [Unit; 32]
     requires { ⌜ countTold (now units) ≤ UNITS ⌝ }
     ensures { λ r. ⌜ r ≡ unitsTold (now (units .entry)) ⌝ }
 {

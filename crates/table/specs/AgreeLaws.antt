@@ -8,8 +8,9 @@ use mathlib.Core.Logic.{inl, ⊎-elim}
 use native.Mathlib.Omega.{arith}
 use lib.ListN.{length, getD, set, length-set}
 use borrow.Author.Tests.{eq-eqb, ne-eqb}
+use Rattle.numbers.specs.CaseLaws.{cases, equal}
 use Rattle.table.specs.Scan.{cleared, wipe}
-use Rattle.table.specs.ScanLaws.{cases, equal, count-most, has-wipe-inv, has-wipe-keep}
+use Rattle.table.specs.ScanLaws.{count-most, has-wipe-inv, has-wipe-keep}
 use Rattle.table.specs.Table.{isEmpty, freeEntries, Has, find, lookup, place, put, Distinct}
 use Rattle.table.specs.TableLaws.{free-set, has-set-keep, has-lookup, lookup-has, lookup-nothing, place-room, room-place, lookup-put-same, lookup-put-other, distinct-wipe}
 use Rattle.table.specs.declared.Found.the-variants.{At, Nothing}

@@ -2,6 +2,7 @@
 pub mod Scan
 pub mod Table
 pub mod Loops
+pub mod BlockLaws
 pub mod ScanLaws
 pub mod TableLaws
 pub mod AgreeLaws

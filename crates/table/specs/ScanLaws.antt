@@ -3,22 +3,14 @@ use Prim.Native.Nat.{ℕ, zero, suc, _+_, _≤_, _<_}
 use mathlib.Core.Bool.{Bool, true, false, true≢false}
 use mathlib.Core.List.{List, [], _∷_, map}
 use mathlib.Core.Path.{_≡_, refl, sym, ap, _∙_}
-use mathlib.Core.Logic.{_⊎_, inl, inr, ⊎-elim}
+use mathlib.Core.Logic.{⊎-elim}
 use native.Mathlib.Omega.{arith}
-use lib.Dec.{eqb}
 use lib.ListN.{length, getD, set, length-map, List·getD-map}
-use borrow.Author.Tests.{eqb-true, eqb-false}
+use Rattle.numbers.specs.CaseLaws.{cases, equal}
 use Rattle.numbers.specs.Choice.{if_then_else_}
 use Rattle.table.specs.Scan.{first, firstFrom, any, count, cleared, wipe, lowest, lowestFrom, anyFrom, anyBelow}
 use Rattle.table.specs.Table.{Has}
 use Rattle.table.specs.declared.Found.the-variants.{At, Nothing}
-
-pub cases : (t : Bool) → (t ≡ true) ⊎ (t ≡ false)
-cases true = inl refl
-cases false = inr refl
-
-pub equal : (a b : ℕ) → (a ≡ b) ⊎ (a ≡ b → ⊥)
-equal a b = ⊎-elim (λ t. inl (eqb-true a b t)) (λ f. inr (eqb-false a b f)) (cases (eqb a b))
 
 pub found-never : (i : ℕ) → At i ≡ Nothing → ⊥
 found-never i e = let z : _≡_ {A = ℕ} 0 1 = cc in omega arith

@@ -9,9 +9,10 @@ use lib.Dec.{ltb}
 use lib.ListN.{length, getD, set, length-set}
 use lib.Seq.{getD-set-same, getD-set-other}
 use borrow.Author.Tests.{eq-eqb, ne-eqb, eqb-true, eqb-false, ltb-true, ltb-false}
+use Rattle.numbers.specs.CaseLaws.{cases, equal}
 use Rattle.numbers.specs.Choice.{if_then_else_}
 use Rattle.table.specs.Scan.{first, cleared, wipe}
-use Rattle.table.specs.ScanLaws.{cases, equal, IsFirst, first-at, first-none, first-is, first-lacks, first-set, first-map, length-wipe, wipe-at, count-set, count-found, found-count, count-wipe, at-most-one}
+use Rattle.table.specs.ScanLaws.{IsFirst, first-at, first-none, first-is, first-lacks, first-set, first-map, length-wipe, wipe-at, count-set, count-found, found-count, count-wipe, at-most-one}
 use Rattle.table.specs.Table.{isEmpty, lowestFree, freeEntries, orElse, isFound, setAt, wordAt, Has, hasKey, find, lookup, place, put, erase, Distinct}
 use Rattle.table.specs.declared.Found.{Found}
 use Rattle.table.specs.declared.Found.the-variants.{At, Nothing}

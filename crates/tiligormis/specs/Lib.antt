@@ -1,7 +1,6 @@
 -- What slot records mean.
-pub mod CoreLaws
-pub mod Cores
-pub mod EntryLaws
+pub mod BoxLaws
+pub mod SlotCallLaws
+pub mod SlotCalls
 pub mod SlotLaws
 pub mod Slots
-pub mod StartSlots

@@ -6,9 +6,10 @@ use mathlib.Core.Path.{_≡_, refl, sym, ap, _∙_, subst}
 use native.Mathlib.Omega.{arith}
 use lib.ListN.{length, getD, set, replicate, length-set, length-replicate, length-map, List·getD-map}
 use lib.Seq.{getD-set-same, getD-set-other, set-getD, ext-getD}
+use Rattle.numbers.specs.Limits.{SLOTS}
 use Rattle.numbers.specs.PackingLaws.{word-port, word-vm, word-guest, word-entry}
 use Rattle.pages.specs.BitLaws.{below-or}
-use Rattle.tiligormis.specs.Slots.{wordOf, slotOf, empty, Fits, AllFit, words, laid, loaded, slotAt, over, stored, SameSlots}
+use Rattle.tiligormis.specs.Slots.{wordOf, slotOf, empty, Fits, AllFit, words, slotsOf, laid, loaded, slotAt, over, stored}
 use Rattle.tiligormis.specs.declared.Slot.{Slot}
 
 -- ---- one slot
@@ -45,11 +46,11 @@ pub word-there : (slots : List Slot) (i : ℕ) → getD (words slots) i 0 ≡ wo
 word-there slots i = List·getD-map wordOf slots i empty
 
 -- ---- loading
-pub length-laid : (slots : List Slot) (k : ℕ) → length (laid slots k) ≡ 64
-length-laid slots zero = length-replicate {A = ℕ} 64 0
+pub length-laid : (slots : List Slot) (k : ℕ) → length (laid slots k) ≡ SLOTS
+length-laid slots zero = length-replicate {A = ℕ} SLOTS 0
 length-laid slots (suc k) = length-set (laid slots k) k (wordOf (getD slots k empty)) ∙ length-laid slots k
 
-pub word-laid : (slots : List Slot) (k i : ℕ) → i < k → i < 64 → getD (laid slots k) i 0 ≡ wordOf (getD slots i empty)
+pub word-laid : (slots : List Slot) (k i : ℕ) → i < k → i < SLOTS → getD (laid slots k) i 0 ≡ wordOf (getD slots i empty)
 word-laid slots zero i h l = absurd (omega arith)
 word-laid slots (suc k) i h l =
     ⊎-elim (λ b. getD-set-other (laid slots k) k i w 0 (λ e. omega (arith, b, e)) ∙ word-laid slots k i b l)
@@ -61,10 +62,10 @@ word-laid slots (suc k) i h l =
     w = wordOf (getD slots k empty)
 
 -- a cache of 64 slots is loaded as its words
-pub loaded-whole : (slots : List Slot) → length slots ≡ 64 → loaded slots ≡ words slots
+pub loaded-whole : (slots : List Slot) → length slots ≡ SLOTS → loaded slots ≡ words slots
 loaded-whole slots e =
     let n : length (words slots) ≡ length slots = length-map slots wordOf in
-    let m : length (loaded slots) ≡ 64 = length-laid slots (length slots) in
+    let m : length (loaded slots) ≡ SLOTS = length-laid slots (length slots) in
     ext-getD 0 (loaded slots) (words slots) (m ∙ sym (n ∙ e)) (λ i h. word-laid slots (length slots) i (omega arith) (omega arith) ∙ sym (word-there slots i))
 
 -- ---- storing
@@ -87,31 +88,30 @@ slot-over ws slots (suc k) i h l m =
     s : Slot
     s = slotAt ws k (getD before k empty)
 
--- 64 words are stored into a cache of 64 slots as its words
-pub stored-whole : (ws : List ℕ) (slots : List Slot) → length ws ≡ 64 → length slots ≡ 64 → words (stored ws slots) ≡ ws
+-- 64 words are stored into a cache of 64 slots as their slots
+pub stored-whole : (ws : List ℕ) (slots : List Slot) → length ws ≡ SLOTS → length slots ≡ SLOTS → stored ws slots ≡ slotsOf ws
 stored-whole ws slots e f =
-    let n : length (words (stored ws slots)) ≡ length (stored ws slots) = length-map (stored ws slots) wordOf in
     let m : length (stored ws slots) ≡ length slots = length-over ws slots (length slots) in
-    ext-getD 0 (words (stored ws slots)) ws (n ∙ m ∙ f ∙ sym e)
-    (λ i h. word-there (stored ws slots) i ∙ ap wordOf (slot-over ws slots (length slots) i (omega arith) (omega arith) (omega arith)) ∙ word-of-slot (getD ws i 0))
+    ext-getD empty (stored ws slots) (slotsOf ws) (m ∙ f ∙ sym (length-map ws slotOf ∙ e))
+    (λ i h. slot-over ws slots (length slots) i (omega arith) (omega arith) (omega arith) ∙ sym (List·getD-map slotOf ws i 0))
 
 -- ---- both: what is stored as it was loaded changes nothing, at any length and with any numbers in the slots
 back : (slots : List Slot) → AllFit slots → (k : ℕ) → k ≤ length slots → over (loaded slots) slots k ≡ slots
 back slots fit zero h = refl
 back slots fit (suc k) h =
     ap (λ (l : List Slot). set l k (slotAt (loaded slots) k (getD l k empty))) (back slots fit k (omega arith))
-    ∙ ap (set slots k) (⊎-elim within beyond (below-or k 64)) ∙ set-getD slots k empty
+    ∙ ap (set slots k) (⊎-elim within beyond (below-or k SLOTS)) ∙ set-getD slots k empty
   where
     s : Slot
     s = getD slots k empty
 
-    n : length (loaded slots) ≡ 64
+    n : length (loaded slots) ≡ SLOTS
     n = length-laid slots (length slots)
 
-    within : k < 64 → slotAt (loaded slots) k s ≡ s
+    within : k < SLOTS → slotAt (loaded slots) k s ≡ s
     within l = slot-there (loaded slots) k s (omega (arith, l, n)) ∙ ap slotOf (word-laid slots (length slots) k (omega (arith, h)) l) ∙ slot-of-word s (fit k (omega (arith, h)))
 
-    beyond : 64 ≤ k → slotAt (loaded slots) k s ≡ s
+    beyond : SLOTS ≤ k → slotAt (loaded slots) k s ≡ s
     beyond g = slot-beyond (loaded slots) k s (omega (arith, g, n))
 
 pub stored-loaded : (slots : List Slot) → AllFit slots → stored (loaded slots) slots ≡ slots
@@ -119,7 +119,3 @@ stored-loaded slots fit = back slots fit (length slots) (omega arith)
 
 pub same-loaded : (slots : List Slot) (ws : List ℕ) → AllFit slots → ws ≡ loaded slots → stored ws slots ≡ slots
 same-loaded slots ws fit e = ap (λ (l : List ℕ). stored l slots) e ∙ stored-loaded slots fit
-
--- in a cache of 64 slots
-pub same-whole : (slots : List Slot) (ws : List ℕ) → AllFit slots → length ws ≡ 64 → length slots ≡ 64 → SameSlots slots (stored ws slots)
-same-whole slots ws fit n e same = same-loaded slots ws fit (sym (stored-whole ws slots n e) ∙ same ∙ sym (loaded-whole slots e))

@@ -1,7 +1,6 @@
 -- A slot record and its packed word, and a cache of slots as the words of the core.
 use Prim.Native.Nat.{ℕ, zero, suc, _<_}
 use mathlib.Core.List.{List, map}
-use mathlib.Core.Path.{_≡_}
 use lib.ListN.{length, getD, set, replicate}
 use Rattle.numbers.specs.Limits.{SLOTS}
 use Rattle.numbers.specs.Packing.{slotWord, portOf, vmOf, guestOf, entryOf}
@@ -25,6 +24,9 @@ Fits s = (s .port < 256) × (s .vm < 256) × (s .guest < 65536) × (s .entry < 4
 abbrev pub words : List Slot → List ℕ
 words = map wordOf
 
+abbrev pub slotsOf : List ℕ → List Slot
+slotsOf = map slotOf
+
 abbrev pub AllFit : List Slot → Type 0
 AllFit slots = (i : ℕ) → i < length slots → Fits (getD slots i empty)
 
@@ -38,7 +40,7 @@ loaded slots = laid slots (length slots)
 
 -- the slot of word k, and a slot as it was where there is no word for it
 abbrev pub slotAt : List ℕ → ℕ → Slot → Slot
-slotAt ws k s = getD (map slotOf ws) k s
+slotAt ws k s = getD (slotsOf ws) k s
 
 -- the first k slots replaced by those of the words
 abbrev pub over : List ℕ → List Slot → ℕ → List Slot
@@ -47,7 +49,3 @@ over ws slots (suc k) = set (over ws slots k) k (slotAt ws k (getD (over ws slot
 
 abbrev pub stored : List ℕ → List Slot → List Slot
 stored ws slots = over ws slots (length slots)
-
--- slots whose words are the same are the same
-abbrev pub SameSlots : List Slot → List Slot → Type 0
-SameSlots before after = words after ≡ words before → after ≡ before

@@ -5,6 +5,11 @@ ghost use Rattle.numbers.specs.Limits.{SLOTS};
 ghost use Rattle.tiligormis.specs.Slots.{wordOf, slotOf, slotAt, loaded, stored, AllFit};
 
 pub mod entries;
+pub mod slots;
+
+use numbers::GuestPage;
+use numbers::SLOTS;
+use numbers::VmId;
 
 // ---- A slot of a translation cache. Its numbers fill 64 bits, so that any record is the slot of one word.
 #[repr(C)]
@@ -18,18 +23,21 @@ pub struct Slot {
 pub fn word_of(slot: Slot) -> u64
     ensures { λ r. ⌜ r ≡ wordOf slot ⌝ }
 {
-    (((slot.port as u64) * 256 + (slot.vm as u64)) * 65536 + (slot.guest as u64)) * 4294967296
-        + (slot.entry as u64)
+    let vm = VmId(slot.vm as u64);
+    let guest = GuestPage(slot.guest as u64);
+    numbers::slot_word(slot.port as u64, vm, guest, slot.entry as u64)
 }
 
 pub fn slot_of(word: u64) -> Slot
     ensures { λ r. ⌜ r ≡ slotOf word ⌝ }
 {
+    let vm = numbers::vm_of(word);
+    let guest = numbers::guest_of(word);
     Slot {
-        port: (word / 72057594037927936) as u8,
-        vm: (word / 281474976710656 % 256) as u8,
-        guest: (word / 4294967296 % 65536) as u16,
-        entry: (word % 4294967296) as u32,
+        port: numbers::port_of(word) as u8,
+        vm: vm.0 as u8,
+        guest: guest.0 as u16,
+        entry: numbers::entry_of(word) as u32,
     }
 }
 
@@ -46,7 +54,7 @@ fn put_word(words: [u64; 64], i: usize, slot: Slot) -> [u64; 64]
     ensures { λ r. ⌜ r ≡ set words i (wordOf slot) ⌝ }
 {
     let mut all = words;
-    if i < 64 {
+    if i < SLOTS as usize {
         all[i] = word_of(slot);
     }
     all
@@ -56,7 +64,11 @@ fn put_word(words: [u64; 64], i: usize, slot: Slot) -> [u64; 64]
 fn slot_at(words: [u64; 64], i: usize, slot: Slot) -> Slot
     ensures { λ r. ⌜ r ≡ slotAt words i slot ⌝ }
 {
-    if i < 64 { slot_of(words[i]) } else { slot }
+    if i < SLOTS as usize {
+        slot_of(words[i])
+    } else {
+        slot
+    }
 }
 
 // The words of the first 64 slots, 0 where there are fewer. It tells as well that every number of a slot is within its field.

@@ -8,7 +8,6 @@ ghost use Rattle.table.specs.Scan.{any};
 ghost use Rattle.table.specs.Table.{find};
 ghost use Rattle.model.specs.Views.{knows, claims, claimedElsewhere, hasPages, onPage, mayMap};
 ghost use Rattle.views.specs.Tests.{passes};
-use numbers::PAGES;
 use numbers::PhysPage;
 use numbers::Side;
 use numbers::VMS;
@@ -53,14 +52,10 @@ pub fn has_pages(side: Side, sets: &[u64], vm: VmId) -> bool
     requires { ⌜ (vm .0 < VMS) × (length (now sets) ≡ SETS * SET-WORDS) ⌝ }
     ensures { λ r. ⌜ r ≡ hasPages side (now (sets .entry)) (vm .0) ⌝ }
 {
-    let mut page = 0;
-    while page < PAGES {
-        if claims(side, sets, vm, PhysPage(page)) {
-            return true;
-        }
-        page += 1;
+    match side {
+        Side::Cpu => pages::holds_any(sets, pages::cpu_row(vm)),
+        Side::Dma => pages::holds_any(sets, pages::dma_row(vm)),
     }
-    false
 }
 
 // ---- Words of a table. One search serves every question; a test says which words count.

@@ -1,16 +1,17 @@
 use Prim.Native.Nat.{_-_}
 use native.Mathlib.Omega.{arith}
+use Rattle.operate.specs.Outcome.{withRegisters}
 use Rattle.machine.specs.Run.{progress}
 use Rattle.machine.specs.RunLaws.{Running, run-start, run-next, run-end, fit-kept}
 use Rattle.machine.proofs.run.Statement.{statement}
 use Rattle.machine.proofs.run.Tie as tie
 
 abbrev Inv-loop : tie.InvT-loop
-Inv-loop sets₀ pairs₀ cpu-map₀ cpu-walker₀ cpu-cache₀ dma-map₀ dma-walker₀ dma-cache₀ memory₀ rows room₀ count next₀ k₀ sets pairs cpu-map cpu-walker cpu-cache dma-map dma-walker dma-cache memory room next k =
-    Running rows count (progress next₀ sets₀ pairs₀ cpu-map₀ cpu-walker₀ cpu-cache₀ dma-map₀ dma-walker₀ dma-cache₀ memory₀ room₀) (progress next sets pairs cpu-map cpu-walker cpu-cache dma-map dma-walker dma-cache memory room) k
+Inv-loop fixed sets₀ pairs₀ cpu-map₀ cpu-walker₀ cpu-cache₀ dma-map₀ dma-walker₀ dma-cache₀ memory₀ rows room₀ count next₀ k₀ sets pairs cpu-map cpu-walker cpu-cache dma-map dma-walker dma-cache memory room next k =
+    Running rows count (progress (withRegisters fixed next₀) sets₀ pairs₀ cpu-map₀ cpu-walker₀ cpu-cache₀ dma-map₀ dma-walker₀ dma-cache₀ memory₀ room₀) (progress (withRegisters fixed next) sets pairs cpu-map cpu-walker cpu-cache dma-map dma-walker dma-cache memory room) k
 
 abbrev μ-loop : tie.MeasureT-loop
-μ-loop sets₀ pairs₀ cpu-map₀ cpu-walker₀ cpu-cache₀ dma-map₀ dma-walker₀ dma-cache₀ memory₀ rows room₀ count next₀ k₀ sets pairs cpu-map cpu-walker cpu-cache dma-map dma-walker dma-cache memory room next k =
+μ-loop fixed sets₀ pairs₀ cpu-map₀ cpu-walker₀ cpu-cache₀ dma-map₀ dma-walker₀ dma-cache₀ memory₀ rows room₀ count next₀ k₀ sets pairs cpu-map cpu-walker cpu-cache dma-map dma-walker dma-cache memory room next k =
     count - k
 
 loop-holds : tie.Need-loop-holds Inv-loop μ-loop
@@ -22,7 +23,7 @@ turn-requires c κs =
     let l = c .before .before .before .before .before .before .before .before .before .before .loop-test .taken in
     let p = c .before .before .before .before .before .before .before .before .before .before .before .before .before .before .before .before .before .before .before .before .before .before .before .pre in
     let q = v .room in
-    (fit-kept (c .before .before .before .before .before .before .before .before .before .before .before .before .before .before .before .before .before .before .before .before .before .before .before .args .m) _ _ _ _ _ (p .0) (v .sizes .tables .setup) (v .sizes .tables .sets) (v .sizes .memory), (omega arith, omega arith))
+    (fit-kept (c .before .before .before .before .before .before .before .before .before .before .before .before .before .before .before .before .before .before .before .before .before .before .before .args .fixed) _ _ _ _ (p .0) (v .sizes .tables .sets) (v .sizes .memory), (omega arith, omega arith))
 
 add-k : tie.Need-add-k Inv-loop μ-loop
 add-k c =

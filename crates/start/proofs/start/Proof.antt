@@ -1,7 +1,7 @@
 -- `start::start` meets its contract. Refused, it has lent everything to be read only; accepted, each list comes back as one call left it.
 use borrow.Author.Needs.{needs}
 use mathlib.Core.Path.{sym, _∙_}
-use Rattle.model.specs.StartTold.{start-passed}
+use Rattle.model.specs.ToldLaws.{start-passed}
 use Rattle.start.specs.StartLaws.{start-refused, start-accepted}
 use Rattle.start.proofs.start.Statement.{statement}
 use Rattle.start.proofs.start.Tie as tie

@@ -6,6 +6,7 @@ use mathlib.Core.Path.{sym, _∙_}
 use native.Mathlib.Omega.{arith}
 use borrow.Author.Tests.{eq-eqb, ne-eqb}
 use lib.ListN.{length}
+use lib.Seq.{set-getD}
 use Rattle.numbers.specs.Packing.{addressOf}
 use Rattle.table.specs.Loops.{Wiping, wipe-start, wipe-read, wipe-hit, wipe-miss, wipe-end, Tallying, tally-start, tally-hit, tally-miss, tally-end}
 use Rattle.table.specs.Table.{erase, hasKey}
@@ -21,23 +22,23 @@ abbrev μ-loop : tie.MeasureT-loop
 loop-holds : tie.Need-loop-holds Inv-loop μ-loop
 loop-holds c = (wipe-start _ _, tally-start _ _)
 
-mul-address-of : tie.Need-mul-address-of Inv-loop μ-loop
-mul-address-of c = search needs
+mul-w : tie.Need-mul-w Inv-loop μ-loop
+mul-w c = search needs
 
-slice-read-address-of : tie.Need-slice-read-address-of Inv-loop μ-loop
-slice-read-address-of c = search needs
+slice-read-w : tie.Need-slice-read-w Inv-loop μ-loop
+slice-read-w c = search needs
 
 address-of-requires : tie.Need-address-of-requires Inv-loop μ-loop
 address-of-requires c κs = search needs
+
+add-dropped : tie.Need-add-dropped Inv-loop μ-loop
+add-dropped c = search needs
 
 mul-cache : tie.Need-mul-cache Inv-loop μ-loop
 mul-cache c = search needs
 
 slice-write-cache : tie.Need-slice-write-cache Inv-loop μ-loop
 slice-write-cache c = search needs
-
-add-dropped : tie.Need-add-dropped Inv-loop μ-loop
-add-dropped c = search needs
 
 add-i : tie.Need-add-i Inv-loop μ-loop
 add-i c = search needs
@@ -47,12 +48,13 @@ loop-less c = search needs
 
 loop-again : tie.Need-loop-again Inv-loop μ-loop
 loop-again c =
-    let r = c .before .before .before .before .loop .inv in
+    let g = c .before .before .before .before .loop in
+    let r = g .inv in
     let l = c .before .before .before .loop-test .taken in
     let e = c .before .address-of .ensures in
     let s = wipe-read _ _ _ _ (r .0) l in
     ⊎-elim (λ w. let t = eq-eqb _ _ (sym e ∙ w .0 .taken) in rw (w .1, w .2) (wipe-hit _ _ _ _ (r .0) l t, tally-hit _ _ _ _ (r .1) (omega arith) (rw s at t)))
-    (λ w. let t = ne-eqb _ _ (λ q. w .0 .left (e ∙ q)) in rw (w .1, w .2) (wipe-miss _ _ _ _ (r .0) l t, tally-miss _ _ _ _ (r .1) (omega arith) (rw s at t)))
+    (λ w. let t = ne-eqb _ _ (λ q. w .0 .left (e ∙ q)) in rw (w .1, w .2, set-getD (g .cache) (g .i) 0) (wipe-miss _ _ _ _ (r .0) l t, tally-miss _ _ _ _ (r .1) (omega arith) (rw s at t)))
     (c .if1 .came)
 
 same-length : tie.Need-same-length Inv-loop μ-loop
@@ -71,12 +73,12 @@ drop-slots-spec =
     Inv-loop
     μ-loop
     loop-holds
-    mul-address-of
-    slice-read-address-of
+    mul-w
+    slice-read-w
     address-of-requires
+    add-dropped
     mul-cache
     slice-write-cache
-    add-dropped
     add-i
     loop-less
     loop-again

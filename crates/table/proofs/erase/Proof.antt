@@ -5,6 +5,7 @@ use mathlib.Core.Logic.{⊎-elim}
 use mathlib.Core.Path.{sym, _∙_}
 use borrow.Author.Tests.{eq-eqb, ne-eqb}
 use lib.ListN.{length}
+use lib.Seq.{set-getD}
 use Rattle.numbers.specs.Packing.{keyOf}
 use Rattle.table.specs.Loops.{Wiping, wipe-start, wipe-hit, wipe-miss, wipe-end}
 use Rattle.table.specs.Table.{erase, hasKey}
@@ -20,11 +21,11 @@ abbrev μ-loop : tie.MeasureT-loop
 loop-holds : tie.Need-loop-holds Inv-loop μ-loop
 loop-holds c = wipe-start _ _
 
-mul-key-of : tie.Need-mul-key-of Inv-loop μ-loop
-mul-key-of c = search needs
+mul-w : tie.Need-mul-w Inv-loop μ-loop
+mul-w c = search needs
 
-slice-read-key-of : tie.Need-slice-read-key-of Inv-loop μ-loop
-slice-read-key-of c = search needs
+slice-read-w : tie.Need-slice-read-w Inv-loop μ-loop
+slice-read-w c = search needs
 
 key-of-requires : tie.Need-key-of-requires Inv-loop μ-loop
 key-of-requires c κs = search needs
@@ -43,11 +44,12 @@ loop-less c = search needs
 
 loop-again : tie.Need-loop-again Inv-loop μ-loop
 loop-again c =
-    let r = c .before .before .before .before .loop .inv in
+    let g = c .before .before .before .before .loop in
+    let r = g .inv in
     let l = c .before .before .before .loop-test .taken in
     let e = c .before .key-of .ensures in
     ⊎-elim (λ w. rw (w .1) (wipe-hit _ _ _ _ r l (eq-eqb _ _ (sym e ∙ w .0 .taken))))
-    (λ w. rw (w .1) (wipe-miss _ _ _ _ r l (ne-eqb _ _ (λ q. w .0 .left (e ∙ q)))))
+    (λ w. rw (w .1, set-getD (g .words) (g .i) 0) (wipe-miss _ _ _ _ r l (ne-eqb _ _ (λ q. w .0 .left (e ∙ q)))))
     (c .if1 .came)
 
 same-length : tie.Need-same-length Inv-loop μ-loop
@@ -64,8 +66,8 @@ erase-spec =
     Inv-loop
     μ-loop
     loop-holds
-    mul-key-of
-    slice-read-key-of
+    mul-w
+    slice-read-w
     key-of-requires
     mul-words
     slice-write-words

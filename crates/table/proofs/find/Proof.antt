@@ -5,7 +5,7 @@ use mathlib.Core.Path.{sym, _∙_}
 use borrow.Author.Tests.{eq-eqb, ne-eqb}
 use lib.ListN.{length}
 use Rattle.numbers.specs.Packing.{keyOf}
-use Rattle.table.specs.Loops.{Seeking, seek-start, seek-next, seek-found, seek-none}
+use Rattle.table.specs.Loops.{Seeking, seek-next, seek-found, seek-none}
 use Rattle.table.specs.Table.{find, hasKey}
 use Rattle.table.proofs.find.Statement.{statement}
 use Rattle.table.proofs.find.Tie as tie
@@ -16,8 +16,11 @@ Inv-loop words key spot₀ spot = Seeking (hasKey keyOf key) words spot
 abbrev μ-loop : tie.MeasureT-loop
 μ-loop words key spot₀ spot = length words - spot
 
+past-other-keys-requires : tie.Need-past-other-keys-requires Inv-loop μ-loop
+past-other-keys-requires c κs = search needs
+
 loop-holds : tie.Need-loop-holds Inv-loop μ-loop
-loop-holds c = seek-start _ _
+loop-holds c = c .past-other-keys .ensures
 
 mul-key-of : tie.Need-mul-key-of Inv-loop μ-loop
 mul-key-of c = search needs
@@ -55,6 +58,7 @@ find-spec =
     (tie.spec
     Inv-loop
     μ-loop
+    past-other-keys-requires
     loop-holds
     mul-key-of
     shared-slice-read-key-of

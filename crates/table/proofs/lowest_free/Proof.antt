@@ -3,7 +3,7 @@ use borrow.Author.Needs.{needs}
 use Prim.Native.Nat.{_-_}
 use borrow.Author.Tests.{eq-eqb, ne-eqb}
 use lib.ListN.{length}
-use Rattle.table.specs.Loops.{Seeking, seek-start, seek-next, seek-found, seek-none}
+use Rattle.table.specs.Loops.{Seeking, seek-next, seek-found, seek-none}
 use Rattle.table.specs.Table.{lowestFree, isEmpty}
 use Rattle.table.proofs.lowest_free.Statement.{statement}
 use Rattle.table.proofs.lowest_free.Tie as tie
@@ -14,8 +14,11 @@ Inv-loop words spot₀ spot = Seeking isEmpty words spot
 abbrev μ-loop : tie.MeasureT-loop
 μ-loop words spot₀ spot = length words - spot
 
+past-filled-requires : tie.Need-past-filled-requires Inv-loop μ-loop
+past-filled-requires c κs = search needs
+
 loop-holds : tie.Need-loop-holds Inv-loop μ-loop
-loop-holds c = seek-start _ _
+loop-holds c = c .past-filled .ensures
 
 mul-if1 : tie.Need-mul-if1 Inv-loop μ-loop
 mul-if1 c = search needs
@@ -50,6 +53,7 @@ lowest-free-spec =
     (tie.spec
     Inv-loop
     μ-loop
+    past-filled-requires
     loop-holds
     mul-if1
     shared-slice-read-if1

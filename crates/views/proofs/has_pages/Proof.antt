@@ -1,51 +1,43 @@
 use borrow.Author.Needs.{needs}
-use Prim.Native.Nat.{ℕ, _-_}
-use mathlib.Core.Path.{sym, _∙_}
-use Rattle.numbers.specs.Limits.{PAGES}
-use Rattle.table.specs.Loops.{Trying, try-start, try-next, try-yes, try-no}
-use Rattle.model.specs.Views.{claims, hasPages}
+use Rattle.model.specs.Views.{hasPages}
 use Rattle.views.proofs.has_pages.Statement.{statement}
 use Rattle.views.proofs.has_pages.Tie as tie
 
-abbrev Inv-loop : tie.InvT-loop
-Inv-loop side sets vm page₀ page = Trying (λ (p : ℕ). claims side sets (vm .0) p) PAGES page
+enum-told : tie.Need-enum-told
+enum-told c = search needs
 
-abbrev μ-loop : tie.MeasureT-loop
-μ-loop side sets vm page₀ page = PAGES - page
+cpu-row-requires : tie.Need-cpu-row-requires
+cpu-row-requires c κs = search needs
 
-loop-holds : tie.Need-loop-holds Inv-loop μ-loop
-loop-holds c = try-start _ _
+holds-any-requires : tie.Need-holds-any-requires
+holds-any-requires c κs = search needs
 
-claims-requires : tie.Need-claims-requires Inv-loop μ-loop
-claims-requires c κs = search needs
+enum-told-2 : tie.Need-enum-told-2
+enum-told-2 c = search needs
 
-returns : tie.Need-returns Inv-loop μ-loop
+dma-row-requires : tie.Need-dma-row-requires
+dma-row-requires c κs = search needs
+
+holds-any-requires-2 : tie.Need-holds-any-requires-2
+holds-any-requires-2 c κs = search needs
+
+returns : tie.Need-returns
 unfolding hasPages
-returns c = try-yes _ _ _ (c .before .before .before .loop .inv) (c .before .before .loop-test .taken) (sym (c .before .claims .ensures) ∙ c .if1 .taken)
+returns c = rw (c .before .before .enum-told .given .1, ← c .before .cpu-row .ensures, ← c .holds-any .ensures)
 
-add-page : tie.Need-add-page Inv-loop μ-loop
-add-page c = search needs
-
-loop-less : tie.Need-loop-less Inv-loop μ-loop
-loop-less c = search needs
-
-loop-again : tie.Need-loop-again Inv-loop μ-loop
-loop-again c = try-next _ _ _ (c .before .before .before .loop .inv) (c .before .before .loop-test .taken) (sym (c .before .claims .ensures) ∙ c .if1 .left)
-
-returns-2 : tie.Need-returns-2 Inv-loop μ-loop
+returns-2 : tie.Need-returns-2
 unfolding hasPages
-returns-2 c = try-no _ _ _ (c .before .loop .inv) (c .loop-test .left)
+returns-2 c = rw (c .before .before .enum-told2 .given .1, ← c .before .dma-row .ensures, ← c .holds-any2 .ensures)
 
 pub has-pages-spec : {M : Type 1} → statement M
 has-pages-spec =
     tie.close
     (tie.spec
-    Inv-loop
-    μ-loop
-    loop-holds
-    claims-requires
+    enum-told
+    cpu-row-requires
+    holds-any-requires
+    enum-told-2
+    dma-row-requires
+    holds-any-requires-2
     returns
-    add-page
-    loop-less
-    loop-again
     returns-2)

@@ -6,12 +6,15 @@ use Rattle.ledger.proofs.sharing.borrower_maps.Tie as tie
 claims-requires : tie.Need-claims-requires
 claims-requires c κs = search needs
 
+returns : tie.Need-returns
+returns c = rw (← c .before .claims .ensures, c .if1 .taken)
+
 any-requires : tie.Need-any-requires
 any-requires c κs = search needs
 
-returns : tie.Need-returns
+returns-2 : tie.Need-returns-2
 unfolding targeted
-returns c = rw (← c .before .claims .ensures, ← c .any .ensures)
+returns-2 c = rw (← c .before .before .claims .ensures, c .before .if1 .left, ← c .any .ensures)
 
 pub borrower-maps-spec : {M : Type 1} → statement M
-borrower-maps-spec = tie.close (tie.spec claims-requires any-requires returns)
+borrower-maps-spec = tie.close (tie.spec claims-requires returns any-requires returns-2)

@@ -1,0 +1,126 @@
+/*
+ * What the library does at the edges that only C can reach: null pointers, lengths that are not the right ones, marks and
+ * counts that no machine has. Each test looks at the number returned and at every byte: all that is lent stands in one room,
+ * with guard elements before and after each array, and after a call the room must be as expected to the last byte.
+ */
+#ifndef TILIGORMIS_EDGES_H
+#define TILIGORMIS_EDGES_H
+
+#include "tiligormis.h"
+
+enum { PAGES = 8, SHARED_BASE = 7, SHARED_COUNT = 1, UNIT_COUNT = 2 };
+enum { SETS = TILIGORMIS_SETS * TILIGORMIS_SET_WORDS, MEMORY = PAGES * TILIGORMIS_PAGE_WORDS };
+enum { ROWS = 2, ROWS_LENGTH = ROWS * TILIGORMIS_ROW_NUMBERS, ANSWERS_LENGTH = ROWS * TILIGORMIS_ANSWER_NUMBERS };
+enum { UNITS_LENGTH = UNIT_COUNT * TILIGORMIS_UNIT_NUMBERS, UNITS_ROOM = (TILIGORMIS_UNITS + 1) * TILIGORMIS_UNIT_NUMBERS };
+
+/* An array is lent from its element GUARD on; the structs of numbers from their second on. */
+enum { GUARD = 8, SECOND = 1 };
+#define GUARDED(count) (GUARD + (count) + GUARD)
+struct room {
+    tiligormis_machine machine[3];
+    uint64_t sets[GUARDED(SETS)];
+    uint64_t pairs[GUARDED(TILIGORMIS_PAIRS)];
+    uint64_t cpu_map[GUARDED(TILIGORMIS_ENTRIES)];
+    uint64_t cpu_walker[GUARDED(TILIGORMIS_ENTRIES)];
+    tiligormis_slot cpu_cache[GUARDED(TILIGORMIS_SLOTS)];
+    uint64_t dma_map[GUARDED(TILIGORMIS_ENTRIES)];
+    uint64_t dma_walker[GUARDED(TILIGORMIS_ENTRIES)];
+    tiligormis_slot dma_cache[GUARDED(TILIGORMIS_SLOTS)];
+    uint64_t memory[GUARDED(MEMORY)];
+    uint64_t units[GUARDED(UNITS_ROOM)];
+    uint64_t rows[GUARDED(ROWS_LENGTH)];
+    uint64_t answers[GUARDED(ANSWERS_LENGTH)];
+    tiligormis_answer answer[3];
+    tiligormis_free_pages free_pages[3];
+};
+
+/* The room of a machine at work; the room that calls are made in, like it before each test; what that must be afterwards. */
+extern struct room whole, room, expected;
+
+/* The box in `room`, every length right. */
+extern const tiligormis_box box;
+
+/* The parts of a box, each with the name of its length. An element counts as 64 bits in all of them. */
+#define PARTS(PART)                                                                                                            \
+    PART(machine, machine_numbers)                                                                                             \
+    PART(sets, sets_length)                                                                                                    \
+    PART(pairs, pairs_length)                                                                                                  \
+    PART(cpu_map, cpu_map_length)                                                                                              \
+    PART(cpu_walker, cpu_walker_length)                                                                                        \
+    PART(cpu_cache, cpu_cache_length)                                                                                          \
+    PART(dma_map, dma_map_length)                                                                                              \
+    PART(dma_walker, dma_walker_length)                                                                                        \
+    PART(dma_cache, dma_cache_length)                                                                                          \
+    PART(memory, memory_length)
+
+/* Fills `whole`: something in every table, and no guard 0. False where the library refuses any of it. */
+bool make_whole(void);
+
+/* ---- Calls with what stands in `room`; of length 0 a null pointer is passed. ----------------------------------------------
+ */
+
+uint64_t start_with(const tiligormis_box *lent, uint64_t pages, uint64_t shared_base, size_t units_length);
+uint64_t start(const tiligormis_box *lent);
+uint64_t operation(const tiligormis_box *lent, size_t row_length, size_t answer_numbers);
+uint64_t sequence(const tiligormis_box *lent, size_t rows_length, size_t answers_length);
+uint64_t free_pages(const tiligormis_box *lent, size_t free_numbers);
+
+/* ---- What is expected -----------------------------------------------------------------------------------------------------
+ */
+
+/* Hands `good` on; where it is false, says what was tried, and with which number. */
+bool holds(bool good, const char *tried, uint64_t number);
+
+bool as_expected(void);
+
+/* The answer of an operation that is refused with 1. */
+extern const tiligormis_answer not_valid;
+
+/* The header that a refused start leaves. */
+tiligormis_machine empty_machine(void);
+
+/* Start gave this number, and it is this refusal; all but the header is left, and that too where it has not its length. */
+bool start_refused(const tiligormis_box *lent, uint64_t number, uint64_t refusal);
+
+/* Every entry but start refuses with 1 and leaves the room, but for the answer and the free query's result. */
+bool entries_refuse(const tiligormis_box *lent);
+
+/* So does start, all of them from the room of a machine at work. */
+bool all_refuse(const tiligormis_box *lent);
+
+/* ---- The tests ------------------------------------------------------------------------------------------------------------
+ */
+
+#define TESTS(TEST)                                                                                                            \
+    TEST(whole_box)                                                                                                            \
+    TEST(null_arrays)                                                                                                          \
+    TEST(nothing_at_all)                                                                                                       \
+    TEST(empty_arrays)                                                                                                         \
+    TEST(short_arrays)                                                                                                         \
+    TEST(long_arrays)                                                                                                          \
+    TEST(overlap_of_const)                                                                                                     \
+    TEST(header_numbers)                                                                                                       \
+    TEST(unknown_marks)                                                                                                        \
+    TEST(units_past_count)                                                                                                     \
+    TEST(unit_counts)                                                                                                          \
+    TEST(row_lengths)                                                                                                          \
+    TEST(answer_lengths)                                                                                                       \
+    TEST(parts_of_rows)                                                                                                        \
+    TEST(answers_short)                                                                                                        \
+    TEST(sequence_order)                                                                                                       \
+    TEST(answers_long)                                                                                                         \
+    TEST(no_rows)                                                                                                              \
+    TEST(free_lengths)                                                                                                         \
+    TEST(start_unit_lengths)                                                                                                   \
+    TEST(start_marks)                                                                                                          \
+    TEST(start_pages)                                                                                                          \
+    TEST(start_shared_span)                                                                                                    \
+    TEST(start_without_units)                                                                                                  \
+    TEST(find_slot)                                                                                                            \
+    TEST(fill_slot)                                                                                                            \
+    TEST(empty_slot)
+
+#define DECLARED(test) bool test(void);
+TESTS(DECLARED)
+
+#endif

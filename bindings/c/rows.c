@@ -1,0 +1,83 @@
+/* Rows, answers and the free query's result of other lengths. */
+#include "edges.h"
+
+#include <string.h>
+
+/* A row of another length is answered, an answer of another length is not written. */
+bool row_lengths(void) {
+    static const size_t lengths[] = {0, 1, 7, 9, 16};
+    bool good = true;
+    for (size_t k = 0; k < 5; k++) {
+        expected = room = whole;
+        expected.answer[SECOND] = not_valid;
+        uint64_t number = operation(&box, lengths[k], TILIGORMIS_ANSWER_NUMBERS);
+        good &= holds(number == TILIGORMIS_STATE_NOT_VALID && as_expected(), "row length", lengths[k]);
+    }
+    return good;
+}
+
+bool answer_lengths(void) {
+    static const size_t lengths[] = {0, 1, 3, 5, 8};
+    bool good = true;
+    expected = room;
+    for (size_t k = 0; k < 5; k++) {
+        uint64_t number = operation(&box, TILIGORMIS_ROW_NUMBERS, lengths[k]);
+        good &= holds(number == TILIGORMIS_STATE_NOT_VALID && as_expected(), "answer length", lengths[k]);
+    }
+    return good;
+}
+
+/* A sequence is refused as a whole, with this number. */
+static bool sequence_refused(size_t rows_length, size_t answers_length, uint64_t refusal) {
+    expected = room;
+    return sequence(&box, rows_length, answers_length) == refusal && as_expected();
+}
+
+bool parts_of_rows(void) {
+    static const size_t lengths[] = {1, 7, 9, 15};
+    bool good = true;
+    for (size_t k = 0; k < 4; k++)
+        good &= holds(sequence_refused(lengths[k], ANSWERS_LENGTH, TILIGORMIS_OUT_OF_RANGE), "rows", lengths[k]);
+    return good;
+}
+
+bool answers_short(void) {
+    static const size_t lengths[] = {0, 1, 4, 7};
+    bool good = true;
+    for (size_t k = 0; k < 4; k++)
+        good &= holds(sequence_refused(ROWS_LENGTH, lengths[k], TILIGORMIS_OUT_OF_RANGE), "answers", lengths[k]);
+    return good;
+}
+
+/* A box that is not valid comes before rows that are none. */
+bool sequence_order(void) {
+    room.machine[SECOND].unit_count = TILIGORMIS_UNITS + 1;
+    return sequence_refused(7, 0, TILIGORMIS_STATE_NOT_VALID);
+}
+
+/* Both rows are carried out, the refused one too; room beyond the answers keeps its content. */
+bool answers_long(void) {
+    static const uint64_t answers[ANSWERS_LENGTH] = {TILIGORMIS_ACCEPTED, 0, 0, 0, TILIGORMIS_VM_KNOWN, 0, 0, 0};
+    expected = room;
+    memcpy(expected.answers + GUARD, answers, sizeof answers);
+    expected.machine[SECOND].known |= 1 << 3;
+    return sequence(&box, ROWS_LENGTH, ANSWERS_LENGTH + 1) == TILIGORMIS_ACCEPTED && as_expected();
+}
+
+bool no_rows(void) {
+    expected = room;
+    bool good = sequence(&box, 0, 0) == TILIGORMIS_ACCEPTED && as_expected();
+    good &= sequence(&box, 0, 3) == TILIGORMIS_ACCEPTED && as_expected();
+    return good;
+}
+
+bool free_lengths(void) {
+    static const size_t lengths[] = {0, 1, 3, 4};
+    bool good = true;
+    expected = room;
+    for (size_t k = 0; k < 4; k++) {
+        uint64_t number = free_pages(&box, lengths[k]);
+        good &= holds(number == TILIGORMIS_STATE_NOT_VALID && as_expected(), "free pages", lengths[k]);
+    }
+    return good;
+}

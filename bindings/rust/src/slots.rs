@@ -1,0 +1,50 @@
+//! The slots of one translation cache. These functions judge no box and may make one that is not
+//! valid.
+
+use crate::numbers::SLOTS;
+use crate::structs::Slot;
+use crate::{accepted, ffi};
+
+/// What a filled slot holds: for a CPU or device, a guest page of a VM and where it goes.
+#[derive(Clone, Copy, Debug, Default, PartialEq, Eq)]
+pub struct Translation {
+    /// CPU or device.
+    pub port: u64,
+    pub vm: u64,
+    pub guest: u64,
+    pub page: u64,
+    pub access: u64,
+    pub generation: u64,
+}
+
+/// The lowest filled slot, of the first [`SLOTS`], that holds this port, VM and guest page.
+pub fn find_slot(slots: &[Slot], port: u64, vm: u64, guest: u64) -> Option<usize> {
+    // SAFETY: the pointer and the length are those of a slice.
+    let place = unsafe { ffi::tiligormis_find_slot(slots.as_ptr(), slots.len(), port, vm, guest) };
+    (place < SLOTS).then_some(place)
+}
+
+/// Fills slot `place`. Refused, no slot changes: with [`crate::STATE_NOT_VALID`] where there are not
+/// [`SLOTS`] slots, with [`crate::OUT_OF_RANGE`] where a number is out of range.
+pub fn fill_slot(slots: &mut [Slot], place: usize, held: Translation) -> Result<(), u64> {
+    // SAFETY: the pointer and the length are those of a slice that is lent to be changed.
+    accepted(unsafe {
+        ffi::tiligormis_fill_slot(
+            slots.as_mut_ptr(),
+            slots.len(),
+            place as u64,
+            held.port,
+            held.vm,
+            held.guest,
+            held.page,
+            held.access,
+            held.generation,
+        )
+    })
+}
+
+/// Empties slot `place`. Refused as [`fill_slot`] is.
+pub fn empty_slot(slots: &mut [Slot], place: usize) -> Result<(), u64> {
+    // SAFETY: the pointer and the length are those of a slice that is lent to be changed.
+    accepted(unsafe { ffi::tiligormis_empty_slot(slots.as_mut_ptr(), slots.len(), place as u64) })
+}

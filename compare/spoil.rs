@@ -1,0 +1,213 @@
+//! Damage that the second program's types can't express, made on the box, each with what the paper
+//! says of it: whether the box is still valid.
+
+use std::ops::Range;
+
+use second::author::Rng;
+use second::machine::PAGES;
+use tiligormis::{Owned, Slot, IDLE, SETS, SET_WORDS, SLOTS, UNITS, VMS};
+
+use crate::damage::any;
+use crate::pack::{POOL, SHARED};
+
+/// Changes a part of a box; nothing where it has not got what the change is about.
+pub type Spoil<T> = fn(&mut T, &mut Rng) -> Option<()>;
+/// Its name, and whether a valid box stays so.
+pub type Named<T> = (&'static str, bool, Spoil<T>);
+
+const FILLED: u64 = 1 << 31;
+
+/// The four maps.
+pub const MAPS: [(&str, fn(&mut Owned) -> &mut Vec<u64>); 4] = [
+    ("CPU map", |owned| &mut owned.cpu_map),
+    ("CPU walker", |owned| &mut owned.cpu_walker),
+    ("DMA map", |owned| &mut owned.dma_map),
+    ("DMA walker", |owned| &mut owned.dma_walker),
+];
+
+pub const CACHES: [(&str, fn(&mut Owned) -> &mut Vec<Slot>); 2] =
+    [("CPU cache", |owned| &mut owned.cpu_cache), ("DMA cache", |owned| &mut owned.dma_cache)];
+
+/// Of a table of words, maps and pairs alike.
+pub const WORDS: &[Named<Vec<u64>>] = &[
+    ("words in another order", true, |words, rng| Some(shuffle(words, rng))),
+    ("a port in a word", false, |words, rng| add_bit(words, 56..64, rng)),
+    ("a word not marked filled", false, |words, rng| {
+        let place = any(rng, (0..words.len()).filter(|&place| words[place] & !FILLED != 0))?;
+        Some(words[place] &= !FILLED)
+    }),
+    ("a bit in an empty place", false, |words, rng| {
+        let bit = any(rng, (0..64).filter(|bit| 1 << bit != FILLED))?;
+        let place = empty(words, rng)?;
+        Some(words[place] = 1 << bit)
+    }),
+    ("a word twice", false, |words, rng| {
+        let (from, to) = (filled(words, rng)?, empty(words, rng)?);
+        Some(words[to] = words[from])
+    }),
+    ("a place more", false, |words, _| Some(words.push(0))),
+    ("a place less", false, |words, _| words.pop().map(|_| ())),
+    ("no place", false, |words, _| Some(words.clear())),
+];
+
+/// Of a map alone.
+pub const MAP_WORDS: &[Named<Vec<u64>>] = &[("a key twice", false, |words, rng| {
+    let (from, to) = (filled(words, rng)?, empty(words, rng)?);
+    Some(words[to] = words[from] ^ (1 << rng.below(31)))
+})];
+
+/// Of the pairs alone.
+pub const PAIR_WORDS: &[Named<Vec<u64>>] = &[
+    ("an access in a pair", false, |words, rng| add_bit(words, 16..19, rng)),
+    ("a generation in a pair", false, |words, rng| add_bit(words, 0..16, rng)),
+    ("a right end above 255", false, |words, rng| add_bit(words, 40..48, rng)),
+    ("a pair twice, its ends turned", false, |words, rng| {
+        let (from, to) = (filled(words, rng)?, empty(words, rng)?);
+        Some(words[to] = turned(words[from]))
+    }),
+    ("a pair with its ends turned", true, |words, rng| {
+        let place = filled(words, rng)?;
+        Some(words[place] = turned(words[place]))
+    }),
+];
+
+pub const SLOTS_OF_A_CACHE: &[Named<Vec<Slot>>] = &[
+    ("a slot not marked filled", false, |slots, rng| {
+        let place = any(rng, (0..slots.len()).filter(|&place| slots[place].entry != 0))?;
+        slots[place].entry &= !(FILLED as u32);
+        (slots[place] != Slot::default()).then_some(())
+    }),
+    ("a port in an empty slot", false, |slots, rng| Some(empty_slot(slots, rng)?.port = 1)),
+    ("a VM in an empty slot", false, |slots, rng| Some(empty_slot(slots, rng)?.vm = 1)),
+    ("a guest page in an empty slot", false, |slots, rng| Some(empty_slot(slots, rng)?.guest = 1)),
+    ("a bit of an entry in an empty slot", false, |slots, rng| {
+        let bit = 1 << rng.below(31);
+        Some(empty_slot(slots, rng)?.entry = bit)
+    }),
+    ("a place more", false, |slots, _| Some(slots.push(Slot::default()))),
+    ("a place less", false, |slots, _| slots.pop().map(|_| ())),
+    ("no place", false, |slots, _| Some(slots.clear())),
+];
+
+pub const SETS_AND_HEADER: &[Named<Owned>] = &[
+    ("a page at N or above in a set", false, |owned, rng| {
+        let page = any(rng, owned.machine.pages..PAGES)?;
+        let set = rng.below(SETS as u64) as usize;
+        Some(*word_of(owned, set, page) |= 1 << (page % 64))
+    }),
+    ("a page at N or above in the shared set", false, |owned, rng| {
+        let page = any(rng, owned.machine.pages..PAGES)?;
+        Some(*word_of(owned, SHARED, page) |= 1 << (page % 64))
+    }),
+    ("the shared set lacks a page", false, |owned, rng| {
+        let page = owned.machine.shared_base + any(rng, 0..owned.machine.shared_count)?;
+        Some(*word_of(owned, SHARED, page) &= !(1 << (page % 64)))
+    }),
+    ("a page of the pool in the shared set", false, |owned, rng| {
+        let pool = &owned.sets[POOL * SET_WORDS..];
+        let free = |page: &u64| pool[*page as usize / 64] >> (page % 64) & 1 == 1;
+        let page = any(rng, (0..PAGES).filter(free))?;
+        Some(*word_of(owned, SHARED, page) |= 1 << (page % 64))
+    }),
+    ("a shared span shorter than its set", false, |owned, _| {
+        owned.machine.shared_count = owned.machine.shared_count.checked_sub(1)?;
+        Some(())
+    }),
+    ("a shared span that is not its set", false, |owned, _| {
+        let header = &mut owned.machine;
+        let past = header.shared_base + header.shared_count == header.pages;
+        (header.shared_count > 0 && !past).then(|| header.shared_base += 1)
+    }),
+    ("a word twice in map and walker", false, |owned, rng| {
+        twice(&mut owned.cpu_map, &mut owned.cpu_walker, rng)
+    }),
+    ("a word twice in DMA map and walker", false, |owned, rng| {
+        twice(&mut owned.dma_map, &mut owned.dma_walker, rng)
+    }),
+    ("page sets a word more", false, |owned, _| Some(owned.sets.push(0))),
+    ("page sets a word less", false, |owned, _| owned.sets.pop().map(|_| ())),
+    ("no page sets", false, |owned, _| Some(owned.sets.clear())),
+    ("a known bit at 16 or above", false, |owned, rng| {
+        Some(owned.machine.known |= 1 << (VMS + rng.below(64 - VMS)))
+    }),
+    ("a CPU's number out of range", false, |owned, rng| {
+        Some(owned.machine.cpus[rng.below(8) as usize] = out_of_range(rng)?)
+    }),
+    ("a device's number out of range", false, |owned, rng| {
+        Some(owned.machine.devices[rng.below(8) as usize] = out_of_range(rng)?)
+    }),
+    ("33 units", false, |owned, _| Some(owned.machine.unit_count = UNITS as u64 + 1)),
+    ("a count of units far out", false, |owned, _| Some(owned.machine.unit_count = u64::MAX)),
+    ("mark 0", false, |owned, rng| mark(owned, 0, rng)),
+    ("mark 4", false, |owned, rng| mark(owned, 4, rng)),
+    ("a mark far out", false, |owned, rng| mark(owned, (1 << 32) + 1, rng)),
+    ("spare units with any content", true, |owned, rng| {
+        for unit in &mut owned.machine.units[owned.machine.unit_count as usize..] {
+            (unit.vm, unit.count, unit.mark) = (rng.next(), rng.next(), rng.next());
+        }
+        Some(())
+    }),
+];
+
+fn shuffle(words: &mut [u64], rng: &mut Rng) {
+    for place in 1..words.len() {
+        words.swap(place, rng.below(place as u64 + 1) as usize);
+    }
+}
+
+/// All tables in another order, pairs with their ends turned here and there.
+pub fn scatter(owned: &mut Owned, rng: &mut Rng) {
+    for (_, map) in MAPS {
+        shuffle(map(owned), rng);
+    }
+    shuffle(&mut owned.pairs, rng);
+    for word in owned.pairs.iter_mut().filter(|word| **word != 0) {
+        *word = if rng.chance(50) { turned(*word) } else { *word };
+    }
+}
+
+fn filled(words: &[u64], rng: &mut Rng) -> Option<usize> {
+    any(rng, (0..words.len()).filter(|&place| words[place] != 0))
+}
+
+fn empty(words: &[u64], rng: &mut Rng) -> Option<usize> {
+    any(rng, (0..words.len()).filter(|&place| words[place] == 0))
+}
+
+/// One of these bits in a filled word.
+fn add_bit(words: &mut [u64], bits: Range<u32>, rng: &mut Rng) -> Option<()> {
+    let (place, bit) = (filled(words, rng)?, any(rng, bits)?);
+    Some(words[place] |= 1 << bit)
+}
+
+/// One word a second time in both tables, so that as maps they still agree.
+fn twice(map: &mut [u64], walker: &mut [u64], rng: &mut Rng) -> Option<()> {
+    let word = map[filled(map, rng)?];
+    let (in_map, in_walker) = (empty(map, rng)?, empty(walker, rng)?);
+    (map[in_map], walker[in_walker]) = (word, word);
+    Some(())
+}
+
+/// A pair's word with left and right in each other's place.
+fn turned(word: u64) -> u64 {
+    let (left, right) = (word >> 48, word >> 32 & 0xFFFF);
+    right << 48 | left << 32 | word & 0xFFFF_FFFF
+}
+
+fn empty_slot<'a>(slots: &'a mut [Slot], rng: &mut Rng) -> Option<&'a mut Slot> {
+    let place = any(rng, (0..SLOTS).filter(|&place| slots[place] == Slot::default()))?;
+    Some(&mut slots[place])
+}
+
+fn word_of(owned: &mut Owned, set: usize, page: u64) -> &mut u64 {
+    &mut owned.sets[set * SET_WORDS + page as usize / 64]
+}
+
+fn out_of_range(rng: &mut Rng) -> Option<u64> {
+    any(rng, [VMS, IDLE - 1, IDLE + 1, 1 << 32, u64::MAX])
+}
+
+fn mark(owned: &mut Owned, mark: u64, rng: &mut Rng) -> Option<()> {
+    let unit = any(rng, 0..owned.machine.unit_count)? as usize;
+    Some(owned.machine.units[unit].mark = mark)
+}
