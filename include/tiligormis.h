@@ -2,7 +2,7 @@
  * Tiligormis: the page bookkeeping of a thin hypervisor, proved. This header is the library's manual for C; what the machine
  * does is in docs/MACHINE.md.
  *
- * The library keeps nothing. A box is a machine header, nine lent arrays and memory, all of them the caller's; every function
+ * The library keeps nothing. A box is a machine header, eight tables and memory, all of them the caller's; every function
  * works on what it is handed and gives it back when it returns. Each array crosses as a pointer and a number of elements.
  *
  * What is promised, and proved, for every content and every length of what is lent: the call ends, does nothing undefined, and

@@ -1,6 +1,6 @@
 //! Safe Rust over `libtiligormis.a`, the page bookkeeping of a thin hypervisor, proved.
 //!
-//! A box is a machine header, nine tables and memory, all of them the caller's. [`Lent`] is a box
+//! A box is a machine header, eight tables and memory, all of them the caller's. [`Lent`] is a box
 //! lent to the library; [`Owned`] is one on the heap to lend from. Slices of every length and any
 //! content may be lent: every entry but start judges the box first, refuses one that is not valid with
 //! [`STATE_NOT_VALID`], and leaves it as it was. `include/tiligormis.h` is the manual of the same
