@@ -7,8 +7,9 @@
  *
  * What is promised, and proved, for every content and every length of what is lent: the call ends, does nothing undefined, and
  * touches no byte outside. Every entry but start judges the box first. One that is not valid is refused with
- * TILIGORMIS_STATE_NOT_VALID and left as it was: a length that is not the one named below (a null pointer with length 0 among them), a mark that is none
- * of the three, a count of units above TILIGORMIS_UNITS, any number out of range, any rule of validity broken.
+ * TILIGORMIS_STATE_NOT_VALID and left as it was: a length that is not the one named below (a null pointer with length 0 among
+ * them), a mark that is none of the three, a count of units above TILIGORMIS_UNITS, any number out of range, any rule of
+ * validity broken.
  *
  * What C must see to, since no library can: a pointer with a length other than 0 points to that many elements, aligned as C
  * aligns them; no two arrays of a call overlap, header, answers and rows included, except that two which are both const may;
