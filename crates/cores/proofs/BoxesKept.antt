@@ -4,24 +4,28 @@ use Prim.Native.Nat.{ℕ, zero, suc}
 use mathlib.Core.List.{List}
 use mathlib.Core.Option.{Option, none, some}
 use mathlib.Core.Path.{_≡_, refl, sym, ap, _∙_, subst}
+use lib.ListN.{length-replicate}
+use Rattle.numbers.specs.Limits.{PORTS, UNITS, IDLE}
 use Rattle.numbers.specs.declared.Answer.{Answer}
 use Rattle.numbers.specs.declared.Answer.the-variants.{Accepted, Refused}
 use Rattle.numbers.specs.declared.Operation.{Operation}
+use Rattle.numbers.specs.declared.Refusal.{Refusal}
+use Rattle.units.specs.Units.{noUnit}
 use Rattle.model.specs.Effect.{kept, accepted}
 use Rattle.model.specs.Header.{stateOf, setupOf}
 use Rattle.model.specs.RefusedLaws.{row-leaves, sequence-leaves}
 use Rattle.model.specs.Sequence.{Progress, operationIn, rowAt, stepKnown, stepRow, shapeAnswer, rowCount, after, sequence}
 use Rattle.model.specs.ShapeLaws.{step-sizes}
-use Rattle.model.specs.Start.{Told, startAnswer, start}
+use Rattle.model.specs.Start.{Told, startAnswer, emptyState, freshState, start}
 use Rattle.model.specs.State.{State}
 use Rattle.model.specs.Valid.{Valid}
 use Rattle.model.proofs.Kept.{row-valid, sequence-valid}
-use Rattle.model.proofs.StartKept.{start-valid}
+use Rattle.model.proofs.StartKept.{start-valid, empty-not-valid}
 use Rattle.model.proofs.Answers.{after-next}
 use Rattle.header.specs.HeaderLaws.{changed-good, state-changed, begun-good, state-begun}
 use Rattle.header.specs.Numbers.{machineOf, HeaderGood, changed, begun}
 use Rattle.cores.specs.Boxes.{Box, BoxValid, stateIn, lentIn, withHeader, leftIn, begunIn}
-use Rattle.cores.specs.Given.{Judgement, met, unmet, operationGives, sequenceGives, startGives, IsHeader}
+use Rattle.cores.specs.Given.{Judgement, met, unmet, operationGives, sequenceGives, startGives, HeaderWhole}
 
 -- ---- no statement leaves two results open
 pub determined : {A : Type 0} {Asked : Type 0} {good bad r r′ : A} → Judgement Asked good bad r → Judgement Asked good bad r′ → r ≡ r′
@@ -104,7 +108,7 @@ module _ {C : Type 0} (wordsOf : C → List ℕ) (cacheOf : List ℕ → C) (bac
         kept-valid (r .answer) (r .progress .state) (sequence-valid (stateIn wordsOf b) (v .state) rows room) (sequence-setup (stateIn wordsOf b) rows room)
 
   -- ---- start: accepted, it leaves the started state in a valid box
-  module _ (b : Box C) (told : Told) (h : IsHeader (b .header)) (e : startAnswer told (lentIn wordsOf b) ≡ accepted) where
+  module _ (b : Box C) (told : Told) (h : HeaderWhole (b .header)) (e : startAnswer told (lentIn wordsOf b) ≡ accepted) where
     abbrev new : State
     new = start told (lentIn wordsOf b) .state
 
@@ -133,3 +137,28 @@ module _ {C : Type 0} (wordsOf : C → List ℕ) (cacheOf : List ℕ → C) (bac
           header = begun-good (b .header) new h (v .tables .lengths .units) (v .tables .lengths .cpu .ports) (v .tables .lengths .dma .ports);
           state = subst Valid (sym begun-state) v;
         })
+
+  -- refused, it leaves a box that is not valid: its header says the empty machine
+  module _ (b : Box C) (told : Told) (h : HeaderWhole (b .header)) {refusal : Refusal} {index : ℕ} (e : startAnswer told (lentIn wordsOf b) ≡ Refused refusal index) where
+    abbrev nothing : State
+    nothing = emptyState (lentIn wordsOf b)
+
+    no : start told (lentIn wordsOf b) .answer ≡ Refused refusal index
+    unfolding start
+    no = e
+
+    nothing-left : start told (lentIn wordsOf b) .state ≡ nothing
+    unfolding start
+    nothing-left = ap (λ (a : Answer). kept a nothing (freshState told)) e
+
+    left-over : startGives wordsOf cacheOf b told .box ≡ withHeader b (begun (b .header) (nothing .tables))
+    left-over =
+        ap (λ (a : Answer). kept a (withHeader b (begun (b .header) (start told (lentIn wordsOf b) .state .tables))) (begunIn cacheOf b (start told (lentIn wordsOf b) .state))) no
+        ∙ ap (λ (s : State). withHeader b (begun (b .header) (s .tables))) nothing-left
+
+    nothing-state : stateIn wordsOf (withHeader b (begun (b .header) (nothing .tables))) ≡ nothing
+    unfolding emptyState
+    nothing-state = state-begun (b .header) nothing h (length-replicate UNITS noUnit) (length-replicate PORTS IDLE) (length-replicate PORTS IDLE)
+
+    pub refused-box-not-valid : BoxValid wordsOf (startGives wordsOf cacheOf b told .box) → ⊥
+    refused-box-not-valid w = empty-not-valid (lentIn wordsOf b) (subst Valid (ap (stateIn wordsOf) left-over ∙ nothing-state) (w .state))

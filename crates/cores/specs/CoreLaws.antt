@@ -23,7 +23,7 @@ use Rattle.header.specs.HeaderLaws.{changed-same}
 use Rattle.start.specs.Begun.{emptyHeader}
 use Rattle.header.specs.Numbers.{HeaderGood, machineOf, changed, begun, begunBy, numberOf, answered, freeNumbers}
 use Rattle.cores.specs.Boxes.{Box, BoxValid, stateIn, lentIn, withHeader, boxOf, leftIn, begunIn}
-use Rattle.cores.specs.Given.{Judgement, met, unmet, Given, given, answeredBy, operationGives, operationRefused, OperationAsked, ranThrough, sequenceGives, refusedWhole, FreeGiven, freeTold, FreeAsked, freeGives, freeGiven, FREE-NUMBERS, StartGiven, startGiven, startGives, startShort, StartOfWords, all-there, not-whole, no-header, notValid, Whole, same, IsHeader}
+use Rattle.cores.specs.Given.{Judgement, met, unmet, Given, given, answeredBy, operationGives, operationRefused, OperationAsked, ranThrough, sequenceGives, refusedWhole, FreeGiven, freeTold, FreeAsked, freeGives, freeGiven, FREE-NUMBERS, StartGiven, startGiven, startGives, startShort, StartOfWords, all-there, not-whole, no-header, notValid, Whole, same, HeaderWhole}
 use Rattle.model.specs.RefusedLaws.{row-leaves, sequence-leaves}
 
 module _ (b : Box (List ℕ)) (h : HeaderGood (b .header)) where
@@ -131,13 +131,13 @@ module _ {cpuSlots dmaSlots : ℕ} {b : Box (List ℕ)} {m : Machine} where
       rw (n, a) (free-given b h room f w (λ v. record { box = v; whole-room = k }) (subst (λ (x : Machine). JudgedFree (under b x) f) e j))
 
 module _ {cpuSlots dmaSlots : ℕ} {b : Box (List ℕ)} {told : Told} where
-  pub start-core : {r : Started} {number : ℕ} {header′ : List ℕ} → IsHeader (b .header) → Whole cpuSlots dmaSlots → r ≡ start told (lentIn same b)
+  pub start-core : {r : Started} {number : ℕ} {header′ : List ℕ} → HeaderWhole (b .header) → Whole cpuSlots dmaSlots → r ≡ start told (lentIn same b)
       → number ≡ numberOf (r .answer) → header′ ≡ begun (b .header) (r .state .tables) → StartOfWords cpuSlots dmaSlots b told (startGiven number (boxOf same header′ (r .state)))
   start-core {r = r} h w e n c = all-there h w (rw (n, c) (start-given b told r e))
 
-  pub short-core : {m : Machine} {number : ℕ} {header′ : List ℕ} → IsHeader (b .header) → (Whole cpuSlots dmaSlots → ⊥) → m ≡ emptyHeader
+  pub short-core : {m : Machine} {number : ℕ} {header′ : List ℕ} → HeaderWhole (b .header) → (Whole cpuSlots dmaSlots → ⊥) → m ≡ emptyHeader
       → number ≡ numberOf notValid → header′ ≡ begunBy (b .header) m → StartOfWords cpuSlots dmaSlots b told (startGiven number (withHeader b header′))
   short-core h w e n c = not-whole h w (rw (n, c, e) (short-given b told))
 
-  pub no-core : {number : ℕ} → (IsHeader (b .header) → ⊥) → number ≡ numberOf notValid → StartOfWords cpuSlots dmaSlots b told (startGiven number b)
+  pub no-core : {number : ℕ} → (HeaderWhole (b .header) → ⊥) → number ≡ numberOf notValid → StartOfWords cpuSlots dmaSlots b told (startGiven number b)
   no-core h n = no-header h (rw n)

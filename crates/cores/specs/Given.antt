@@ -93,8 +93,8 @@ startGives wordsOf cacheOf b told = startedBy cacheOf b (start told (lentIn word
 abbrev pub startRefused : {C : Type 0} → Box C → StartGiven C
 startRefused b = record { number = numberOf notValid; box = b }
 
-abbrev pub IsHeader : List ℕ → Type 0
-IsHeader numbers = length numbers ≡ MACHINE-NUMBERS
+abbrev pub HeaderWhole : List ℕ → Type 0
+HeaderWhole numbers = length numbers ≡ MACHINE-NUMBERS
 
 -- ---- the cores, which have 64 words of each cache whatever was lent: so many slots there were
 abbrev pub Whole : ℕ → ℕ → Type 0
@@ -108,6 +108,6 @@ abbrev pub startShort : Box (List ℕ) → StartGiven (List ℕ)
 startShort b = startedBy same b (record { answer = notValid; state = emptyState (lentIn same b) })
 
 pub data StartOfWords (cpuSlots dmaSlots : ℕ) (b : Box (List ℕ)) (told : Told) (result : StartGiven (List ℕ)) : Type 0 where
-  all-there : IsHeader (b .header) → Whole cpuSlots dmaSlots → result ≡ startGives same same b told → StartOfWords cpuSlots dmaSlots b told result
-  not-whole : IsHeader (b .header) → (Whole cpuSlots dmaSlots → ⊥) → result ≡ startShort b → StartOfWords cpuSlots dmaSlots b told result
-  no-header : (IsHeader (b .header) → ⊥) → result ≡ startRefused b → StartOfWords cpuSlots dmaSlots b told result
+  all-there : HeaderWhole (b .header) → Whole cpuSlots dmaSlots → result ≡ startGives same same b told → StartOfWords cpuSlots dmaSlots b told result
+  not-whole : HeaderWhole (b .header) → (Whole cpuSlots dmaSlots → ⊥) → result ≡ startShort b → StartOfWords cpuSlots dmaSlots b told result
+  no-header : (HeaderWhole (b .header) → ⊥) → result ≡ startRefused b → StartOfWords cpuSlots dmaSlots b told result

@@ -36,6 +36,10 @@ DEVICES-AT = 15
 abbrev pub UNITS-AT : ℕ
 UNITS-AT = 23
 
+-- of a unit's numbers, its mark
+abbrev pub MARK-AT : ℕ
+MARK-AT = 5
+
 abbrev pub MACHINE-NUMBERS : ℕ
 MACHINE-NUMBERS = 215
 
@@ -64,11 +68,11 @@ machineOf numbers =
 -- as many numbers as a header has, and a mark's number in each unit within the count
 pub record HeaderGood (numbers : List ℕ) : Type 0 where
   pub whole : length numbers ≡ MACHINE-NUMBERS
-  pub marks : (k : ℕ) → k < UNITS → k < getD numbers UNIT-COUNT-AT 0 → isMark (numberTold (unitsPart numbers) k 5) ≡ true
+  pub marks : (k : ℕ) → k < UNITS → k < getD numbers UNIT-COUNT-AT 0 → isMark (numberTold (unitsPart numbers) k MARK-AT) ≡ true
 
 -- unit k is within the count and its mark is none
 abbrev pub badMark : List ℕ → ℕ → ℕ → Bool
-badMark units count k = ltb k count && not (isMark (numberTold units k 5))
+badMark units count k = ltb k count && not (isMark (numberTold units k MARK-AT))
 
 -- ---- what an operation leaves: the numbers that it may change, written over those that were there
 abbrev pub changing : Tables → List ℕ

@@ -27,6 +27,9 @@ const DEVICES_AT: usize = 15;
 
 const UNITS_AT: usize = 23;
 
+// Of a unit's numbers, its mark.
+const MARK_AT: usize = 5;
+
 pub const MACHINE_NUMBERS: usize = 215;
 
 // The lowest free page where none is free.
@@ -41,7 +44,7 @@ fn any_bad_mark(units: &[u64], count: u64) -> bool
 {
     let mut k = 0;
     while k < UNITS {
-        let mark = units[k * UNIT_NUMBERS + 5];
+        let mark = units[k * UNIT_NUMBERS + MARK_AT];
         if ((k as u64) < count) & !units::is_mark(mark) {
             return true;
         }

@@ -18,7 +18,7 @@ use Rattle.model.specs.State.{State}
 use Rattle.model.specs.ToldLaws.{LengthsPassed, lengths-passed}
 use Rattle.header.specs.Numbers.{numberOf, changed, begun}
 use Rattle.cores.specs.Boxes.{Box, box, stateIn, lentIn, BoxValid, withHeader, boxOf}
-use Rattle.cores.specs.Given.{Judgement, met, unmet, Given, given, answeredBy, operationGives, operationRefused, OperationAsked, ranThrough, sequenceGives, refusedWhole, FreeGiven, freeTold, FreeAsked, freeGives, StartGiven, startGiven, startedBy, startGives, startRefused, notValid, StartOfWords, all-there, not-whole, no-header, Whole, same, IsHeader}
+use Rattle.cores.specs.Given.{Judgement, met, unmet, Given, given, answeredBy, operationGives, operationRefused, OperationAsked, ranThrough, sequenceGives, refusedWhole, FreeGiven, freeTold, FreeAsked, freeGives, StartGiven, startGiven, startedBy, startGives, startRefused, notValid, StartOfWords, all-there, not-whole, no-header, Whole, same, HeaderWhole}
 use Rattle.tiligormis.specs.Slots.{wordOf, words, slotsOf, AllFit, loaded, stored}
 use Rattle.tiligormis.specs.SlotLaws.{loaded-whole, stored-whole, same-loaded}
 use Rattle.tiligormis.specs.declared.Slot.{Slot}
@@ -134,7 +134,7 @@ module _ (header sets pairs cpuMap cpuWalker : List ℕ) (cpuSlots : List Slot) 
       began n x y e f = λ i. startGiven (ap (λ (g : StartGiven (List ℕ)). g .number) e i) ((after ∙ f (ap (λ (g : StartGiven (List ℕ)). g .box) e)) i)
 
       pub start-slots : (told : Told) → StartOfWords (length cpuSlots) (length dmaSlots) ofWords told (startGiven number leftWords)
-          → Judgement (IsHeader header) (startGives words slotsOf ofSlots told) (startRefused ofSlots) (startGiven number leftSlots)
+          → Judgement (HeaderWhole header) (startGives words slotsOf ofSlots told) (startRefused ofSlots) (startGiven number leftSlots)
       start-slots told (all-there h w e) =
           let q = start told (lentIn same ofWords) in
           met h (began _ _ _ e (stored-kept w (q .answer) (begun header (q .state .tables)) (begun header (q .state .tables)) (q .state)) ∙ ap (λ (l : Lent). startedBy slotsOf ofSlots (start told l)) (same-lent w))

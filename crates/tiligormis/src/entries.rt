@@ -4,7 +4,7 @@ ghost use Rattle.numbers.specs.Decides.{Decides};
 ghost use Rattle.model.specs.Start.{freeRefused};
 ghost use Rattle.start.specs.Begun.{told};
 ghost use Rattle.cores.specs.Boxes.{box, BoxValid};
-ghost use Rattle.cores.specs.Given.{Judgement, given, operationGives, operationRefused, OperationAsked, sequenceGives, refusedWhole, freeGives, freeTold, freeGiven, FreeAsked, startGives, startGiven, startRefused, IsHeader};
+ghost use Rattle.cores.specs.Given.{Judgement, given, operationGives, operationRefused, OperationAsked, sequenceGives, refusedWhole, freeGives, freeTold, freeGiven, FreeAsked, startGives, startGiven, startRefused, HeaderWhole};
 ghost use Rattle.tiligormis.specs.Slots.{words, slotsOf};
 use super::Slot;
 use super::load;
@@ -197,7 +197,7 @@ pub extern "C" fn tiligormis_start(
     shared_count: u64,
     units: &[u64],
 ) -> u64
-    ensures { λ r. ⌜ Judgement (IsHeader (now (machine .entry)))
+    ensures { λ r. ⌜ Judgement (HeaderWhole (now (machine .entry)))
         (startGives words slotsOf (box (now (machine .entry)) (now (sets .entry)) (now (pairs .entry)) (now («cpu_map» .entry)) (now («cpu_walker» .entry)) (now («cpu_cache» .entry)) (now («dma_map» .entry)) (now («dma_walker» .entry)) (now («dma_cache» .entry)) (now (memory .entry))) (told pages «shared_base» «shared_count» (now (units .entry))))
         (startRefused (box (now (machine .entry)) (now (sets .entry)) (now (pairs .entry)) (now («cpu_map» .entry)) (now («cpu_walker» .entry)) (now («cpu_cache» .entry)) (now («dma_map» .entry)) (now («dma_walker» .entry)) (now («dma_cache» .entry)) (now (memory .entry))))
         (startGiven r (box (now (machine .exit)) (now (sets .exit)) (now (pairs .exit)) (now («cpu_map» .exit)) (now («cpu_walker» .exit)) (now («cpu_cache» .exit)) (now («dma_map» .exit)) (now («dma_walker» .exit)) (now («dma_cache» .exit)) (now (memory .exit)))) ⌝ }
