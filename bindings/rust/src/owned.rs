@@ -21,7 +21,7 @@ pub struct Owned {
 
 impl Owned {
     /// Tables and memory for a machine of `pages` pages, all 0. Nothing is started: the header is of
-    /// a machine of no pages, which every entry refuses.
+    /// a machine of no pages, which every other entry refuses.
     pub fn new(pages: usize) -> Owned {
         Owned {
             machine: Box::default(),

@@ -34,7 +34,7 @@ pub struct Unit {
 
 /// The machine header. Start writes all of it; operations change `known`, the hands and the ports.
 /// Units from `unit_count` on are not looked at. The default is all 0, a machine of no pages,
-/// which every entry refuses.
+/// which every other entry refuses.
 #[repr(C)]
 #[derive(Clone, Copy, Debug, Default, PartialEq, Eq)]
 pub struct Machine {
@@ -62,7 +62,7 @@ pub struct Answer {
     pub number: u64,
     /// Of a region refused with 6, 7, 9, 10 or 11: its lowest page that fails; else 0.
     pub index: u64,
-    /// Cache slots that an unmapping or a replacement dropped.
+    /// Cache slots that an unmapping, a replacement or the removal of a region dropped.
     pub dropped: u64,
     /// The word read; 0 except for an accepted read.
     pub word: u64,
