@@ -1,5 +1,5 @@
 //! The second program's machine as the library's box, and back, by the text of
-//! include/tiligormis.h alone.
+//! include/tiligormis.h and the manual's table of bits.
 
 use std::collections::{BTreeMap, BTreeSet};
 use std::fmt;
