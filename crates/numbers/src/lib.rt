@@ -2,7 +2,7 @@
 // docs/MACHINE.md, sections 1 and 2, say what each means; specs/ gives each enum its numbers.
 ghost use mathlib.Core.Path.{_≡_};
 ghost use Prim.Native.Nat.{_<_};
-ghost use Rattle.numbers.specs.Meaning.{refusalNumber, answerNumbers, targetNumber, operationNumber};
+ghost use Rattle.numbers.specs.Meaning.{refusalNumber, answerNumbers, targetNumber};
 ghost use Rattle.numbers.specs.Packing.{entry, slotWord, mapWord, pairWord, slotKey, key, portOf, vmOf, guestOf, entryOf, pageOf, accessOf, generationOf, keyOf, addressOf, leftOf, rightOf, filledOf, pairKey, pairKeyOf};
 
 // ---- Limits. Each has this one name in code and the same name in specs/Limits.antt.

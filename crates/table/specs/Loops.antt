@@ -8,7 +8,7 @@ use native.Mathlib.Omega.{arith}
 use borrow.Author.Fill.{fill-none, fill-more}
 use lib.ListN.{length, getD, set, take, drop, replicate, length-set, length-map, drop-of-length-le}
 use lib.Seq.{drop-length, drop-cons, take-suc, take-all, length-take-le, getD-at, set-at, append-snoc}
-use Rattle.table.specs.Scan.{first, firstFrom, any, lowest, lowestFrom, count, cleared, wipe, repeat, anyFrom, anyBelow, countBelow}
+use Rattle.table.specs.Scan.{first, firstFrom, any, lowest, lowestFrom, count, cleared, wipe, repeat, anyFrom, anyBelow}
 use Rattle.table.specs.declared.Found.the-variants.{At, Nothing}
 
 less : (n i : ℕ) → i < n → n - i ≡ suc (n - (i + 1))
@@ -143,25 +143,6 @@ module _ (p : ℕ → Bool) (ws : List ℕ) where
   tally-end n i r h =
       let t : count p (drop i ws) ≡ 0 = rw (drop-of-length-le ws h) in
       omega arith
-
--- ---- counts the numbers below n that pass: m so far
-pub record Counting (p : ℕ → Bool) (n m i : ℕ) : Type 0 where
-  pub place : i ≤ n
-  pub few : m ≤ i
-  pub sum : m ≡ countBelow p i
-
-module _ (p : ℕ → Bool) (n : ℕ) where
-  pub count-start : Counting p n 0 0
-  count-start = record { place = omega arith; few = omega arith; sum = refl }
-
-  pub count-hit : (m i : ℕ) → Counting p n m i → i < n → p i ≡ true → Counting p n (m + 1) (i + 1)
-  count-hit m i r h e = record { place = omega arith; few = omega arith; sum = rw (add-one i, e, r .sum) }
-
-  pub count-miss : (m i : ℕ) → Counting p n m i → i < n → p i ≡ false → Counting p n m (i + 1)
-  count-miss m i r h e = record { place = omega arith; few = omega arith; sum = rw (add-one i, e, r .sum) }
-
-  pub count-end : (m i : ℕ) → Counting p n m i → n ≤ i → m ≡ countBelow p n
-  count-end m i r h = let e : i ≡ n = omega arith in rw e at (r .sum)
 
 -- ---- empties the words that pass
 -- the first i words are edited, and the later ones are as they were
