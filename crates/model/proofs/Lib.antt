@@ -31,6 +31,7 @@ pub mod ExactRegions
 pub mod Exactly
 pub mod Determined
 pub mod Answers
+pub mod AnswerNumbers
 pub mod EffectLaws
 pub mod Secret
 pub mod Secrecy
