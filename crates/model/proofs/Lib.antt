@@ -23,6 +23,7 @@ pub mod GoodRegions
 pub mod Kept
 pub mod FullMaps
 pub mod Refusals
+pub mod RefusalOrder
 pub mod ExactLaws
 pub mod ExactViews
 pub mod ExactLedger
