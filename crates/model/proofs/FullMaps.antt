@@ -1,4 +1,4 @@
--- A machine with a full map: its k-th entry maps guest page k of one VM onto one page, and nothing is cached.
+-- A machine with a full map, or with both: its k-th entry maps guest page k of one VM onto one page, and nothing is cached.
 use Prim.Native.Nat.{ℕ, zero, suc, _+_, _<_}
 use mathlib.Core.Bool.{true}
 use mathlib.Core.List.{List, [], _∷_}
@@ -9,10 +9,11 @@ use Rattle.numbers.specs.Limits.{VMS, PAGES, ENTRIES, SLOTS, READ}
 use Rattle.numbers.specs.Packing.{entry, mapWord, key, keyOf}
 use Rattle.numbers.specs.PackingLaws.{key-same}
 use Rattle.numbers.specs.declared.Side.{Side}
+use Rattle.numbers.specs.declared.Side.the-variants.{Cpu, Dma}
 use Rattle.table.specs.Table.{Has, Distinct}
-use Rattle.model.specs.State.{Tables, Route, route, withRoute, withMaps}
+use Rattle.model.specs.State.{Tables, Route, State, route, withRoute, withMaps}
 use Rattle.model.specs.Views.{knows, mayMap}
-use Rattle.model.specs.Valid.{EntryGood, MapGood, SameMap, ValidTables}
+use Rattle.model.specs.Valid.{EntryGood, MapGood, SameMap, ValidTables, Valid}
 use Rattle.model.proofs.StartKept.{empty-has, empty-distinct}
 use Rattle.model.proofs.RoutesKept.{entry-key, entry-made}
 use Rattle.model.proofs.OneRoute.{route-of, lengths-of, maps-route, route-valid}
@@ -33,6 +34,10 @@ fullRoute r vm page = withMaps r (fullMap vm page) (fullMap vm page) (replicate 
 
 abbrev pub withFullMap : Side → Tables → ℕ → ℕ → Tables
 withFullMap side t vm page = withRoute side t (fullRoute (route side t) vm page)
+
+-- both of them, for CPU onto one page and for DMA onto another
+abbrev pub withFullMaps : State → ℕ → ℕ → ℕ → State
+withFullMaps s vm page dmaPage = record { tables = withFullMap Dma (withFullMap Cpu (s .tables) vm page) vm dmaPage; memory = s .memory }
 
 -- ---- its entries
 length-mappings : (vm page guest n : ℕ) → length (mappingsFrom vm page guest n) ≡ n
@@ -82,3 +87,8 @@ module _ (side : Side) (t : Tables) (v : ValidTables t) (vm page : ℕ) (l : vm 
       (record { map = long ∙ sym (r .map); walker = long ∙ sym (r .walker); cache = length-replicate {A = ℕ} SLOTS 0 ∙ sym (r .cache); ports = refl })
       (maps-route side t (route side t) _ _ _ (route-of side t v) (record { map = g; walker = g; same = λ x h. refl; as-long = refl })
       (record { each = λ w h. absurd (empty-has SLOTS w h); once = empty-distinct SLOTS keyOf refl }))
+
+pub full-maps-valid : (s : State) → Valid s → (vm page dmaPage : ℕ) → vm < VMS → page < s .tables .setup .pages → dmaPage < s .tables .setup .pages → knows (s .tables .known) vm ≡ true →
+    (mayMap Cpu (s .tables .sets) (s .tables .pairs) vm page ≡ true) × (mayMap Dma (s .tables .sets) (s .tables .pairs) vm dmaPage ≡ true) → Valid (withFullMaps s vm page dmaPage)
+full-maps-valid s v vm page dmaPage l b b′ k (cpu, dma) =
+    record { tables = full-valid Dma (withFullMap Cpu (s .tables) vm page) (full-valid Cpu (s .tables) (v .tables) vm page l b k cpu) vm dmaPage l b′ k dma; memory = v .memory }

@@ -23,6 +23,7 @@ pub mod GoodRegions
 pub mod Kept
 pub mod FullMaps
 pub mod Refusals
+pub mod RefusalOrder
 pub mod ExactLaws
 pub mod ExactViews
 pub mod ExactLedger
@@ -31,6 +32,7 @@ pub mod ExactRegions
 pub mod Exactly
 pub mod Determined
 pub mod Answers
+pub mod AnswerNumbers
 pub mod EffectLaws
 pub mod Secret
 pub mod Secrecy

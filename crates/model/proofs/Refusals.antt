@@ -22,7 +22,7 @@ use Rattle.model.proofs.Computes.{computes}
 use Rattle.model.proofs.Worked.{Said, row, query, Line, _⟼_, heardIn, hear, answers, lent}
 use Rattle.model.proofs.StartKept.{start-valid}
 use Rattle.model.proofs.Kept.{row-valid}
-use Rattle.model.proofs.FullMaps.{mappingsFrom, withFullMap, full-valid}
+use Rattle.model.proofs.FullMaps.{mappingsFrom, withFullMaps, full-maps-valid}
 
 -- ---- a scene: rows, all accepted, that lead to a state, and lines, each of them said in that state
 pub record Scene : Type 0 where
@@ -551,7 +551,7 @@ unfoldable pub beforeFull : State
 beforeFull = reached sixteen owned
 
 abbrev pub full : State
-full = record { tables = withFullMap Dma (withFullMap Cpu (beforeFull .tables) 1 0) 1 15; memory = beforeFull .memory }
+full = withFullMaps beforeFull 1 0 15
 
 abbrev pub fullScenes : List Scene
 fullScenes =
@@ -639,7 +639,7 @@ pub none-left-out : operationsFrom (codesOf (scenes ++ fullScenes)) 1 26 ≡ lis
 none-left-out = refl
 
 -- ---- every state of these scenes is valid
-reached-valid : (way : List (List ℕ)) (s : State) → Valid s → Valid (reached s way)
+pub reached-valid : (way : List (List ℕ)) (s : State) → Valid s → Valid (reached s way)
 reached-valid [] s v = v
 reached-valid (r ∷ rs) s v = reached-valid rs (stepRow s r .state) (row-valid s v r)
 
@@ -669,12 +669,7 @@ unfolding computes sixteen beforeFull
 before-full-may = (refl, refl)
 
 both-full-valid : Valid full
-both-full-valid =
-    let t = beforeFull .tables in
-    let v = before-full-valid in
-    let (cpu, dma) = before-full-may in
-    let c = full-valid Cpu t (v .tables) 1 0 (omega arith) (omega (arith, before-full-pages)) before-full-known cpu in
-    record { tables = full-valid Dma (withFullMap Cpu t 1 0) c 1 15 (omega arith) (omega (arith, before-full-pages)) before-full-known dma; memory = v .memory }
+both-full-valid = full-maps-valid beforeFull before-full-valid 1 0 15 (omega arith) (omega (arith, before-full-pages)) (omega (arith, before-full-pages)) before-full-known before-full-may
 
 pub all-valid : (way : List (List ℕ)) → Valid (reached sixteen way) × Valid (reached full way)
 all-valid way = (reached-valid way sixteen sixteen-valid, reached-valid way full both-full-valid)
