@@ -1,16 +1,21 @@
-//! Times the library against two Rust versions of the machine and prints one table of ratios.
-//! docs/BENCH.md says how.
+//! Times the library against two Rust versions of the machine and prints one table of ratios, or its
+//! test for validity against a quadratic one. docs/SPEED.md says how.
 //!
-//!     bench [ROUNDS]      first compares answers, then measures
-//!     bench check         compares answers alone
+//!     bench [ROUNDS]          first compares answers, then measures
+//!     bench check             compares answers alone
+//!     bench valid [ROUNDS]    the test for validity: compares, then measures
 
 mod agree;
 mod bounded;
+mod boxes;
 mod cases;
 mod contest;
 mod idiomatic;
+mod inputs;
 mod measure;
+mod quadratic;
 mod rows;
+mod validity;
 
 use std::process::ExitCode;
 
@@ -20,23 +25,51 @@ const SEED: u64 = 1;
 /// Rounds of every line unless the command says otherwise.
 const ROUNDS: usize = 200;
 
-fn main() -> ExitCode {
-    let argument = std::env::args().nth(1);
-    let only_check = argument.as_deref() == Some("check");
-    let Some(rounds) = argument.filter(|_| !only_check).map_or(Some(ROUNDS), |a| a.parse().ok())
-    else {
-        eprintln!("usage: bench [ROUNDS] | bench check");
-        return ExitCode::from(2);
-    };
-    match agree::compare(SEED, COMPARED) {
-        Ok(rows) => println!("{rows} generated rows: library, (a) and (b) answer alike."),
+/// What is to be done, with how many rounds.
+enum Asked {
+    Operations(usize),
+    Check,
+    Validity(usize),
+}
+
+/// `None` where the command is not understood.
+fn asked() -> Option<Asked> {
+    let rounds = |argument: Option<String>| argument.map_or(Some(ROUNDS), |a| a.parse().ok());
+    let mut arguments = std::env::args().skip(1).peekable();
+    match arguments.peek().map(String::as_str) {
+        Some("check") => Some(Asked::Check),
+        Some("valid") => rounds(arguments.nth(1)).map(Asked::Validity),
+        _ => rounds(arguments.next()).map(Asked::Operations),
+    }
+}
+
+/// Says what was compared, and measures where nothing differs.
+fn compared(said: Result<String, String>, measure: impl FnOnce()) -> ExitCode {
+    match said {
+        Ok(compared) => {
+            println!("{compared}");
+            measure();
+            ExitCode::SUCCESS
+        }
         Err(difference) => {
-            eprintln!("The machines differ, so nothing is measured.\n{difference}");
-            return ExitCode::FAILURE;
+            eprintln!("The answers differ, so nothing is measured.\n{difference}");
+            ExitCode::FAILURE
         }
     }
-    if !only_check {
-        measure::table(rounds);
+}
+
+fn main() -> ExitCode {
+    let rows = || {
+        let say = |rows| format!("{rows} generated rows: library, (a) and (b) answer alike.");
+        agree::compare(SEED, COMPARED).map(say)
+    };
+    match asked() {
+        Some(Asked::Operations(rounds)) => compared(rows(), || measure::table(rounds)),
+        Some(Asked::Check) => compared(rows(), || {}),
+        Some(Asked::Validity(rounds)) => compared(validity::agree(), || validity::table(rounds)),
+        None => {
+            eprintln!("usage: bench [ROUNDS] | bench check | bench valid [ROUNDS]");
+            ExitCode::from(2)
+        }
     }
-    ExitCode::SUCCESS
 }
