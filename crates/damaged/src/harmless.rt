@@ -1,21 +1,21 @@
 // Changes that leave a state valid: what the test must not mind.
-use crate::base::PORT;
-use crate::base::pair;
-use crate::base::slot;
-use crate::base::unit;
-use crate::change::dma_case;
-use crate::change::flip_case;
-use crate::change::hand_case;
-use crate::change::known_case;
-use crate::change::port_case;
-use crate::change::swap_case;
-use crate::change::with_shared_base;
-use crate::change::with_unit;
-use crate::change::with_unit_count;
-use crate::state::MEMORY_WORDS;
-use crate::state::Table;
-use crate::state::WORDS;
-use crate::state::show;
+use changes::base::PORT;
+use changes::base::pair;
+use changes::base::slot;
+use changes::base::unit;
+use changes::dma_case;
+use changes::flip_case;
+use changes::hand_case;
+use changes::known_case;
+use changes::port_case;
+use changes::state::MEMORY_WORDS;
+use changes::state::Table;
+use changes::state::WORDS;
+use changes::state::show;
+use changes::swap_case;
+use changes::with_shared_base;
+use changes::with_unit;
+use changes::with_unit_count;
 use model::Machine;
 use numbers::IDLE;
 use numbers::Side;
@@ -24,12 +24,12 @@ const LAST_WORD: usize = MEMORY_WORDS - 1;
 
 // Of the state after start.
 pub fn empty_span(m: Machine, words: &[u64; WORDS]) {
-    let rule = b"harmless";
+    let rule: &[u8] = b"harmless";
     show(rule, b"empty span elsewhere", with_shared_base(m, 0), words);
 }
 
 pub fn header(m: Machine, words: &[u64; WORDS]) {
-    let rule = b"harmless";
+    let rule: &[u8] = b"harmless";
     let past = with_unit(m, 31, unit(16, 0, 0, 0, 8));
     show(rule, b"unit past the count", past, words);
     show(rule, b"no units", with_unit_count(m, 0), words);
@@ -38,8 +38,8 @@ pub fn header(m: Machine, words: &[u64; WORDS]) {
     known_case(rule, b"a VM less", m, words, 14);
 }
 
-pub fn tables(m: Machine, words: &mut [u64; WORDS]) {
-    let rule = b"harmless";
+pub fn tables(m: Machine, words: &[u64; WORDS]) {
+    let rule: &[u8] = b"harmless";
     dma_case(rule, b"page of the pool for DMA", m, words, 1, 20);
     dma_case(rule, b"page of its own for DMA", m, words, 1, 2);
     dma_case(rule, b"DMA page that no map needs", m, words, 2, 5);
@@ -52,12 +52,12 @@ pub fn tables(m: Machine, words: &mut [u64; WORDS]) {
 }
 
 // Places 0 and 9 of a walker are filled, 8 is empty.
-pub fn walker(rule: &[u8], m: Machine, words: &mut [u64; WORDS], table: Table) {
+pub fn walker(rule: &[u8], m: Machine, words: &[u64; WORDS], table: Table) {
     swap_case(rule, b"two entries", m, words, table, 0, 9);
     swap_case(rule, b"an entry and an empty place", m, words, table, 8, 9);
 }
 
-pub fn cache(rule: &[u8], m: Machine, words: &mut [u64; WORDS], table: Table) {
+pub fn cache(rule: &[u8], m: Machine, words: &[u64; WORDS], table: Table) {
     let kept = slot(0, 1, 16, 0, 3, 0);
     flip_case(rule, b"a slot less", m, words, table, 0, kept);
     flip_case(rule, b"a slot more", m, words, table, 20, kept | 6 * PORT);

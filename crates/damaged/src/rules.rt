@@ -1,42 +1,42 @@
 // The damaged states, a function or two for each rule of the manual. Most break one clause of one rule and no other.
 ghost use Prim.Native.Nat.{_+_, _<_};
-ghost use Rattle.damaged.specs.Words.{WORDS};
-use crate::base::ACCESS;
-use crate::base::FILLED;
-use crate::base::GENERATION;
-use crate::base::PORT;
-use crate::base::pair;
-use crate::base::unit;
-use crate::change::POOL;
-use crate::change::SHARED;
-use crate::change::cpu_case;
-use crate::change::dma_case;
-use crate::change::flip_case;
-use crate::change::hand_case;
-use crate::change::known_case;
-use crate::change::port_case;
-use crate::change::set_case;
-use crate::change::with_pages;
-use crate::change::with_shared_base;
-use crate::change::with_shared_count;
-use crate::change::with_unit;
-use crate::change::with_unit_count;
-use crate::state::CACHE_WORDS;
-use crate::state::CPU_CACHE_AT;
-use crate::state::CPU_MAP_AT;
-use crate::state::CPU_WALKER_AT;
-use crate::state::DMA_CACHE_AT;
-use crate::state::DMA_MAP_AT;
-use crate::state::DMA_WALKER_AT;
-use crate::state::MEMORY_AT;
-use crate::state::MEMORY_WORDS;
-use crate::state::PAIRS_AT;
-use crate::state::SETS_AT;
-use crate::state::SETS_WORDS;
-use crate::state::Table;
-use crate::state::WORDS;
-use crate::state::show;
-use crate::state::show_lent;
+ghost use Rattle.changes.specs.Words.{WORDS};
+use changes::POOL;
+use changes::SHARED;
+use changes::base::ACCESS;
+use changes::base::FILLED;
+use changes::base::GENERATION;
+use changes::base::PORT;
+use changes::base::pair;
+use changes::base::unit;
+use changes::cpu_case;
+use changes::dma_case;
+use changes::flip_case;
+use changes::hand_case;
+use changes::known_case;
+use changes::port_case;
+use changes::set_case;
+use changes::state::CACHE_WORDS;
+use changes::state::CPU_CACHE_AT;
+use changes::state::CPU_MAP_AT;
+use changes::state::CPU_WALKER_AT;
+use changes::state::DMA_CACHE_AT;
+use changes::state::DMA_MAP_AT;
+use changes::state::DMA_WALKER_AT;
+use changes::state::MEMORY_AT;
+use changes::state::MEMORY_WORDS;
+use changes::state::PAIRS_AT;
+use changes::state::SETS_AT;
+use changes::state::SETS_WORDS;
+use changes::state::Table;
+use changes::state::WORDS;
+use changes::state::show;
+use changes::state::show_lent;
+use changes::with_pages;
+use changes::with_shared_base;
+use changes::with_shared_count;
+use changes::with_unit;
+use changes::with_unit_count;
 use model::Machine;
 use numbers::ENTRIES;
 use numbers::IDLE;
@@ -75,7 +75,7 @@ pub fn rule_2_empty_machine(m: Machine, words: &[u64; WORDS]) {
 
 // Of the state after start, whose shared span is empty: no row says where it lies.
 pub fn rule_2_empty_span(m: Machine, words: &[u64; WORDS]) {
-    let rule = b"2 empty span";
+    let rule: &[u8] = b"2 empty span";
     show(rule, b"past N", with_shared_base(m, 71), words);
     // N and this are 2^64.
     let count = 18446744073709551546;
@@ -83,7 +83,7 @@ pub fn rule_2_empty_span(m: Machine, words: &[u64; WORDS]) {
 }
 
 pub fn rule_2(m: Machine, words: &[u64; WORDS]) {
-    let rule = b"2 setup";
+    let rule: &[u8] = b"2 setup";
     show(rule, b"N is 0", with_pages(m, 0), words);
     show(rule, b"N is 69", with_pages(m, 69), words);
     show(rule, b"N is 71", with_pages(m, 71), words);
@@ -122,7 +122,7 @@ pub fn rule_3(m: Machine, words: &[u64; WORDS]) {
 
 // By the header: the shared row is no longer the span, or a VM with a page is no longer known.
 pub fn rule_4_header(m: Machine, words: &[u64; WORDS]) {
-    let rule = b"4 page sets";
+    let rule: &[u8] = b"4 page sets";
     show(rule, b"span too long", with_shared_count(m, 3), words);
     show(rule, b"span too short", with_shared_count(m, 1), words);
     show(rule, b"span too far", with_shared_base(m, 67), words);
@@ -130,8 +130,8 @@ pub fn rule_4_header(m: Machine, words: &[u64; WORDS]) {
     known_case(rule, b"holder for DMA not known", m, words, 11);
 }
 
-pub fn rule_4_bounds(m: Machine, words: &mut [u64; WORDS]) {
-    let rule = b"4 page sets";
+pub fn rule_4_bounds(m: Machine, words: &[u64; WORDS]) {
+    let rule: &[u8] = b"4 page sets";
     set_case(rule, b"page N in the pool", m, words, POOL, 70);
     set_case(rule, b"page 1023 in the pool", m, words, POOL, 1023);
     set_case(rule, b"page N in the shared row", m, words, SHARED, 70);
@@ -140,8 +140,8 @@ pub fn rule_4_bounds(m: Machine, words: &mut [u64; WORDS]) {
     dma_case(rule, b"page 1023 among DMA pages", m, words, 15, 1023);
 }
 
-pub fn rule_4_homes(m: Machine, words: &mut [u64; WORDS]) {
-    let rule = b"4 page sets";
+pub fn rule_4_homes(m: Machine, words: &[u64; WORDS]) {
+    let rule: &[u8] = b"4 page sets";
     set_case(rule, b"shared row a page short", m, words, SHARED, 66);
     set_case(rule, b"shared row a page long", m, words, SHARED, 68);
     set_case(rule, b"page in no home", m, words, POOL, 20);
@@ -158,11 +158,11 @@ pub fn rule_4_homes(m: Machine, words: &mut [u64; WORDS]) {
 
 // ---- 5: pairs. At place 20, which is empty, a pair of VMs 1 and 15 on page 2 would be good.
 
-fn pair_case(clause: &[u8], m: Machine, words: &mut [u64; WORDS], word: u64) {
+fn pair_case(clause: &[u8], m: Machine, words: &[u64; WORDS], word: u64) {
     flip_case(b"5 pair", clause, m, words, Table::Pairs, 20, word);
 }
 
-pub fn rule_5_fields(m: Machine, words: &mut [u64; WORDS]) {
+pub fn rule_5_fields(m: Machine, words: &[u64; WORDS]) {
     let good = pair(1, 15, 2);
     pair_case(b"port 1", m, words, good | PORT);
     pair_case(b"not filled", m, words, good ^ FILLED);
@@ -178,7 +178,7 @@ pub fn rule_5_fields(m: Machine, words: &mut [u64; WORDS]) {
     known_case(b"5 pair", b"right end not known", m, words, 6);
 }
 
-pub fn rule_5_ends(m: Machine, words: &mut [u64; WORDS]) {
+pub fn rule_5_ends(m: Machine, words: &[u64; WORDS]) {
     pair_case(b"the same VM twice", m, words, pair(1, 1, 2));
     pair_case(b"page of a third VM", m, words, pair(1, 2, 65));
     pair_case(b"page of the span", m, words, pair(1, 2, 66));
@@ -207,7 +207,7 @@ pub fn rule_8(rule: &[u8], side: Side, only: u64, m: Machine, words: &[u64; WORD
 // ---- 9: memory.
 
 pub fn rule_9(m: Machine, words: &[u64; WORDS]) {
-    let rule = b"9 memory";
+    let rule: &[u8] = b"9 memory";
     show_lent(rule, b"a word short", m, words, MEMORY_AT, MEMORY_WORDS - 1);
     show_lent(rule, b"a word long", m, words, MEMORY_AT, MEMORY_WORDS + 1);
 }

@@ -1,8 +1,12 @@
-// One change each. Of a word or of a page of a set: made, shown and undone. Of the header: shown of a header that differs in one
-// number.
+// One change each, and the line of the state that it gives. A word or a page of a set is changed in a copy of the words, a number
+// of the header in a copy of the header.
 ghost use Prim.Native.Nat.{_*_, _<_};
 ghost use Rattle.numbers.specs.Limits.{PAGES, PAGE-WORDS, VMS, PORTS, UNITS, SETS};
-ghost use Rattle.damaged.specs.Words.{N};
+ghost use Rattle.changes.specs.Words.{N};
+
+pub mod base;
+pub mod state;
+
 use crate::state::Table;
 use crate::state::WORDS;
 use crate::state::show;
@@ -19,7 +23,7 @@ pub fn flip_case(
     rule: &[u8],
     clause: &[u8],
     m: Machine,
-    words: &mut [u64; WORDS],
+    words: &[u64; WORDS],
     table: Table,
     place: usize,
     bits: u64,
@@ -27,9 +31,9 @@ pub fn flip_case(
     requires { ⌜ place < PAGE-WORDS * N ⌝ }
 {
     let at = start_of(table) + place;
-    words[at] = words[at] ^ bits;
-    show(rule, clause, m, words);
-    words[at] = words[at] ^ bits;
+    let mut changed = *words;
+    changed[at] = words[at] ^ bits;
+    show(rule, clause, m, &changed);
 }
 
 // Two words change places.
@@ -37,7 +41,7 @@ pub fn swap_case(
     rule: &[u8],
     clause: &[u8],
     m: Machine,
-    words: &mut [u64; WORDS],
+    words: &[u64; WORDS],
     table: Table,
     place: usize,
     other: usize,
@@ -47,13 +51,10 @@ pub fn swap_case(
     let start = start_of(table);
     let at = start + place;
     let beside = start + other;
-    let kept = words[at];
-    let moved = words[beside];
-    words[at] = moved;
-    words[beside] = kept;
-    show(rule, clause, m, words);
-    words[at] = kept;
-    words[beside] = moved;
+    let mut changed = *words;
+    changed[at] = words[beside];
+    changed[beside] = words[at];
+    show(rule, clause, m, &changed);
 }
 
 // ---- Page sets: rows 0 and 1, then two for each VM.
@@ -82,42 +83,21 @@ pub fn toggle_dma(words: &mut [u64; WORDS], vm: usize, page: u64)
     toggle(words, 3 + 2 * vm, page);
 }
 
-pub fn set_case(
-    rule: &[u8],
-    clause: &[u8],
-    m: Machine,
-    words: &mut [u64; WORDS],
-    row: usize,
-    page: u64,
-)
+pub fn set_case(rule: &[u8], clause: &[u8], m: Machine, words: &[u64; WORDS], row: usize, page: u64)
     requires { ⌜ (row < SETS) × (page < PAGES) ⌝ }
 {
-    toggle(words, row, page);
-    show(rule, clause, m, words);
-    toggle(words, row, page);
+    let mut changed = *words;
+    toggle(&mut changed, row, page);
+    show(rule, clause, m, &changed);
 }
 
-pub fn cpu_case(
-    rule: &[u8],
-    clause: &[u8],
-    m: Machine,
-    words: &mut [u64; WORDS],
-    vm: usize,
-    page: u64,
-)
+pub fn cpu_case(rule: &[u8], clause: &[u8], m: Machine, words: &[u64; WORDS], vm: usize, page: u64)
     requires { ⌜ (vm < VMS) × (page < PAGES) ⌝ }
 {
     set_case(rule, clause, m, words, 2 + 2 * vm, page);
 }
 
-pub fn dma_case(
-    rule: &[u8],
-    clause: &[u8],
-    m: Machine,
-    words: &mut [u64; WORDS],
-    vm: usize,
-    page: u64,
-)
+pub fn dma_case(rule: &[u8], clause: &[u8], m: Machine, words: &[u64; WORDS], vm: usize, page: u64)
     requires { ⌜ (vm < VMS) × (page < PAGES) ⌝ }
 {
     set_case(rule, clause, m, words, 3 + 2 * vm, page);
