@@ -1,23 +1,21 @@
 // Runs a box script: reads it from standard input, in pieces, and writes a line for a line (docs/MACHINE.md, 11).
-mod carry;
-mod print;
-mod work;
+mod lines;
 
-ghost use Rattle.runbox.specs.Room.{Orderly};
-use carry::query;
-use carry::settle;
+ghost use Rattle.batch.specs.Room.{Orderly};
+use batch::CACHE_WORDS;
+use batch::MEMORY_WORDS;
+use batch::ROWS_ROOM;
+use batch::SETS_WORDS;
+use batch::UNITS_ROOM;
+use batch::Work;
+use batch::carry::query;
+use batch::carry::settle;
+use batch::print::ANSWER_ROOM;
 use libc::STDIN_FILENO;
 use numbers::ENTRIES;
 use numbers::PAIRS;
-use print::ANSWER_ROOM;
 use script::Line;
 use script::Reader;
-use work::CACHE_WORDS;
-use work::MEMORY_WORDS;
-use work::ROWS_ROOM;
-use work::SETS_WORDS;
-use work::UNITS_ROOM;
-use work::Work;
 
 const LF: u8 = 10;
 
@@ -41,11 +39,11 @@ fn line(
     requires { ⌜ Orderly (work .units) (work .rows) ⌝ }
     ensures { λ r. ⌜ Orderly (r .units) (r .rows) ⌝ }
 {
-    let counted = work::counted(work);
-    let placed = work::in_place(counted, said);
+    let counted = batch::counted(work);
+    let placed = lines::in_place(counted, said);
     let ready = settle(
         counted,
-        work::asks(placed),
+        lines::asks(placed),
         units,
         sets,
         pairs,
@@ -73,7 +71,7 @@ fn line(
             memory,
         );
     }
-    work::take(ready, placed, units, rows)
+    lines::take(ready, placed, units, rows)
 }
 
 // Where the reading has come to: the box, and the line under way.
@@ -207,7 +205,7 @@ fn run(
 ) -> Place
     ensures { λ r. ⌜ Orderly (r .work .units) (r .work .rows) ⌝ }
 {
-    let work = work::no_work();
+    let work = batch::no_work();
     let mut place = Place {
         work,
         reader: script::line_start(),
@@ -237,7 +235,7 @@ fn run(
             room,
         );
         let work = place.work;
-        if work::has_ended(work) {
+        if batch::has_ended(work) {
             return place;
         }
         turns -= 1;

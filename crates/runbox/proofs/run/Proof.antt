@@ -1,7 +1,7 @@
 use native.Mathlib.Omega.{arith}
 use mathlib.Core.Path.{_≡_}
 use lib.ListN.{length}
-use Rattle.runbox.specs.Room.{Orderly}
+use Rattle.batch.specs.Room.{Orderly}
 use borrow.Author.Needs.{needs}
 use Rattle.runbox.proofs.run.Statement.{statement}
 use Rattle.runbox.proofs.run.Tie as tie
