@@ -105,38 +105,38 @@ pub fn dma_case(rule: &[u8], clause: &[u8], m: Machine, words: &[u64; WORDS], vm
 
 // ---- The header.
 
-pub fn with_pages(m: Machine, pages: u64) -> Machine {
+pub fn pages_case(rule: &[u8], clause: &[u8], m: Machine, words: &[u64; WORDS], pages: u64) {
     let mut changed = m;
     changed.pages = pages;
-    changed
+    show(rule, clause, changed, words);
 }
 
-pub fn with_shared_base(m: Machine, base: u64) -> Machine {
+pub fn shared_base_case(rule: &[u8], clause: &[u8], m: Machine, words: &[u64; WORDS], base: u64) {
     let mut changed = m;
     changed.shared_base = base;
-    changed
+    show(rule, clause, changed, words);
 }
 
-pub fn with_shared_count(m: Machine, count: u64) -> Machine {
+pub fn shared_count_case(rule: &[u8], clause: &[u8], m: Machine, words: &[u64; WORDS], count: u64) {
     let mut changed = m;
     changed.shared_count = count;
-    changed
+    show(rule, clause, changed, words);
 }
 
-pub fn with_unit_count(m: Machine, count: u64) -> Machine {
+pub fn unit_count_case(rule: &[u8], clause: &[u8], m: Machine, words: &[u64; WORDS], count: u64) {
     let mut changed = m;
     changed.unit_count = count;
-    changed
+    show(rule, clause, changed, words);
 }
 
-pub fn with_unit(m: Machine, k: usize, unit: Unit) -> Machine
+pub fn unit_case(rule: &[u8], clause: &[u8], m: Machine, words: &[u64; WORDS], k: usize, unit: Unit)
     requires { ⌜ k < UNITS ⌝ }
 {
     let mut changed = m;
     let mut units = m.units;
     units[k] = unit;
     changed.units = units;
-    changed
+    show(rule, clause, changed, words);
 }
 
 // A VM is known where it was not, or the other way round.

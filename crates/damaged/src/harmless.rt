@@ -8,14 +8,13 @@ use changes::flip_case;
 use changes::hand_case;
 use changes::known_case;
 use changes::port_case;
+use changes::shared_base_case;
 use changes::state::MEMORY_WORDS;
 use changes::state::Table;
 use changes::state::WORDS;
-use changes::state::show;
 use changes::swap_case;
-use changes::with_shared_base;
-use changes::with_unit;
-use changes::with_unit_count;
+use changes::unit_case;
+use changes::unit_count_case;
 use model::Machine;
 use numbers::IDLE;
 use numbers::Side;
@@ -24,16 +23,15 @@ const LAST_WORD: usize = MEMORY_WORDS - 1;
 
 // Of the state after start.
 pub fn empty_span(m: Machine, words: &[u64; WORDS]) {
-    let rule: &[u8] = b"harmless";
-    show(rule, b"empty span elsewhere", with_shared_base(m, 0), words);
+    shared_base_case(b"harmless", b"empty span elsewhere", m, words, 0);
 }
 
 pub fn header(m: Machine, words: &[u64; WORDS]) {
     let rule: &[u8] = b"harmless";
-    let past = with_unit(m, 31, unit(16, 0, 0, 0, 8));
-    show(rule, b"unit past the count", past, words);
-    show(rule, b"no units", with_unit_count(m, 0), words);
-    show(rule, b"32 units", with_unit_count(m, 32), words);
+    let past = unit(16, 0, 0, 0, 8);
+    unit_case(rule, b"unit past the count", m, words, 31, past);
+    unit_count_case(rule, b"no units", m, words, 0);
+    unit_count_case(rule, b"32 units", m, words, 32);
     known_case(rule, b"a VM more", m, words, 3);
     known_case(rule, b"a VM less", m, words, 14);
 }
