@@ -5,6 +5,7 @@ ghost use Rattle.numbers.specs.Limits.{PAGES, PAGE-WORDS, VMS, PORTS, UNITS, SE
 ghost use Rattle.changes.specs.Words.{N};
 
 pub mod base;
+pub mod harmless;
 pub mod state;
 
 use crate::state::Table;

@@ -1,10 +1,9 @@
 // Damaged states, each a valid one with one change, and what the test for validity says of each (docs/MACHINE.md, 4).
-mod harmless;
 mod routes;
 mod rules;
 
 use changes::base;
-use changes::state::Table;
+use changes::harmless;
 use changes::state::WORDS;
 use changes::state::show;
 use model::Machine;
@@ -17,18 +16,7 @@ fn fresh(words: &mut [u64; WORDS]) {
     base::fill_pool(words);
     show(b"undamaged", b"after start", m, words);
     rules::rule_2_empty_span(m, words);
-    harmless::empty_span(m, words);
-}
-
-fn unharmed(m: Machine, words: &[u64; WORDS]) {
-    harmless::header(m, words);
-    harmless::tables(m, words);
-    harmless::walker(b"harmless in the CPU walker", m, words, Table::CpuWalker);
-    harmless::walker(b"harmless in the DMA walker", m, words, Table::DmaWalker);
-    harmless::cache(b"harmless in the CPU cache", m, words, Table::CpuCache);
-    harmless::cache(b"harmless in the DMA cache", m, words, Table::DmaCache);
-    harmless::ports(b"harmless on the CPUs", Side::Cpu, m, words);
-    harmless::ports(b"harmless on the devices", Side::Dma, m, words);
+    harmless::fresh(m, words);
 }
 
 // Every damaged state, in the order of the rules.
@@ -56,7 +44,7 @@ fn busy(words: &mut [u64; WORDS]) {
     base::fill(words);
     show(b"undamaged", b"at work", m, words);
     harmed(m, words);
-    unharmed(m, words);
+    harmless::busy(m, words);
     show(b"undamaged", b"at work, at the end", m, words);
 }
 
