@@ -197,7 +197,6 @@ pub fn settle(
     dma_cache: &mut [u64; CACHE_WORDS],
     memory: &mut [u64; MEMORY_WORDS],
     rows: &[u64; ROWS_ROOM],
-    room: &mut [u64; ANSWER_ROOM],
 ) -> Work
     requires { ⌜ Orderly (work .units) (work .rows) ⌝ }
     ensures { λ r. ⌜ Orderly (r .units) (r .rows) ⌝ }
@@ -208,6 +207,7 @@ pub fn settle(
             return work;
         }
     }
+    let mut room = [0u64; ANSWER_ROOM];
     let begun = begin(
         work,
         units,
@@ -233,9 +233,9 @@ pub fn settle(
         dma_cache,
         memory,
         rows,
-        room,
+        &mut room,
     );
-    print::print_answers(room, begun.rows);
+    print::print_answers(&room, begun.rows);
     let phase = begun.phase;
     moved(begun, phase, machine, 0)
 }

@@ -10,7 +10,6 @@ use batch::UNITS_ROOM;
 use batch::Work;
 use batch::carry::query;
 use batch::carry::settle;
-use batch::print::ANSWER_ROOM;
 use libc::STDIN_FILENO;
 use numbers::ENTRIES;
 use numbers::PAIRS;
@@ -34,7 +33,6 @@ fn line(
     dma_cache: &mut [u64; CACHE_WORDS],
     memory: &mut [u64; MEMORY_WORDS],
     rows: &mut [u64; ROWS_ROOM],
-    room: &mut [u64; ANSWER_ROOM],
 ) -> Work
     requires { ⌜ Orderly (work .units) (work .rows) ⌝ }
     ensures { λ r. ⌜ Orderly (r .units) (r .rows) ⌝ }
@@ -55,7 +53,6 @@ fn line(
         dma_cache,
         memory,
         rows,
-        room,
     );
     if let Line::Free = placed {
         query(
@@ -95,7 +92,6 @@ fn piece(
     dma_cache: &mut [u64; CACHE_WORDS],
     memory: &mut [u64; MEMORY_WORDS],
     rows: &mut [u64; ROWS_ROOM],
-    room: &mut [u64; ANSWER_ROOM],
 ) -> Place
     requires { ⌜ Orderly (place .work .units) (place .work .rows) ⌝ }
     ensures { λ r. ⌜ Orderly (r .work .units) (r .work .rows) ⌝ }
@@ -122,7 +118,6 @@ fn piece(
                 dma_cache,
                 memory,
                 rows,
-                room,
             );
             reader = script::line_start();
         } else {
@@ -146,7 +141,6 @@ fn finish(
     dma_cache: &mut [u64; CACHE_WORDS],
     memory: &mut [u64; MEMORY_WORDS],
     rows: &mut [u64; ROWS_ROOM],
-    room: &mut [u64; ANSWER_ROOM],
 )
     requires { ⌜ Orderly (place .work .units) (place .work .rows) ⌝ }
 {
@@ -167,7 +161,6 @@ fn finish(
         dma_cache,
         memory,
         rows,
-        room,
     );
     settle(
         last,
@@ -183,7 +176,6 @@ fn finish(
         dma_cache,
         memory,
         rows,
-        room,
     );
 }
 
@@ -201,7 +193,6 @@ fn run(
     dma_cache: &mut [u64; CACHE_WORDS],
     memory: &mut [u64; MEMORY_WORDS],
     rows: &mut [u64; ROWS_ROOM],
-    room: &mut [u64; ANSWER_ROOM],
 ) -> Place
     ensures { λ r. ⌜ Orderly (r .work .units) (r .work .rows) ⌝ }
 {
@@ -232,7 +223,6 @@ fn run(
             dma_cache,
             memory,
             rows,
-            room,
         );
         let work = place.work;
         if batch::has_ended(work) {
@@ -255,7 +245,6 @@ fn main() {
     let mut dma_cache = [0u64; CACHE_WORDS];
     let mut memory = [0u64; MEMORY_WORDS];
     let mut rows = [0u64; ROWS_ROOM];
-    let mut room = [0u64; ANSWER_ROOM];
     let place = run(
         &mut units,
         &mut sets,
@@ -268,7 +257,6 @@ fn main() {
         &mut dma_cache,
         &mut memory,
         &mut rows,
-        &mut room,
     );
     finish(
         place,
@@ -283,6 +271,5 @@ fn main() {
         &mut dma_cache,
         &mut memory,
         &mut rows,
-        &mut room,
     );
 }
