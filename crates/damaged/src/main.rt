@@ -1,16 +1,13 @@
 // Damaged states, each a valid one with one change, and what the test for validity says of each (docs/MACHINE.md, 4).
-mod base;
-mod change;
-mod harmless;
 mod routes;
 mod rules;
-mod state;
 
+use changes::base;
+use changes::harmless;
+use changes::state::WORDS;
+use changes::state::show;
 use model::Machine;
 use numbers::Side;
-use state::Table;
-use state::WORDS;
-use state::show;
 
 // The machine that a refused start gives, and the state after start.
 fn fresh(words: &mut [u64; WORDS]) {
@@ -19,25 +16,11 @@ fn fresh(words: &mut [u64; WORDS]) {
     base::fill_pool(words);
     show(b"undamaged", b"after start", m, words);
     rules::rule_2_empty_span(m, words);
-    harmless::empty_span(m, words);
+    harmless::fresh(m, words);
 }
 
-fn unharmed(m: Machine, words: &mut [u64; WORDS]) {
-    harmless::header(m, words);
-    harmless::tables(m, words);
-    harmless::walker(b"harmless in the CPU walker", m, words, Table::CpuWalker);
-    harmless::walker(b"harmless in the DMA walker", m, words, Table::DmaWalker);
-    harmless::cache(b"harmless in the CPU cache", m, words, Table::CpuCache);
-    harmless::cache(b"harmless in the DMA cache", m, words, Table::DmaCache);
-    harmless::ports(b"harmless on the CPUs", Side::Cpu, m, words);
-    harmless::ports(b"harmless on the devices", Side::Dma, m, words);
-}
-
-// The state with VMs at work. It is shown again at the end, when every change has been undone.
-fn busy(words: &mut [u64; WORDS]) {
-    let m = base::busy_header();
-    base::fill(words);
-    show(b"undamaged", b"at work", m, words);
+// Every damaged state, in the order of the rules.
+fn harmed(m: Machine, words: &[u64; WORDS]) {
     rules::rule_1(m, words);
     rules::rule_2(m, words);
     rules::rule_2_unit(m, words);
@@ -53,7 +36,15 @@ fn busy(words: &mut [u64; WORDS]) {
     rules::rule_8(b"8 CPUs", Side::Cpu, 8, m, words);
     rules::rule_8(b"8 devices", Side::Dma, 9, m, words);
     rules::rule_9(m, words);
-    unharmed(m, words);
+}
+
+// The state with VMs at work. It is shown again at the end: no change has stayed.
+fn busy(words: &mut [u64; WORDS]) {
+    let m = base::busy_header();
+    base::fill(words);
+    show(b"undamaged", b"at work", m, words);
+    harmed(m, words);
+    harmless::busy(m, words);
     show(b"undamaged", b"at work, at the end", m, words);
 }
 

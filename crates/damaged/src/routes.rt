@@ -1,26 +1,26 @@
 // The damaged states of rules 6 and 7, for a map or a cache of either side, which hold the same entries of VM 1.
-use crate::base::ACCESS;
-use crate::base::FILLED;
-use crate::base::GENERATION;
-use crate::base::GUEST;
-use crate::base::PAGE;
-use crate::base::PORT;
-use crate::base::VM;
-use crate::base::entry;
-use crate::base::pair;
-use crate::base::slot;
-use crate::change::dma_case;
-use crate::change::flip_case;
-use crate::change::known_case;
-use crate::state::Table;
-use crate::state::WORDS;
+use changes::base::ACCESS;
+use changes::base::FILLED;
+use changes::base::GENERATION;
+use changes::base::GUEST;
+use changes::base::PAGE;
+use changes::base::PORT;
+use changes::base::VM;
+use changes::base::entry;
+use changes::base::pair;
+use changes::base::slot;
+use changes::dma_case;
+use changes::flip_case;
+use changes::known_case;
+use changes::state::Table;
+use changes::state::WORDS;
 use model::Machine;
 
 // ---- 6: maps.
 
 // A map that has guest page 17 of VM 1 at place 1, on page 1 with access 1 and generation 65,535, and nothing at place 20. One
 // field changes: VM 3 is not known, page 70 is N, page 3 is not VM 1's, page 0 is.
-fn map_cases(rule: &[u8], m: Machine, words: &mut [u64; WORDS], table: Table) {
+fn map_cases(rule: &[u8], m: Machine, words: &[u64; WORDS], table: Table) {
     let kept = entry(1, 17, 1, 1, 65535);
     let apart = kept ^ PAGE;
     let more = entry(1, 18, 1, 1, 65535);
@@ -39,7 +39,7 @@ fn map_cases(rule: &[u8], m: Machine, words: &mut [u64; WORDS], table: Table) {
     flip_case(rule, b"an entry more", m, words, table, 20, more);
 }
 
-pub fn rule_6(m: Machine, words: &mut [u64; WORDS]) {
+pub fn rule_6(m: Machine, words: &[u64; WORDS]) {
     map_cases(b"6 CPU map", m, words, Table::CpuMap);
     map_cases(b"6 CPU walker", m, words, Table::CpuWalker);
     map_cases(b"6 DMA map", m, words, Table::DmaMap);
@@ -47,8 +47,8 @@ pub fn rule_6(m: Machine, words: &mut [u64; WORDS]) {
 }
 
 // Software and walker stay equal, and no other rule is broken.
-pub fn rule_6_elsewhere(m: Machine, words: &mut [u64; WORDS]) {
-    let rule = b"6 CPU maps";
+pub fn rule_6_elsewhere(m: Machine, words: &[u64; WORDS]) {
+    let rule: &[u8] = b"6 CPU maps";
     let lent = pair(1, 2, 0);
     flip_case(rule, b"page not lent", m, words, Table::Pairs, 0, lent);
     dma_case(b"6 DMA maps", b"page not held", m, words, 1, 4);
@@ -58,7 +58,7 @@ pub fn rule_6_elsewhere(m: Machine, words: &mut [u64; WORDS]) {
 // ---- 7: caches.
 
 // A cache that has port 0's guest page 16 of VM 1 in slot 0, on page 0 with access 3 and generation 0, and nothing in slot 20.
-fn cache_cases(rule: &[u8], m: Machine, words: &mut [u64; WORDS], table: Table) {
+fn cache_cases(rule: &[u8], m: Machine, words: &[u64; WORDS], table: Table) {
     let kept = slot(0, 1, 16, 0, 3, 0);
     flip_case(rule, b"port 8", m, words, table, 0, 8 * PORT);
     flip_case(rule, b"port 128", m, words, table, 0, 128 * PORT);
@@ -73,7 +73,7 @@ fn cache_cases(rule: &[u8], m: Machine, words: &mut [u64; WORDS], table: Table) 
     flip_case(rule, b"key twice", m, words, table, 20, kept);
 }
 
-pub fn rule_7(m: Machine, words: &mut [u64; WORDS]) {
+pub fn rule_7(m: Machine, words: &[u64; WORDS]) {
     cache_cases(b"7 CPU cache", m, words, Table::CpuCache);
     cache_cases(b"7 DMA cache", m, words, Table::DmaCache);
 }

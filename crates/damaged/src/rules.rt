@@ -1,48 +1,46 @@
 // The damaged states, a function or two for each rule of the manual. Most break one clause of one rule and no other.
 ghost use Prim.Native.Nat.{_+_, _<_};
-ghost use Rattle.damaged.specs.Words.{WORDS};
-use crate::base::ACCESS;
-use crate::base::FILLED;
-use crate::base::GENERATION;
-use crate::base::PORT;
-use crate::base::pair;
-use crate::base::unit;
-use crate::change::POOL;
-use crate::change::SHARED;
-use crate::change::cpu_case;
-use crate::change::dma_case;
-use crate::change::flip_case;
-use crate::change::hand_case;
-use crate::change::known_case;
-use crate::change::port_case;
-use crate::change::set_case;
-use crate::change::with_pages;
-use crate::change::with_shared_base;
-use crate::change::with_shared_count;
-use crate::change::with_unit;
-use crate::change::with_unit_count;
-use crate::state::CACHE_WORDS;
-use crate::state::CPU_CACHE_AT;
-use crate::state::CPU_MAP_AT;
-use crate::state::CPU_WALKER_AT;
-use crate::state::DMA_CACHE_AT;
-use crate::state::DMA_MAP_AT;
-use crate::state::DMA_WALKER_AT;
-use crate::state::MEMORY_AT;
-use crate::state::MEMORY_WORDS;
-use crate::state::PAIRS_AT;
-use crate::state::SETS_AT;
-use crate::state::SETS_WORDS;
-use crate::state::Table;
-use crate::state::WORDS;
-use crate::state::show;
-use crate::state::show_lent;
+ghost use Rattle.changes.specs.Words.{WORDS};
+use changes::POOL;
+use changes::SHARED;
+use changes::base::ACCESS;
+use changes::base::FILLED;
+use changes::base::GENERATION;
+use changes::base::PORT;
+use changes::base::pair;
+use changes::base::unit;
+use changes::cpu_case;
+use changes::dma_case;
+use changes::flip_case;
+use changes::hand_case;
+use changes::known_case;
+use changes::pages_case;
+use changes::port_case;
+use changes::set_case;
+use changes::shared_base_case;
+use changes::shared_count_case;
+use changes::state::CACHE_WORDS;
+use changes::state::CPU_CACHE_AT;
+use changes::state::CPU_MAP_AT;
+use changes::state::CPU_WALKER_AT;
+use changes::state::DMA_CACHE_AT;
+use changes::state::DMA_MAP_AT;
+use changes::state::DMA_WALKER_AT;
+use changes::state::MEMORY_AT;
+use changes::state::MEMORY_WORDS;
+use changes::state::PAIRS_AT;
+use changes::state::SETS_AT;
+use changes::state::SETS_WORDS;
+use changes::state::Table;
+use changes::state::WORDS;
+use changes::state::show_lent;
+use changes::unit_case;
+use changes::unit_count_case;
 use model::Machine;
 use numbers::ENTRIES;
 use numbers::IDLE;
 use numbers::PAIRS;
 use numbers::Side;
-use units::Unit;
 
 // ---- 1: lengths.
 
@@ -69,69 +67,88 @@ pub fn rule_1(m: Machine, words: &[u64; WORDS]) {
 
 // What a refused start gives, over words that are all 0 and no memory: all that is wrong is that it has no pages.
 pub fn rule_2_empty_machine(m: Machine, words: &[u64; WORDS]) {
-    let none = with_shared_base(with_pages(m, 0), 0);
+    let mut none = m;
+    none.pages = 0;
+    none.shared_base = 0;
     show_lent(b"2 setup", b"empty machine", none, words, MEMORY_AT, 0);
 }
 
 // Of the state after start, whose shared span is empty: no row says where it lies.
 pub fn rule_2_empty_span(m: Machine, words: &[u64; WORDS]) {
-    let rule = b"2 empty span";
-    show(rule, b"past N", with_shared_base(m, 71), words);
+    let rule: &[u8] = b"2 empty span";
+    shared_base_case(rule, b"past N", m, words, 71);
     // N and this are 2^64.
     let count = 18446744073709551546;
-    show(rule, b"its end wraps", with_shared_count(m, count), words);
+    shared_count_case(rule, b"its end wraps", m, words, count);
 }
 
 pub fn rule_2(m: Machine, words: &[u64; WORDS]) {
-    let rule = b"2 setup";
-    show(rule, b"N is 0", with_pages(m, 0), words);
-    show(rule, b"N is 69", with_pages(m, 69), words);
-    show(rule, b"N is 71", with_pages(m, 71), words);
-    show(rule, b"N is 1025", with_pages(m, 1025), words);
-    show(rule, b"N is 2^64 - 1", with_pages(m, u64::MAX), words);
-    show(rule, b"span past N", with_shared_base(m, 69), words);
-    show(rule, b"span wraps", with_shared_base(m, u64::MAX), words);
-    show(rule, b"33 units", with_unit_count(m, 33), words);
-    show(rule, b"2^64 - 1 units", with_unit_count(m, u64::MAX), words);
+    let rule: &[u8] = b"2 setup";
+    pages_case(rule, b"N is 0", m, words, 0);
+    pages_case(rule, b"N is 69", m, words, 69);
+    pages_case(rule, b"N is 71", m, words, 71);
+    pages_case(rule, b"N is 1025", m, words, 1025);
+    pages_case(rule, b"N is 2^64 - 1", m, words, u64::MAX);
+    shared_base_case(rule, b"span past N", m, words, 69);
+    shared_base_case(rule, b"span wraps", m, words, u64::MAX);
+    unit_count_case(rule, b"33 units", m, words, 33);
+    unit_count_case(rule, b"2^64 - 1 units", m, words, u64::MAX);
 }
 
 // The last unit that is counted.
-fn unit_case(clause: &[u8], m: Machine, words: &[u64; WORDS], unit: Unit) {
-    show(b"2 unit", clause, with_unit(m, 30, unit), words);
+fn last_unit(
+    clause: &[u8],
+    m: Machine,
+    words: &[u64; WORDS],
+    vm: u64,
+    guest: u64,
+    page: u64,
+    count: u64,
+    access: u64,
+) {
+    unit_case(
+        b"2 unit",
+        clause,
+        m,
+        words,
+        30,
+        unit(vm, guest, page, count, access),
+    );
 }
 
 pub fn rule_2_unit(m: Machine, words: &[u64; WORDS]) {
-    unit_case(b"VM 16", m, words, unit(16, 16, 0, 3, 3));
-    unit_case(b"access 8", m, words, unit(1, 16, 0, 3, 8));
-    unit_case(b"no pages", m, words, unit(1, 16, 0, 0, 3));
-    unit_case(b"past N", m, words, unit(1, 16, 68, 3, 3));
-    unit_case(b"past guest pages", m, words, unit(1, 65534, 0, 3, 3));
-    unit_case(b"page wraps", m, words, unit(1, 16, u64::MAX, 3, 3));
-    unit_case(b"guest page wraps", m, words, unit(1, u64::MAX, 0, 3, 3));
-    unit_case(b"count wraps", m, words, unit(1, 16, 1, u64::MAX, 3));
+    last_unit(b"VM 16", m, words, 16, 16, 0, 3, 3);
+    last_unit(b"access 8", m, words, 1, 16, 0, 3, 8);
+    last_unit(b"no pages", m, words, 1, 16, 0, 0, 3);
+    last_unit(b"past N", m, words, 1, 16, 68, 3, 3);
+    last_unit(b"past guest pages", m, words, 1, 65534, 0, 3, 3);
+    last_unit(b"page wraps", m, words, 1, 16, u64::MAX, 3, 3);
+    last_unit(b"guest page wraps", m, words, 1, u64::MAX, 0, 3, 3);
+    last_unit(b"count wraps", m, words, 1, 16, 1, u64::MAX, 3);
 }
 
 // ---- 3: known VMs.
 
 pub fn rule_3(m: Machine, words: &[u64; WORDS]) {
-    known_case(b"3 known", b"VM 16", m, words, 16);
-    known_case(b"3 known", b"VM 63", m, words, 63);
+    let rule: &[u8] = b"3 known";
+    known_case(rule, b"VM 16", m, words, 16);
+    known_case(rule, b"VM 63", m, words, 63);
 }
 
 // ---- 4: page sets.
 
 // By the header: the shared row is no longer the span, or a VM with a page is no longer known.
 pub fn rule_4_header(m: Machine, words: &[u64; WORDS]) {
-    let rule = b"4 page sets";
-    show(rule, b"span too long", with_shared_count(m, 3), words);
-    show(rule, b"span too short", with_shared_count(m, 1), words);
-    show(rule, b"span too far", with_shared_base(m, 67), words);
+    let rule: &[u8] = b"4 page sets";
+    shared_count_case(rule, b"span too long", m, words, 3);
+    shared_count_case(rule, b"span too short", m, words, 1);
+    shared_base_case(rule, b"span too far", m, words, 67);
     known_case(rule, b"owner of a page not known", m, words, 10);
     known_case(rule, b"holder for DMA not known", m, words, 11);
 }
 
-pub fn rule_4_bounds(m: Machine, words: &mut [u64; WORDS]) {
-    let rule = b"4 page sets";
+pub fn rule_4_bounds(m: Machine, words: &[u64; WORDS]) {
+    let rule: &[u8] = b"4 page sets";
     set_case(rule, b"page N in the pool", m, words, POOL, 70);
     set_case(rule, b"page 1023 in the pool", m, words, POOL, 1023);
     set_case(rule, b"page N in the shared row", m, words, SHARED, 70);
@@ -140,8 +157,8 @@ pub fn rule_4_bounds(m: Machine, words: &mut [u64; WORDS]) {
     dma_case(rule, b"page 1023 among DMA pages", m, words, 15, 1023);
 }
 
-pub fn rule_4_homes(m: Machine, words: &mut [u64; WORDS]) {
-    let rule = b"4 page sets";
+pub fn rule_4_homes(m: Machine, words: &[u64; WORDS]) {
+    let rule: &[u8] = b"4 page sets";
     set_case(rule, b"shared row a page short", m, words, SHARED, 66);
     set_case(rule, b"shared row a page long", m, words, SHARED, 68);
     set_case(rule, b"page in no home", m, words, POOL, 20);
@@ -158,33 +175,37 @@ pub fn rule_4_homes(m: Machine, words: &mut [u64; WORDS]) {
 
 // ---- 5: pairs. At place 20, which is empty, a pair of VMs 1 and 15 on page 2 would be good.
 
-fn pair_case(clause: &[u8], m: Machine, words: &mut [u64; WORDS], word: u64) {
+fn word_case(clause: &[u8], m: Machine, words: &[u64; WORDS], word: u64) {
     flip_case(b"5 pair", clause, m, words, Table::Pairs, 20, word);
 }
 
-pub fn rule_5_fields(m: Machine, words: &mut [u64; WORDS]) {
+fn pair_case(clause: &[u8], m: Machine, words: &[u64; WORDS], left: u64, right: u64, page: u64) {
+    word_case(clause, m, words, pair(left, right, page));
+}
+
+pub fn rule_5_fields(m: Machine, words: &[u64; WORDS]) {
     let good = pair(1, 15, 2);
-    pair_case(b"port 1", m, words, good | PORT);
-    pair_case(b"not filled", m, words, good ^ FILLED);
-    pair_case(b"access 1", m, words, good | ACCESS);
-    pair_case(b"generation 1", m, words, good | GENERATION);
-    pair_case(b"page N", m, words, pair(1, 15, 70));
-    pair_case(b"page 1024", m, words, pair(1, 15, 1024));
-    pair_case(b"left end unknown", m, words, pair(3, 1, 2));
-    pair_case(b"right end unknown", m, words, pair(1, 3, 2));
-    pair_case(b"left end 18", m, words, pair(18, 1, 2));
-    pair_case(b"right end 258", m, words, pair(1, 258, 2));
+    word_case(b"port 1", m, words, good | PORT);
+    word_case(b"not filled", m, words, good ^ FILLED);
+    word_case(b"access 1", m, words, good | ACCESS);
+    word_case(b"generation 1", m, words, good | GENERATION);
+    pair_case(b"page N", m, words, 1, 15, 70);
+    pair_case(b"page 1024", m, words, 1, 15, 1024);
+    pair_case(b"left end unknown", m, words, 3, 1, 2);
+    pair_case(b"right end unknown", m, words, 1, 3, 2);
+    pair_case(b"left end 18", m, words, 18, 1, 2);
+    pair_case(b"right end 258", m, words, 1, 258, 2);
     known_case(b"5 pair", b"left end not known", m, words, 7);
     known_case(b"5 pair", b"right end not known", m, words, 6);
 }
 
-pub fn rule_5_ends(m: Machine, words: &mut [u64; WORDS]) {
-    pair_case(b"the same VM twice", m, words, pair(1, 1, 2));
-    pair_case(b"page of a third VM", m, words, pair(1, 2, 65));
-    pair_case(b"page of the span", m, words, pair(1, 2, 66));
-    pair_case(b"page held for DMA only", m, words, pair(1, 2, 4));
-    pair_case(b"stored twice", m, words, pair(1, 2, 0));
-    pair_case(b"stored twice, ends turned", m, words, pair(2, 1, 0));
+pub fn rule_5_ends(m: Machine, words: &[u64; WORDS]) {
+    pair_case(b"the same VM twice", m, words, 1, 1, 2);
+    pair_case(b"page of a third VM", m, words, 1, 2, 65);
+    pair_case(b"page of the span", m, words, 1, 2, 66);
+    pair_case(b"page held for DMA only", m, words, 1, 2, 4);
+    pair_case(b"stored twice", m, words, 1, 2, 0);
+    pair_case(b"stored twice, ends turned", m, words, 2, 1, 0);
 }
 
 // ---- 8: ports and hands, of a side. `only` is the VM that is known for its port and nothing else; port 7 is idle.
@@ -207,7 +228,7 @@ pub fn rule_8(rule: &[u8], side: Side, only: u64, m: Machine, words: &[u64; WORD
 // ---- 9: memory.
 
 pub fn rule_9(m: Machine, words: &[u64; WORDS]) {
-    let rule = b"9 memory";
+    let rule: &[u8] = b"9 memory";
     show_lent(rule, b"a word short", m, words, MEMORY_AT, MEMORY_WORDS - 1);
     show_lent(rule, b"a word long", m, words, MEMORY_AT, MEMORY_WORDS + 1);
 }

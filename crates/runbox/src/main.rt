@@ -1,23 +1,20 @@
 // Runs a box script: reads it from standard input, in pieces, and writes a line for a line (docs/MACHINE.md, 11).
-mod carry;
-mod print;
-mod work;
+mod lines;
 
-ghost use Rattle.runbox.specs.Room.{Orderly};
-use carry::query;
-use carry::settle;
+ghost use Rattle.batch.specs.Room.{Orderly};
+use batch::CACHE_WORDS;
+use batch::MEMORY_WORDS;
+use batch::ROWS_ROOM;
+use batch::SETS_WORDS;
+use batch::UNITS_ROOM;
+use batch::Work;
+use batch::carry::query;
+use batch::carry::settle;
 use libc::STDIN_FILENO;
 use numbers::ENTRIES;
 use numbers::PAIRS;
-use print::ANSWER_ROOM;
 use script::Line;
 use script::Reader;
-use work::CACHE_WORDS;
-use work::MEMORY_WORDS;
-use work::ROWS_ROOM;
-use work::SETS_WORDS;
-use work::UNITS_ROOM;
-use work::Work;
 
 const LF: u8 = 10;
 
@@ -36,16 +33,15 @@ fn line(
     dma_cache: &mut [u64; CACHE_WORDS],
     memory: &mut [u64; MEMORY_WORDS],
     rows: &mut [u64; ROWS_ROOM],
-    room: &mut [u64; ANSWER_ROOM],
 ) -> Work
     requires { ⌜ Orderly (work .units) (work .rows) ⌝ }
     ensures { λ r. ⌜ Orderly (r .units) (r .rows) ⌝ }
 {
-    let counted = work::counted(work);
-    let placed = work::in_place(counted, said);
+    let counted = batch::counted(work);
+    let placed = lines::in_place(counted, said);
     let ready = settle(
         counted,
-        work::asks(placed),
+        lines::asks(placed),
         units,
         sets,
         pairs,
@@ -57,7 +53,6 @@ fn line(
         dma_cache,
         memory,
         rows,
-        room,
     );
     if let Line::Free = placed {
         query(
@@ -73,7 +68,7 @@ fn line(
             memory,
         );
     }
-    work::take(ready, placed, units, rows)
+    lines::take(ready, placed, units, rows)
 }
 
 // Where the reading has come to: the box, and the line under way.
@@ -97,7 +92,6 @@ fn piece(
     dma_cache: &mut [u64; CACHE_WORDS],
     memory: &mut [u64; MEMORY_WORDS],
     rows: &mut [u64; ROWS_ROOM],
-    room: &mut [u64; ANSWER_ROOM],
 ) -> Place
     requires { ⌜ Orderly (place .work .units) (place .work .rows) ⌝ }
     ensures { λ r. ⌜ Orderly (r .work .units) (r .work .rows) ⌝ }
@@ -124,7 +118,6 @@ fn piece(
                 dma_cache,
                 memory,
                 rows,
-                room,
             );
             reader = script::line_start();
         } else {
@@ -148,7 +141,6 @@ fn finish(
     dma_cache: &mut [u64; CACHE_WORDS],
     memory: &mut [u64; MEMORY_WORDS],
     rows: &mut [u64; ROWS_ROOM],
-    room: &mut [u64; ANSWER_ROOM],
 )
     requires { ⌜ Orderly (place .work .units) (place .work .rows) ⌝ }
 {
@@ -169,7 +161,6 @@ fn finish(
         dma_cache,
         memory,
         rows,
-        room,
     );
     settle(
         last,
@@ -185,7 +176,6 @@ fn finish(
         dma_cache,
         memory,
         rows,
-        room,
     );
 }
 
@@ -203,11 +193,10 @@ fn run(
     dma_cache: &mut [u64; CACHE_WORDS],
     memory: &mut [u64; MEMORY_WORDS],
     rows: &mut [u64; ROWS_ROOM],
-    room: &mut [u64; ANSWER_ROOM],
 ) -> Place
     ensures { λ r. ⌜ Orderly (r .work .units) (r .work .rows) ⌝ }
 {
-    let work = work::no_work();
+    let work = batch::no_work();
     let mut place = Place {
         work,
         reader: script::line_start(),
@@ -234,10 +223,9 @@ fn run(
             dma_cache,
             memory,
             rows,
-            room,
         );
         let work = place.work;
-        if work::has_ended(work) {
+        if batch::has_ended(work) {
             return place;
         }
         turns -= 1;
@@ -257,7 +245,6 @@ fn main() {
     let mut dma_cache = [0u64; CACHE_WORDS];
     let mut memory = [0u64; MEMORY_WORDS];
     let mut rows = [0u64; ROWS_ROOM];
-    let mut room = [0u64; ANSWER_ROOM];
     let place = run(
         &mut units,
         &mut sets,
@@ -270,7 +257,6 @@ fn main() {
         &mut dma_cache,
         &mut memory,
         &mut rows,
-        &mut room,
     );
     finish(
         place,
@@ -285,6 +271,5 @@ fn main() {
         &mut dma_cache,
         &mut memory,
         &mut rows,
-        &mut room,
     );
 }

@@ -1,17 +1,17 @@
 use native.Mathlib.Omega.{arith}
 use Prim.Native.Nat.{_-_}
 use lib.ListN.{length}
-use Rattle.runbox.specs.Room.{Orderly}
+use Rattle.batch.specs.Room.{Orderly}
 use borrow.Author.Needs.{needs}
 use Rattle.runbox.proofs.piece.Statement.{statement}
 use Rattle.runbox.proofs.piece.Tie as tie
 
 abbrev Inv-loop : tie.InvT-loop
-Inv-loop bytes units₀ sets₀ pairs₀ cpu-map₀ cpu-walker₀ cpu-cache₀ dma-map₀ dma-walker₀ dma-cache₀ memory₀ rows₀ room₀ work₀ reader₀ i₀ units sets pairs cpu-map cpu-walker cpu-cache dma-map dma-walker dma-cache memory rows room work reader i =
+Inv-loop bytes units₀ sets₀ pairs₀ cpu-map₀ cpu-walker₀ cpu-cache₀ dma-map₀ dma-walker₀ dma-cache₀ memory₀ rows₀ work₀ reader₀ i₀ units sets pairs cpu-map cpu-walker cpu-cache dma-map dma-walker dma-cache memory rows work reader i =
     Orderly (work .units) (work .rows)
 
 abbrev μ-loop : tie.MeasureT-loop
-μ-loop bytes units₀ sets₀ pairs₀ cpu-map₀ cpu-walker₀ cpu-cache₀ dma-map₀ dma-walker₀ dma-cache₀ memory₀ rows₀ room₀ work₀ reader₀ i₀ units sets pairs cpu-map cpu-walker cpu-cache dma-map dma-walker dma-cache memory rows room work reader i =
+μ-loop bytes units₀ sets₀ pairs₀ cpu-map₀ cpu-walker₀ cpu-cache₀ dma-map₀ dma-walker₀ dma-cache₀ memory₀ rows₀ work₀ reader₀ i₀ units sets pairs cpu-map cpu-walker cpu-cache dma-map dma-walker dma-cache memory rows work reader i =
     length bytes - i
 
 loop-holds : tie.Need-loop-holds Inv-loop μ-loop
@@ -33,7 +33,7 @@ line-start-requires : tie.Need-line-start-requires Inv-loop μ-loop
 line-start-requires c κs = search needs
 
 loop-less : tie.Need-loop-less Inv-loop μ-loop
-loop-less c = omega (arith, c .before .before .before .before .before .before .before .before .before .before .before .before .before .before .before .before .before .loop-test .taken)
+loop-less c = omega (arith, c .before .before .before .before .before .before .before .before .before .before .before .before .before .before .before .before .loop-test .taken)
 
 loop-again : tie.Need-loop-again Inv-loop μ-loop
 loop-again c = search needs

@@ -1,17 +1,17 @@
 use native.Mathlib.Omega.{arith}
 use mathlib.Core.Path.{_≡_}
 use lib.ListN.{length}
-use Rattle.runbox.specs.Room.{Orderly}
+use Rattle.batch.specs.Room.{Orderly}
 use borrow.Author.Needs.{needs}
 use Rattle.runbox.proofs.run.Statement.{statement}
 use Rattle.runbox.proofs.run.Tie as tie
 
 abbrev Inv-loop : tie.InvT-loop
-Inv-loop units₀ sets₀ pairs₀ cpu-map₀ cpu-walker₀ cpu-cache₀ dma-map₀ dma-walker₀ dma-cache₀ memory₀ rows₀ room₀ place₀ bytes₀ turns₀ units sets pairs cpu-map cpu-walker cpu-cache dma-map dma-walker dma-cache memory rows room place bytes turns =
+Inv-loop units₀ sets₀ pairs₀ cpu-map₀ cpu-walker₀ cpu-cache₀ dma-map₀ dma-walker₀ dma-cache₀ memory₀ rows₀ place₀ bytes₀ turns₀ units sets pairs cpu-map cpu-walker cpu-cache dma-map dma-walker dma-cache memory rows place bytes turns =
     Orderly (place .work .units) (place .work .rows) × (65536 ≡ length bytes)
 
 abbrev μ-loop : tie.MeasureT-loop
-μ-loop units₀ sets₀ pairs₀ cpu-map₀ cpu-walker₀ cpu-cache₀ dma-map₀ dma-walker₀ dma-cache₀ memory₀ rows₀ room₀ place₀ bytes₀ turns₀ units sets pairs cpu-map cpu-walker cpu-cache dma-map dma-walker dma-cache memory rows room place bytes turns =
+μ-loop units₀ sets₀ pairs₀ cpu-map₀ cpu-walker₀ cpu-cache₀ dma-map₀ dma-walker₀ dma-cache₀ memory₀ rows₀ place₀ bytes₀ turns₀ units sets pairs cpu-map cpu-walker cpu-cache dma-map dma-walker dma-cache memory rows place bytes turns =
     turns
 
 no-work-requires : tie.Need-no-work-requires Inv-loop μ-loop
@@ -57,13 +57,13 @@ returns-2 : tie.Need-returns-2 Inv-loop μ-loop
 returns-2 c = search needs
 
 sub-turns : tie.Need-sub-turns Inv-loop μ-loop
-sub-turns c = omega (arith, c .before .before .before .before .before .before .before .before .before .before .before .before .before .before .before .before .before .before .before .before .before .before .before .loop-test .taken)
+sub-turns c = omega (arith, c .before .before .before .before .before .before .before .before .before .before .before .before .before .before .before .before .before .before .before .before .before .before .loop-test .taken)
 
 loop-less : tie.Need-loop-less Inv-loop μ-loop
-loop-less c = omega (arith, c .before .before .before .before .before .before .before .before .before .before .before .before .before .before .before .before .before .before .before .before .before .before .before .loop-test .taken)
+loop-less c = omega (arith, c .before .before .before .before .before .before .before .before .before .before .before .before .before .before .before .before .before .before .before .before .before .before .loop-test .taken)
 
 loop-again : tie.Need-loop-again Inv-loop μ-loop
-loop-again c = (c .before .before .before .piece .ensures, omega (arith, c .before .before .before .before .before .before .before .before .before .before .before .before .before .before .before .before .before .before .before .before .before .read .kept .1 .0, c .before .before .before .before .before .before .before .before .before .before .before .before .before .before .before .before .before .before .before .before .before .before .before .before .loop .inv .1))
+loop-again c = (c .before .before .before .piece .ensures, omega (arith, c .before .before .before .before .before .before .before .before .before .before .before .before .before .before .before .before .before .before .before .before .read .kept .1 .0, c .before .before .before .before .before .before .before .before .before .before .before .before .before .before .before .before .before .before .before .before .before .before .before .loop .inv .1))
 
 returns-3 : tie.Need-returns-3 Inv-loop μ-loop
 returns-3 c = search needs

@@ -1,8 +1,8 @@
 use borrow.Author.Needs.{needs}
 use lib.Seq.{length-take-le}
 use mathlib.Core.Path.{sym}
-use Rattle.runbox.proofs.carry.query.Statement.{statement}
-use Rattle.runbox.proofs.carry.query.Tie as tie
+use Rattle.batch.proofs.carry.query.Statement.{statement}
+use Rattle.batch.proofs.carry.query.Tie as tie
 
 words-of-requires : tie.Need-words-of-requires
 words-of-requires c κs = search needs

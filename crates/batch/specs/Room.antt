@@ -1,4 +1,4 @@
--- The sizes of the program's rooms, and what is kept of how full they are.
+-- The sizes of the rooms, and what is kept of how full they are.
 use Prim.Native.Nat.{ℕ, _*_, _≤_, _<_}
 use Rattle.numbers.specs.Limits.{PAGES, PAGE-WORDS, ROW-NUMBERS, ANSWER-NUMBERS}
 use Rattle.model.specs.Start.{UNIT-NUMBERS}
@@ -11,7 +11,7 @@ BATCH = 1024
 abbrev pub UNITS-KEPT : ℕ
 UNITS-KEPT = 33
 
--- the words of the rooms that main lends
+-- the words of the rooms that a program lends
 abbrev pub UNITS-ROOM : ℕ
 UNITS-ROOM = UNITS-KEPT * UNIT-NUMBERS
 

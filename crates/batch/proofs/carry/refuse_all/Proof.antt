@@ -1,7 +1,7 @@
 use Prim.Native.Nat.{_-_}
 use borrow.Author.Needs.{needs}
-use Rattle.runbox.proofs.carry.refuse_all.Statement.{statement}
-use Rattle.runbox.proofs.carry.refuse_all.Tie as tie
+use Rattle.batch.proofs.carry.refuse_all.Statement.{statement}
+use Rattle.batch.proofs.carry.refuse_all.Tie as tie
 
 abbrev Inv-loop : tie.InvT-loop
 Inv-loop room₀ refused i₀ room i = Unit {0}

@@ -2,18 +2,18 @@
 ghost use Prim.Native.Nat.{_≤_, _<_};
 ghost use mathlib.Core.Path.{_≡_};
 ghost use lib.ListN.{length};
-ghost use Rattle.runbox.specs.Room.{BATCH, UNITS-ROOM, MEMORY-WORDS, ROWS-ROOM, Orderly};
+ghost use Rattle.batch.specs.Room.{BATCH, UNITS-ROOM, MEMORY-WORDS, ROWS-ROOM, Orderly};
+use crate::CACHE_WORDS;
+use crate::MEMORY_WORDS;
+use crate::Phase;
+use crate::ROWS_ROOM;
+use crate::SETS_WORDS;
+use crate::UNITS_ROOM;
+use crate::Work;
+use crate::moved;
 use crate::print;
 use crate::print::ANSWER_ROOM;
 use crate::print::BATCH;
-use crate::work;
-use crate::work::CACHE_WORDS;
-use crate::work::MEMORY_WORDS;
-use crate::work::Phase;
-use crate::work::ROWS_ROOM;
-use crate::work::SETS_WORDS;
-use crate::work::UNITS_ROOM;
-use crate::work::Work;
 use machine::entries;
 use model::Machine;
 use numbers::ANSWER_NUMBERS;
@@ -78,7 +78,7 @@ fn begin(
     let answer = begun.answer;
     let machine = begun.machine;
     print::print_start(answer);
-    work::moved(work, Phase::Begun, machine, work.rows)
+    moved(work, Phase::Begun, machine, work.rows)
 }
 
 // Refusal 1, in every place of the room.
@@ -197,7 +197,6 @@ pub fn settle(
     dma_cache: &mut [u64; CACHE_WORDS],
     memory: &mut [u64; MEMORY_WORDS],
     rows: &[u64; ROWS_ROOM],
-    room: &mut [u64; ANSWER_ROOM],
 ) -> Work
     requires { ⌜ Orderly (work .units) (work .rows) ⌝ }
     ensures { λ r. ⌜ Orderly (r .units) (r .rows) ⌝ }
@@ -208,6 +207,7 @@ pub fn settle(
             return work;
         }
     }
+    let mut room = [0u64; ANSWER_ROOM];
     let begun = begin(
         work,
         units,
@@ -233,9 +233,9 @@ pub fn settle(
         dma_cache,
         memory,
         rows,
-        room,
+        &mut room,
     );
-    print::print_answers(room, begun.rows);
+    print::print_answers(&room, begun.rows);
     let phase = begun.phase;
-    work::moved(begun, phase, machine, 0)
+    moved(begun, phase, machine, 0)
 }

@@ -1,10 +1,10 @@
 use Prim.Native.Nat.{_-_, _≤_}
 use mathlib.Core.Path.{_≡_, refl}
 use lib.ListN.{length}
-use Rattle.runbox.specs.DigitLaws.{few-digits}
+use Rattle.batch.specs.DigitLaws.{few-digits}
 use borrow.Author.Needs.{needs}
-use Rattle.runbox.proofs.print.put.Statement.{statement}
-use Rattle.runbox.proofs.print.put.Tie as tie
+use Rattle.batch.proofs.print.put.Statement.{statement}
+use Rattle.batch.proofs.print.put.Tie as tie
 
 abbrev Inv-loop : tie.InvT-loop
 Inv-loop text₀ at number end digits count i₀ text i = (count ≤ 20) × (length text ≡ length text₀)

@@ -2,10 +2,10 @@ use Prim.Native.Nat.{_-_, _*_, _≤_}
 use mathlib.Core.Path.{_≡_, refl, sym}
 use lib.ListN.{length}
 use lib.Seq.{length-take-le}
-use Rattle.runbox.specs.Room.{BATCH, ANSWER-BYTES}
+use Rattle.batch.specs.Room.{BATCH, ANSWER-BYTES}
 use borrow.Author.Needs.{needs}
-use Rattle.runbox.proofs.print.print_answers.Statement.{statement}
-use Rattle.runbox.proofs.print.print_answers.Tie as tie
+use Rattle.batch.proofs.print.print_answers.Statement.{statement}
+use Rattle.batch.proofs.print.print_answers.Tie as tie
 
 abbrev Inv-loop : tie.InvT-loop
 Inv-loop room count text₀ at₀ k₀ text at k = (k ≤ count) × (at ≤ k * ANSWER-BYTES) × (length text ≡ BATCH * ANSWER-BYTES)

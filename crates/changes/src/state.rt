@@ -4,7 +4,7 @@ ghost use mathlib.Core.Path.{_≡_};
 ghost use Prim.Native.Nat.{_+_, _*_, _≤_, _<_};
 ghost use lib.ListN.{length};
 ghost use Rattle.numbers.specs.Limits.{PAGE-WORDS};
-ghost use Rattle.damaged.specs.Words.{N, WORDS};
+ghost use Rattle.changes.specs.Words.{N, WORDS};
 use libc::STDOUT_FILENO;
 use model::Machine;
 use numbers::ENTRIES;

@@ -1,8 +1,8 @@
 use mathlib.Core.Path.{sym}
 use lib.Seq.{length-take-le}
 use borrow.Author.Needs.{needs}
-use Rattle.runbox.proofs.carry.begin.Statement.{statement}
-use Rattle.runbox.proofs.carry.begin.Tie as tie
+use Rattle.batch.proofs.carry.begin.Statement.{statement}
+use Rattle.batch.proofs.carry.begin.Tie as tie
 
 enum-told : tie.Need-enum-told
 enum-told c = search needs

@@ -1,12 +1,9 @@
 // The two valid states that are damaged: the machine as start leaves it, and one with VMs at work.
 ghost use Prim.Native.Nat.{_+_, _*_, _<_};
 ghost use Rattle.numbers.specs.Limits.{PAGES, VMS, ENTRIES};
-ghost use Rattle.damaged.specs.Words.{WORDS};
-use crate::change::POOL;
-use crate::change::SHARED;
-use crate::change::toggle;
-use crate::change::toggle_cpu;
-use crate::change::toggle_dma;
+ghost use Rattle.changes.specs.Words.{WORDS};
+use crate::POOL;
+use crate::SHARED;
 use crate::state::CPU_CACHE_AT;
 use crate::state::CPU_MAP_AT;
 use crate::state::DMA_CACHE_AT;
@@ -15,6 +12,9 @@ use crate::state::N;
 use crate::state::PAIRS_AT;
 use crate::state::SETS_AT;
 use crate::state::WORDS;
+use crate::toggle;
+use crate::toggle_cpu;
+use crate::toggle_dma;
 use model::Machine;
 use numbers::ENTRIES;
 use numbers::GuestPage;

@@ -1,7 +1,7 @@
-// What the program writes. The answers of a batch are written at once.
+// What is written. The answers of a batch are written at once.
 ghost use Prim.Native.Nat.{_+_, _*_, _≤_, _<_};
 ghost use lib.ListN.{length};
-ghost use Rattle.runbox.specs.Room.{BATCH, ANSWER-BYTES, NUMBER-BYTES};
+ghost use Rattle.batch.specs.Room.{BATCH, ANSWER-BYTES, NUMBER-BYTES};
 use libc::STDOUT_FILENO;
 use numbers::ANSWER_NUMBERS;
 use numbers::Answer;

@@ -1,6 +1,6 @@
 use borrow.Author.Needs.{needs}
-use Rattle.runbox.proofs.carry.settle.Statement.{statement}
-use Rattle.runbox.proofs.carry.settle.Tie as tie
+use Rattle.batch.proofs.carry.settle.Statement.{statement}
+use Rattle.batch.proofs.carry.settle.Tie as tie
 
 returns : tie.Need-returns
 returns c = search needs

@@ -1,8 +1,13 @@
-// One change each. Of a word or of a page of a set: made, shown and undone. Of the header: shown of a header that differs in one
-// number.
+// One change each, and the line of the state that it gives. A word or a page of a set is changed in a copy of the words, a number
+// of the header in a copy of the header.
 ghost use Prim.Native.Nat.{_*_, _<_};
 ghost use Rattle.numbers.specs.Limits.{PAGES, PAGE-WORDS, VMS, PORTS, UNITS, SETS};
-ghost use Rattle.damaged.specs.Words.{N};
+ghost use Rattle.changes.specs.Words.{N};
+
+pub mod base;
+pub mod harmless;
+pub mod state;
+
 use crate::state::Table;
 use crate::state::WORDS;
 use crate::state::show;
@@ -19,7 +24,7 @@ pub fn flip_case(
     rule: &[u8],
     clause: &[u8],
     m: Machine,
-    words: &mut [u64; WORDS],
+    words: &[u64; WORDS],
     table: Table,
     place: usize,
     bits: u64,
@@ -27,9 +32,9 @@ pub fn flip_case(
     requires { ⌜ place < PAGE-WORDS * N ⌝ }
 {
     let at = start_of(table) + place;
-    words[at] = words[at] ^ bits;
-    show(rule, clause, m, words);
-    words[at] = words[at] ^ bits;
+    let mut changed = *words;
+    changed[at] = words[at] ^ bits;
+    show(rule, clause, m, &changed);
 }
 
 // Two words change places.
@@ -37,7 +42,7 @@ pub fn swap_case(
     rule: &[u8],
     clause: &[u8],
     m: Machine,
-    words: &mut [u64; WORDS],
+    words: &[u64; WORDS],
     table: Table,
     place: usize,
     other: usize,
@@ -47,13 +52,10 @@ pub fn swap_case(
     let start = start_of(table);
     let at = start + place;
     let beside = start + other;
-    let kept = words[at];
-    let moved = words[beside];
-    words[at] = moved;
-    words[beside] = kept;
-    show(rule, clause, m, words);
-    words[at] = kept;
-    words[beside] = moved;
+    let mut changed = *words;
+    changed[at] = words[beside];
+    changed[beside] = words[at];
+    show(rule, clause, m, &changed);
 }
 
 // ---- Page sets: rows 0 and 1, then two for each VM.
@@ -82,42 +84,21 @@ pub fn toggle_dma(words: &mut [u64; WORDS], vm: usize, page: u64)
     toggle(words, 3 + 2 * vm, page);
 }
 
-pub fn set_case(
-    rule: &[u8],
-    clause: &[u8],
-    m: Machine,
-    words: &mut [u64; WORDS],
-    row: usize,
-    page: u64,
-)
+pub fn set_case(rule: &[u8], clause: &[u8], m: Machine, words: &[u64; WORDS], row: usize, page: u64)
     requires { ⌜ (row < SETS) × (page < PAGES) ⌝ }
 {
-    toggle(words, row, page);
-    show(rule, clause, m, words);
-    toggle(words, row, page);
+    let mut changed = *words;
+    toggle(&mut changed, row, page);
+    show(rule, clause, m, &changed);
 }
 
-pub fn cpu_case(
-    rule: &[u8],
-    clause: &[u8],
-    m: Machine,
-    words: &mut [u64; WORDS],
-    vm: usize,
-    page: u64,
-)
+pub fn cpu_case(rule: &[u8], clause: &[u8], m: Machine, words: &[u64; WORDS], vm: usize, page: u64)
     requires { ⌜ (vm < VMS) × (page < PAGES) ⌝ }
 {
     set_case(rule, clause, m, words, 2 + 2 * vm, page);
 }
 
-pub fn dma_case(
-    rule: &[u8],
-    clause: &[u8],
-    m: Machine,
-    words: &mut [u64; WORDS],
-    vm: usize,
-    page: u64,
-)
+pub fn dma_case(rule: &[u8], clause: &[u8], m: Machine, words: &[u64; WORDS], vm: usize, page: u64)
     requires { ⌜ (vm < VMS) × (page < PAGES) ⌝ }
 {
     set_case(rule, clause, m, words, 3 + 2 * vm, page);
@@ -125,38 +106,38 @@ pub fn dma_case(
 
 // ---- The header.
 
-pub fn with_pages(m: Machine, pages: u64) -> Machine {
+pub fn pages_case(rule: &[u8], clause: &[u8], m: Machine, words: &[u64; WORDS], pages: u64) {
     let mut changed = m;
     changed.pages = pages;
-    changed
+    show(rule, clause, changed, words);
 }
 
-pub fn with_shared_base(m: Machine, base: u64) -> Machine {
+pub fn shared_base_case(rule: &[u8], clause: &[u8], m: Machine, words: &[u64; WORDS], base: u64) {
     let mut changed = m;
     changed.shared_base = base;
-    changed
+    show(rule, clause, changed, words);
 }
 
-pub fn with_shared_count(m: Machine, count: u64) -> Machine {
+pub fn shared_count_case(rule: &[u8], clause: &[u8], m: Machine, words: &[u64; WORDS], count: u64) {
     let mut changed = m;
     changed.shared_count = count;
-    changed
+    show(rule, clause, changed, words);
 }
 
-pub fn with_unit_count(m: Machine, count: u64) -> Machine {
+pub fn unit_count_case(rule: &[u8], clause: &[u8], m: Machine, words: &[u64; WORDS], count: u64) {
     let mut changed = m;
     changed.unit_count = count;
-    changed
+    show(rule, clause, changed, words);
 }
 
-pub fn with_unit(m: Machine, k: usize, unit: Unit) -> Machine
+pub fn unit_case(rule: &[u8], clause: &[u8], m: Machine, words: &[u64; WORDS], k: usize, unit: Unit)
     requires { ⌜ k < UNITS ⌝ }
 {
     let mut changed = m;
     let mut units = m.units;
     units[k] = unit;
     changed.units = units;
-    changed
+    show(rule, clause, changed, words);
 }
 
 // A VM is known where it was not, or the other way round.

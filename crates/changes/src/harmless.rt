@@ -3,19 +3,18 @@ use crate::base::PORT;
 use crate::base::pair;
 use crate::base::slot;
 use crate::base::unit;
-use crate::change::dma_case;
-use crate::change::flip_case;
-use crate::change::hand_case;
-use crate::change::known_case;
-use crate::change::port_case;
-use crate::change::swap_case;
-use crate::change::with_shared_base;
-use crate::change::with_unit;
-use crate::change::with_unit_count;
+use crate::dma_case;
+use crate::flip_case;
+use crate::hand_case;
+use crate::known_case;
+use crate::port_case;
+use crate::shared_base_case;
 use crate::state::MEMORY_WORDS;
 use crate::state::Table;
 use crate::state::WORDS;
-use crate::state::show;
+use crate::swap_case;
+use crate::unit_case;
+use crate::unit_count_case;
 use model::Machine;
 use numbers::IDLE;
 use numbers::Side;
@@ -23,23 +22,22 @@ use numbers::Side;
 const LAST_WORD: usize = MEMORY_WORDS - 1;
 
 // Of the state after start.
-pub fn empty_span(m: Machine, words: &[u64; WORDS]) {
-    let rule = b"harmless";
-    show(rule, b"empty span elsewhere", with_shared_base(m, 0), words);
+pub fn fresh(m: Machine, words: &[u64; WORDS]) {
+    shared_base_case(b"harmless", b"empty span elsewhere", m, words, 0);
 }
 
-pub fn header(m: Machine, words: &[u64; WORDS]) {
-    let rule = b"harmless";
-    let past = with_unit(m, 31, unit(16, 0, 0, 0, 8));
-    show(rule, b"unit past the count", past, words);
-    show(rule, b"no units", with_unit_count(m, 0), words);
-    show(rule, b"32 units", with_unit_count(m, 32), words);
+fn header(m: Machine, words: &[u64; WORDS]) {
+    let rule: &[u8] = b"harmless";
+    let past = unit(16, 0, 0, 0, 8);
+    unit_case(rule, b"unit past the count", m, words, 31, past);
+    unit_count_case(rule, b"no units", m, words, 0);
+    unit_count_case(rule, b"32 units", m, words, 32);
     known_case(rule, b"a VM more", m, words, 3);
     known_case(rule, b"a VM less", m, words, 14);
 }
 
-pub fn tables(m: Machine, words: &mut [u64; WORDS]) {
-    let rule = b"harmless";
+fn tables(m: Machine, words: &[u64; WORDS]) {
+    let rule: &[u8] = b"harmless";
     dma_case(rule, b"page of the pool for DMA", m, words, 1, 20);
     dma_case(rule, b"page of its own for DMA", m, words, 1, 2);
     dma_case(rule, b"DMA page that no map needs", m, words, 2, 5);
@@ -52,21 +50,33 @@ pub fn tables(m: Machine, words: &mut [u64; WORDS]) {
 }
 
 // Places 0 and 9 of a walker are filled, 8 is empty.
-pub fn walker(rule: &[u8], m: Machine, words: &mut [u64; WORDS], table: Table) {
+fn walker(rule: &[u8], m: Machine, words: &[u64; WORDS], table: Table) {
     swap_case(rule, b"two entries", m, words, table, 0, 9);
     swap_case(rule, b"an entry and an empty place", m, words, table, 8, 9);
 }
 
-pub fn cache(rule: &[u8], m: Machine, words: &mut [u64; WORDS], table: Table) {
+fn cache(rule: &[u8], m: Machine, words: &[u64; WORDS], table: Table) {
     let kept = slot(0, 1, 16, 0, 3, 0);
     flip_case(rule, b"a slot less", m, words, table, 0, kept);
     flip_case(rule, b"a slot more", m, words, table, 20, kept | 6 * PORT);
     flip_case(rule, b"a slot of another port", m, words, table, 0, PORT);
 }
 
-pub fn ports(rule: &[u8], side: Side, m: Machine, words: &[u64; WORDS]) {
+fn ports(rule: &[u8], side: Side, m: Machine, words: &[u64; WORDS]) {
     port_case(rule, b"port 2 idle", m, words, side, 2, IDLE);
     port_case(rule, b"port 7 with VM 15", m, words, side, 7, 15);
     hand_case(rule, b"hand 0", m, words, side, 0);
     hand_case(rule, b"hand 63", m, words, side, 63);
+}
+
+// Of the state at work.
+pub fn busy(m: Machine, words: &[u64; WORDS]) {
+    header(m, words);
+    tables(m, words);
+    walker(b"harmless in the CPU walker", m, words, Table::CpuWalker);
+    walker(b"harmless in the DMA walker", m, words, Table::DmaWalker);
+    cache(b"harmless in the CPU cache", m, words, Table::CpuCache);
+    cache(b"harmless in the DMA cache", m, words, Table::DmaCache);
+    ports(b"harmless on the CPUs", Side::Cpu, m, words);
+    ports(b"harmless on the devices", Side::Dma, m, words);
 }

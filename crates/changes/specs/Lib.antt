@@ -1,0 +1,2 @@
+-- How many words the states have.
+pub mod Words

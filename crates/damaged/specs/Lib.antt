@@ -1,2 +1,0 @@
--- How many words the states of the program have.
-pub mod Words
