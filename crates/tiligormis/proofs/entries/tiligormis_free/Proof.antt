@@ -40,13 +40,13 @@ use Rattle.model.specs.Start.{freeRefused}
 use Rattle.cores.specs.Boxes.{box}
 use Rattle.cores.specs.Given.{Judgement, freeGives, freeTold, freeGiven, FreeAsked, Whole, same}
 use Rattle.tiligormis.specs.BoxLaws.{free-slots}
-use Rattle.tiligormis.specs.Slots.{AllFit, loaded}
-use Rattle.tiligormis.specs.declared.Slot.{Slot}
-use Rattle.tiligormis.proofs.Rows.{R, Row, row-makes, row-typed}
-use Rattle.tiligormis.proofs.load as load′
-use Rattle.tiligormis.proofs.load.Symbol as load-def
-use Rattle.tiligormis.proofs.load.Symbol.{name as #load}
-use Rattle.tiligormis.proofs.load.Met as load-thm
+use Rattle.slots.specs.Slots.{AllFit, loaded}
+use Rattle.slots.specs.declared.Slot.{Slot}
+use Rattle.slots.proofs.Rows.{R, Row, row-makes, row-typed}
+use Rattle.slots.proofs.load as load′
+use Rattle.slots.proofs.load.Symbol as load-def
+use Rattle.slots.proofs.load.Symbol.{name as #load}
+use Rattle.slots.proofs.load.Met as load-thm
 use Rattle.cores.proofs.free as core′
 use Rattle.cores.proofs.free.Symbol as core-def
 use Rattle.cores.proofs.free.Symbol.{name as #core}
@@ -430,5 +430,5 @@ tiligormis-free-spec 𝓤 H 𝓜 𝓖 𝓡 =
     entered 𝓤 H (tripleOf 𝓤 H (𝓖 .A) entry′.signature (entry′.spec 𝓤 H (𝓖 .A) (𝓜 .mem) (𝓡 .run)))
     (tables 𝓤 H 𝓜 𝓡 code.env .C) (tables 𝓤 H 𝓜 𝓡 code.env .Λ) #entry code.function (code.unfolded 𝓤 H 𝓜 𝓡)
     (entry-meets 𝓤 H (𝓖 .A) (givenOf 𝓤 H 𝓜 𝓖) (𝓜 .mem) (𝓡 .run) (tablesOf 𝓤 H 𝓜 (tables 𝓤 H 𝓜 𝓡 code.env))
-    (cited 𝓤 H (Load 𝓤 H (𝓖 .A) (𝓜 .mem) (𝓡 .run)) 𝓜 𝓡 code.env #load load-def.routine code.calls-tiligormis·load (load-thm.met 𝓤 H 𝓜 𝓖 𝓡))
+    (cited 𝓤 H (Load 𝓤 H (𝓖 .A) (𝓜 .mem) (𝓡 .run)) 𝓜 𝓡 code.env #load load-def.routine code.calls-slots·load (load-thm.met 𝓤 H 𝓜 𝓖 𝓡))
     (cited 𝓤 H (Core 𝓤 H (𝓖 .A) (𝓜 .mem) (𝓡 .run)) 𝓜 𝓡 code.env #core core-def.routine code.calls-cores·free (core-thm.met 𝓤 H 𝓜 𝓖 𝓡)))

@@ -43,20 +43,20 @@ use Rattle.cores.specs.Boxes.{box, BoxValid}
 use Rattle.cores.specs.Given.{Judgement, given, sequenceGives, refusedWhole, Whole, same}
 use Rattle.cores.specs.declared.Finished.{Finished}
 use Rattle.tiligormis.specs.BoxLaws.{sequence-slots}
-use Rattle.tiligormis.specs.Slots.{AllFit, loaded, stored}
-use Rattle.tiligormis.specs.declared.Slot.{Slot}
-use Rattle.tiligormis.proofs.Again.{SharedOut, lends-shared, shared-back}
-use Rattle.tiligormis.proofs.Rows.{R, Row, field-words, field-row, row-makes, row-typed}
+use Rattle.slots.specs.Slots.{AllFit, loaded, stored}
+use Rattle.slots.specs.declared.Slot.{Slot}
+use Rattle.tiligormis.proofs.SharedLoan.{SharedOut, lends-shared, shared-back}
+use Rattle.slots.proofs.Rows.{R, Row, field-words, field-row, row-makes, row-typed}
 use Rattle.cores.proofs.Finished as O
 use Rattle.cores.proofs.Finished.Laws as O′
-use Rattle.tiligormis.proofs.load as load′
-use Rattle.tiligormis.proofs.load.Symbol as load-def
-use Rattle.tiligormis.proofs.load.Symbol.{name as #load}
-use Rattle.tiligormis.proofs.load.Met as load-thm
-use Rattle.tiligormis.proofs.store as store′
-use Rattle.tiligormis.proofs.store.Symbol as store-def
-use Rattle.tiligormis.proofs.store.Symbol.{name as #store}
-use Rattle.tiligormis.proofs.store.Met as store-thm
+use Rattle.slots.proofs.load as load′
+use Rattle.slots.proofs.load.Symbol as load-def
+use Rattle.slots.proofs.load.Symbol.{name as #load}
+use Rattle.slots.proofs.load.Met as load-thm
+use Rattle.slots.proofs.store as store′
+use Rattle.slots.proofs.store.Symbol as store-def
+use Rattle.slots.proofs.store.Symbol.{name as #store}
+use Rattle.slots.proofs.store.Met as store-thm
 use Rattle.cores.proofs.sequence as core′
 use Rattle.cores.proofs.sequence.Symbol as core-def
 use Rattle.cores.proofs.sequence.Symbol.{name as #core}
@@ -674,6 +674,6 @@ tiligormis-sequence-spec 𝓤 H 𝓜 𝓖 𝓡 =
     entered 𝓤 H (tripleOf 𝓤 H (𝓖 .A) entry′.signature (entry′.spec 𝓤 H (𝓖 .A) (𝓜 .mem) (𝓡 .run)))
     (tables 𝓤 H 𝓜 𝓡 code.env .C) (tables 𝓤 H 𝓜 𝓡 code.env .Λ) #entry code.function (code.unfolded 𝓤 H 𝓜 𝓡)
     (entry-meets 𝓤 H (𝓖 .A) (givenOf 𝓤 H 𝓜 𝓖) (𝓜 .mem) (𝓡 .run) (tablesOf 𝓤 H 𝓜 (tables 𝓤 H 𝓜 𝓡 code.env))
-    (cited 𝓤 H (Load 𝓤 H (𝓖 .A) (𝓜 .mem) (𝓡 .run)) 𝓜 𝓡 code.env #load load-def.routine code.calls-tiligormis·load (load-thm.met 𝓤 H 𝓜 𝓖 𝓡))
-    (cited 𝓤 H (Store 𝓤 H (𝓖 .A) (𝓜 .mem) (𝓡 .run)) 𝓜 𝓡 code.env #store store-def.routine code.calls-tiligormis·store (store-thm.met 𝓤 H 𝓜 𝓖 𝓡))
+    (cited 𝓤 H (Load 𝓤 H (𝓖 .A) (𝓜 .mem) (𝓡 .run)) 𝓜 𝓡 code.env #load load-def.routine code.calls-slots·load (load-thm.met 𝓤 H 𝓜 𝓖 𝓡))
+    (cited 𝓤 H (Store 𝓤 H (𝓖 .A) (𝓜 .mem) (𝓡 .run)) 𝓜 𝓡 code.env #store store-def.routine code.calls-slots·store (store-thm.met 𝓤 H 𝓜 𝓖 𝓡))
     (cited 𝓤 H (Core 𝓤 H (𝓖 .A) (𝓜 .mem) (𝓡 .run)) 𝓜 𝓡 code.env #core core-def.routine code.calls-cores·sequence (core-thm.met 𝓤 H 𝓜 𝓖 𝓡)))

@@ -41,14 +41,14 @@ use Rattle.numbers.specs.Decides.{Decides}
 use Rattle.cores.specs.Boxes.{box, BoxValid}
 use Rattle.cores.specs.Given.{Whole, same}
 use Rattle.tiligormis.specs.BoxLaws.{decides-slots}
-use Rattle.tiligormis.specs.Slots.{AllFit, loaded}
-use Rattle.tiligormis.specs.declared.Slot.{Slot}
-use Rattle.tiligormis.proofs.Rows.{R, Row, row-makes, row-typed}
+use Rattle.slots.specs.Slots.{AllFit, loaded}
+use Rattle.slots.specs.declared.Slot.{Slot}
+use Rattle.slots.proofs.Rows.{R, Row, row-makes, row-typed}
 use denote.Plain.{Boolean, bool-lawful, bool-makes}
-use Rattle.tiligormis.proofs.load as load′
-use Rattle.tiligormis.proofs.load.Symbol as load-def
-use Rattle.tiligormis.proofs.load.Symbol.{name as #load}
-use Rattle.tiligormis.proofs.load.Met as load-thm
+use Rattle.slots.proofs.load as load′
+use Rattle.slots.proofs.load.Symbol as load-def
+use Rattle.slots.proofs.load.Symbol.{name as #load}
+use Rattle.slots.proofs.load.Met as load-thm
 use Rattle.cores.proofs.valid as core′
 use Rattle.cores.proofs.valid.Symbol as core-def
 use Rattle.cores.proofs.valid.Symbol.{name as #core}
@@ -397,5 +397,5 @@ tiligormis-valid-spec 𝓤 H 𝓜 𝓖 𝓡 =
     entered 𝓤 H (tripleOf 𝓤 H (𝓖 .A) entry′.signature (entry′.spec 𝓤 H (𝓖 .A) (𝓜 .mem) (𝓡 .run)))
     (tables 𝓤 H 𝓜 𝓡 code.env .C) (tables 𝓤 H 𝓜 𝓡 code.env .Λ) #entry code.function (code.unfolded 𝓤 H 𝓜 𝓡)
     (entry-meets 𝓤 H (𝓖 .A) (givenOf 𝓤 H 𝓜 𝓖) (𝓜 .mem) (𝓡 .run) (tablesOf 𝓤 H 𝓜 (tables 𝓤 H 𝓜 𝓡 code.env))
-    (cited 𝓤 H (Load 𝓤 H (𝓖 .A) (𝓜 .mem) (𝓡 .run)) 𝓜 𝓡 code.env #load load-def.routine code.calls-tiligormis·load (load-thm.met 𝓤 H 𝓜 𝓖 𝓡))
+    (cited 𝓤 H (Load 𝓤 H (𝓖 .A) (𝓜 .mem) (𝓡 .run)) 𝓜 𝓡 code.env #load load-def.routine code.calls-slots·load (load-thm.met 𝓤 H 𝓜 𝓖 𝓡))
     (cited 𝓤 H (Core 𝓤 H (𝓖 .A) (𝓜 .mem) (𝓡 .run)) 𝓜 𝓡 code.env #core core-def.routine code.calls-cores·valid (core-thm.met 𝓤 H 𝓜 𝓖 𝓡)))
