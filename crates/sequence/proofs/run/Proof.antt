@@ -1,10 +1,10 @@
 use Prim.Native.Nat.{_-_}
 use native.Mathlib.Omega.{arith}
 use Rattle.operate.specs.Outcome.{withRegisters}
-use Rattle.machine.specs.Run.{progress}
-use Rattle.machine.specs.RunLaws.{Running, run-start, run-next, run-end, fit-kept}
-use Rattle.machine.proofs.run.Statement.{statement}
-use Rattle.machine.proofs.run.Tie as tie
+use Rattle.sequence.specs.Run.{progress}
+use Rattle.sequence.specs.RunLaws.{Running, run-start, run-next, run-end, fit-kept}
+use Rattle.sequence.proofs.run.Statement.{statement}
+use Rattle.sequence.proofs.run.Tie as tie
 
 abbrev Inv-loop : tie.InvT-loop
 Inv-loop fixed sets₀ pairs₀ cpu-map₀ cpu-walker₀ cpu-cache₀ dma-map₀ dma-walker₀ dma-cache₀ memory₀ rows room₀ count next₀ k₀ sets pairs cpu-map cpu-walker cpu-cache dma-map dma-walker dma-cache memory room next k =

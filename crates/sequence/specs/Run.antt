@@ -6,11 +6,9 @@ use lib.Dec.{eqb, leb}
 use Rattle.numbers.specs.Choice.{if_then_else_}
 use Rattle.numbers.specs.Limits.{ROW-NUMBERS, ANSWER-NUMBERS}
 use Rattle.numbers.specs.declared.Answer.{Answer}
-use Rattle.numbers.specs.declared.Lowest.{Lowest}
 use Rattle.numbers.specs.declared.Refusal.the-variants.{OutOfRange}
 use Rattle.model.specs.Effect.{accepted, refused}
 use Rattle.model.specs.Header.{stateOf}
-use Rattle.model.specs.Start.{Free}
 use Rattle.model.specs.Sequence.{Progress, Sequenced}
 use Rattle.model.specs.declared.Machine.{Machine}
 
@@ -27,7 +25,3 @@ shapeOf rows room =
     if not (eqb (rows % ROW-NUMBERS) 0) then refused OutOfRange
     else if not (leb (rows / ROW-NUMBERS * ANSWER-NUMBERS) room) then refused OutOfRange
     else accepted
-
--- what the free query answers
-abbrev pub freeOf : Answer → ℕ → Lowest → Free
-freeOf answer count lowest = record { answer = answer; count = count; lowest = lowest }

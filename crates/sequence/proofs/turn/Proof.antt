@@ -1,9 +1,9 @@
 use borrow.Author.Needs.{needs}
 use Rattle.operate.specs.Outcome.{withRegisters}
-use Rattle.machine.specs.Run.{progress}
-use Rattle.machine.specs.RunLaws.{turn-done, turn-unknown}
-use Rattle.machine.proofs.turn.Statement.{statement}
-use Rattle.machine.proofs.turn.Tie as tie
+use Rattle.sequence.specs.Run.{progress}
+use Rattle.sequence.specs.RunLaws.{turn-done, turn-unknown}
+use Rattle.sequence.proofs.turn.Statement.{statement}
+use Rattle.sequence.proofs.turn.Tie as tie
 
 operation-at-requires : tie.Need-operation-at-requires
 operation-at-requires c κs = search needs

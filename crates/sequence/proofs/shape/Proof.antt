@@ -1,6 +1,6 @@
 use borrow.Author.Needs.{needs}
-use Rattle.machine.proofs.shape.Statement.{statement}
-use Rattle.machine.proofs.shape.Tie as tie
+use Rattle.sequence.proofs.shape.Statement.{statement}
+use Rattle.sequence.proofs.shape.Tie as tie
 
 returns : tie.Need-returns
 returns c = rw (c .if1 .taken)

@@ -1,9 +1,9 @@
 use borrow.Author.Needs.{needs}
 use native.Mathlib.Omega.{arith}
 use Rattle.model.specs.Header.{stateOf}
-use Rattle.machine.specs.RunLaws.{shape-room, sequence-refused, sequence-done}
-use Rattle.machine.proofs.carry_out.Statement.{statement}
-use Rattle.machine.proofs.carry_out.Tie as tie
+use Rattle.sequence.specs.RunLaws.{shape-room, sequence-refused, sequence-done}
+use Rattle.sequence.proofs.carry_out.Statement.{statement}
+use Rattle.sequence.proofs.carry_out.Tie as tie
 
 shape-requires : tie.Need-shape-requires
 shape-requires c κs = search needs

@@ -3,9 +3,9 @@ use Prim.Native.Nat.{_*_}
 use Rattle.numbers.specs.Limits.{ANSWER-NUMBERS}
 use native.Mathlib.Omega.{arith}
 use lib.ListN.{length-set}
-use Rattle.machine.specs.RoomLaws.{four-stores}
-use Rattle.machine.proofs.write_answer.Statement.{statement}
-use Rattle.machine.proofs.write_answer.Tie as tie
+use Rattle.sequence.specs.RoomLaws.{four-stores}
+use Rattle.sequence.proofs.write_answer.Statement.{statement}
+use Rattle.sequence.proofs.write_answer.Tie as tie
 
 answer-numbers-requires : tie.Need-answer-numbers-requires
 answer-numbers-requires c κs = search needs

@@ -27,7 +27,7 @@ use Rattle.model.specs.Sequence.{Progress, turn, after, stepRow, stepKnown, ope
 use Rattle.model.specs.WriteLaws.{length-written}
 use Rattle.model.specs.EarlyLaws.{past}
 use Rattle.model.specs.ShapeLaws.{SameRoute, SameShape, SameSizes, step-sizes}
-use Rattle.machine.specs.Run.{ran, shapeOf}
+use Rattle.sequence.specs.Run.{ran, shapeOf}
 
 -- ---- sizes pass on
 join-route : {a b c : Route} → SameRoute a b → SameRoute b c → SameRoute a c
