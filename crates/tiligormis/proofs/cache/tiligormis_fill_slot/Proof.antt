@@ -16,9 +16,9 @@ use ghost.Atoms.{Atoms, sem}
 use contract.Monad.{Fun, fact}
 use contract.Lifetimes.{Lfts}
 use contract.Running.{givenOf, tables, tablesOf}
-use types.Kit.{Given, ‵, raw, _⊛_, some, later, _$_, _∵_, !, qed, move, keep, drop, use0, use1, use2, split, join, pick, rewrite, fsplit, fjoin, feqL, suffices, frame, await, done}
+use types.Kit.{Given, ‵, raw, _⊛_, some, later, _$_, _∵_, !, qed, move, keep, drop, use0, use1, use2, split, join, pick, rewrite, fjoin, suffices, frame, await, done}
 use types.Part.{agg, whole, sub, look-in}
-use types.Run.{look, init, store, forget, stop, hop, fld, from, load, of-opd, addr, and-then, no-more, assigns, land, returns, enter, alloc1, alloc0, params1, pass1, pass0, free1, free0}
+use types.Run.{look, init, store, stop, hop, fld, from, load, of-opd, addr, and-then, no-more, assigns, land, returns, enter, params1}
 use types.Tokens.{lft-new, lft-end}
 use sound.WpLaws.{FmC, fmOf, WpFn-mono}
 use denote.RattleType.{RattleType, owns}
@@ -44,6 +44,7 @@ use Rattle.slots.specs.Calls.{change, fillWord}
 use Rattle.slots.specs.Slots.{AllFit, loaded, stored}
 use Rattle.slots.specs.declared.Slot.{Slot}
 use Rattle.slots.specs.declared.Changed.{Changed}
+use Rattle.tiligormis.proofs.AtOnce.{alloc-all, pass-all, free-all, fapart, fwhole, last-eq}
 use Rattle.tiligormis.proofs.SharedLoan.{SharedOut, lends-shared, shared-back}
 use Rattle.slots.proofs.Rows.{R, Row, field-words, field-row, row-makes, row-typed}
 use Rattle.slots.proofs.Changed as O
@@ -104,23 +105,15 @@ module _ {M : Type 1} (𝓤 : URA M) (H : Heap 𝓤) (A : Atoms 𝓤) (W : Given
       nothing ! $
       nothing ! $
       owned ! u64 (Is u64) (uint-makes 𝓤 H A W w64) generation _ g-generation $
-      fjoin ! $
       owned ! u64 (Is u64) (uint-makes 𝓤 H A W w64) access _ g-access $
-      fjoin ! $
       owned ! u64 (Is u64) (uint-makes 𝓤 H A W w64) page _ g-page $
-      fjoin ! $
       owned ! u64 (Is u64) (uint-makes 𝓤 H A W w64) guest _ g-guest $
-      fjoin ! $
       owned ! u64 (Is u64) (uint-makes 𝓤 H A W w64) vm _ g-vm $
-      fjoin ! $
       owned ! u64 (Is u64) (uint-makes 𝓤 H A W w64) port _ g-port $
-      fjoin ! $
       owned ! u64 (Is u64) (uint-makes 𝓤 H A W w64) place _ g-place $
-      fjoin ! $
       owned ! Row (Is Row) (row-makes 𝓤 H A W) c₁ _ i₁ $
-      fjoin ! $
       owned ! usize (Is usize) (uint-makes 𝓤 H A W w64) (length ys₀) _ (refl, g₀ .0) $
-      fjoin ! $
+      fwhole W ! _ (_ ∷ _ ∷ _ ∷ _ ∷ _ ∷ _ ∷ _ ∷ _ ∷ _ ∷ []) $
       move ! (1 ∷ 0 ∷ []) $
       join ! $ frame ! $ nothing ! $ done !
 
@@ -134,175 +127,65 @@ module _ {M : Type 1} (𝓤 : URA M) (H : Heap 𝓤) (A : Atoms 𝓤) (W : Given
       → ent 𝓤 (onEntry 𝓤 H A entry′.signature (κ₀, tt) (q₀, tt) (record { ptr = (b₀, o₀); name = γ₀; now = ys₀ }, (place, (port, (vm, (guest, (page, (access, (generation, tt)))))))) (sliceVal (b₀, o₀) (length ys₀) ∷ [], (vint w64 place ∷ [], (vint w64 port ∷ [], (vint w64 vm ∷ [], (vint w64 guest ∷ [], (vint w64 page ∷ [], (vint w64 access ∷ [], (vint w64 generation ∷ [], tt))))))))) (WpFn 𝓤 H (𝓣 .C) (𝓣 .Λ) code.function (sliceVal (b₀, o₀) (length ys₀) ∷ vint w64 place ∷ vint w64 port ∷ vint w64 vm ∷ vint w64 guest ∷ vint w64 page ∷ vint w64 access ∷ vint w64 generation ∷ []) Post)
   walk 𝓣 fm known-load known-store known-core =
       qed W ((‵ (flft κ₀ q₀) ⊛ ‵ ftrue) ∷ ‵ (owns (MutSlice (named 0) κ₀ R ∷ u64 ∷ u64 ∷ u64 ∷ u64 ∷ u64 ∷ u64 ∷ u64 ∷ []) (record { ptr = (b₀, o₀); name = γ₀; now = ys₀ }, (place, (port, (vm, (guest, (page, (access, (generation, tt)))))))) (sliceVal (b₀, o₀) (length ys₀) ∷ [], (vint w64 place ∷ [], (vint w64 port ∷ [], (vint w64 vm ∷ [], (vint w64 guest ∷ [], (vint w64 page ∷ [], (vint w64 access ∷ [], (vint w64 generation ∷ [], tt))))))))) ∷ []) ∵ enter ! (𝓣 .C) (𝓣 .Λ) code.function (sliceVal (b₀, o₀) (length ys₀) ∷ vint w64 place ∷ vint w64 port ∷ vint w64 vm ∷ vint w64 guest ∷ vint w64 page ∷ vint w64 access ∷ vint w64 generation ∷ []) _ $
-      alloc1 ! (λ l₀.
-      alloc1 ! (λ l₁.
-      alloc1 ! (λ l₂.
-      alloc1 ! (λ l₃.
-      alloc1 ! (λ l₄.
-      alloc1 ! (λ l₅.
-      alloc1 ! (λ l₆.
-      alloc1 ! (λ l₇.
-      alloc1 ! (λ l₈.
-      alloc1 ! (λ l₉.
-      alloc1 ! (λ l₁₀.
-      alloc1 ! (λ l₁₁.
-      alloc1 ! (λ l₁₂.
-      alloc1 ! (λ l₁₃.
-      alloc1 ! (λ l₁₄.
-      alloc1 ! (λ l₁₅.
-      alloc1 ! (λ l₁₆.
-      alloc0 ! $ params1 ! $
-      pass1 ! (init ! 30 refl (tt, (tt, (record { fits = g₀ .0 }, tt)))) $
-      pass1 ! (init ! 28 refl (uint-lawful 𝓤 H A W w64 .typed place _ g-place .0)) $
-      pass1 ! (init ! 26 refl (uint-lawful 𝓤 H A W w64 .typed port _ g-port .0)) $
-      pass1 ! (init ! 24 refl (uint-lawful 𝓤 H A W w64 .typed vm _ g-vm .0)) $
-      pass1 ! (init ! 22 refl (uint-lawful 𝓤 H A W w64 .typed guest _ g-guest .0)) $
-      pass1 ! (init ! 20 refl (uint-lawful 𝓤 H A W w64 .typed page _ g-page .0)) $
-      pass1 ! (init ! 18 refl (uint-lawful 𝓤 H A W w64 .typed access _ g-access .0)) $
-      pass1 ! (init ! 16 refl (uint-lawful 𝓤 H A W w64 .typed generation _ g-generation .0)) $
-      pass0 ! $
+      alloc-all ! (λ l₀ l₁ l₂ l₃ l₄ l₅ l₆ l₇ l₈ l₉ l₁₀ l₁₁ l₁₂ l₁₃ l₁₄ l₁₅ l₁₆.
+      params1 ! $
+      pass-all ! 30 ((refl, (tt, (tt, (record { fits = g₀ .0 }, tt)))), ((refl, (uint-lawful 𝓤 H A W w64 .typed place _ g-place .0)), ((refl, (uint-lawful 𝓤 H A W w64 .typed port _ g-port .0)), ((refl, (uint-lawful 𝓤 H A W w64 .typed vm _ g-vm .0)), ((refl, (uint-lawful 𝓤 H A W w64 .typed guest _ g-guest .0)), ((refl, (uint-lawful 𝓤 H A W w64 .typed page _ g-page .0)), ((refl, (uint-lawful 𝓤 H A W w64 .typed access _ g-access .0)), ((refl, (uint-lawful 𝓤 H A W w64 .typed generation _ g-generation .0)), tt)))))))) $
       move ! (34 ∷ []) $
       split ! $
       move ! (1 ∷ []) $
       drop ! $
       move ! (35 ∷ []) $
-      fsplit ! $
-      move ! (1 ∷ []) $
-      fsplit ! $
-      move ! (1 ∷ []) $
-      fsplit ! $
-      move ! (1 ∷ []) $
-      fsplit ! $
-      move ! (1 ∷ []) $
-      fsplit ! $
-      move ! (1 ∷ []) $
-      fsplit ! $
-      move ! (1 ∷ []) $
-      fsplit ! $
-      move ! (1 ∷ []) $
-      fsplit ! $
-      move ! (1 ∷ []) $
-      keep ! (8 ∷ 9 ∷ 10 ∷ 11 ∷ 12 ∷ 13 ∷ 14 ∷ 15 ∷ 16 ∷ 17 ∷ 18 ∷ 19 ∷ 20 ∷ 21 ∷ 22 ∷ 23 ∷ 24 ∷ 25 ∷ 26 ∷ 27 ∷ 28 ∷ 29 ∷ 30 ∷ 31 ∷ 32 ∷ 33 ∷ 34 ∷ 35 ∷ 36 ∷ 37 ∷ 38 ∷ 39 ∷ 40 ∷ 41 ∷ 42 ∷ 43 ∷ []) $
-      assigns ! (of-opd ! (load ! (from ! (fld ! refl (stop !))) (look-in ! 32 (sub ! 1 refl (whole !))))) (from ! (stop !)) (init ! 16 refl (tt, record { fits = g₀ .0 })) $
-      assigns ! (addr ! (from ! (fld ! refl (hop ! (look-in ! 32 (sub ! 0 refl (whole !))) (stop !))))) (from ! (stop !)) (init ! 10 refl (tt, tt)) $
-      assigns ! (agg ! (and-then ! (load ! (from ! (stop !)) (look ! 10 refl)) (and-then ! (load ! (from ! (fld ! refl (stop !))) (look-in ! 32 (sub ! 1 refl (whole !)))) (no-more !)))) (from ! (stop !)) (init ! 8 refl (tt, (tt, (record { fits = g₀ .0 }, tt)))) $
+      fapart W ! _ (_ ∷ _ ∷ _ ∷ _ ∷ _ ∷ _ ∷ _ ∷ _ ∷ []) $
+      keep ! (8 ∷ 9 ∷ 10 ∷ 12 ∷ 14 ∷ 16 ∷ 18 ∷ 20 ∷ 22 ∷ 24 ∷ 26 ∷ 28 ∷ 30 ∷ 32 ∷ 34 ∷ 36 ∷ 38 ∷ 40 ∷ 42 ∷ 11 ∷ 13 ∷ 15 ∷ 17 ∷ 19 ∷ 21 ∷ 23 ∷ 25 ∷ 27 ∷ 29 ∷ 31 ∷ 33 ∷ 35 ∷ 37 ∷ 39 ∷ 41 ∷ 43 ∷ []) $
+      assigns ! (of-opd ! (load ! (from ! (fld ! refl (stop !))) (look-in ! 17 (sub ! 1 refl (whole !))))) (from ! (stop !)) (init ! 9 refl (tt, record { fits = g₀ .0 })) $
+      assigns ! (addr ! (from ! (fld ! refl (hop ! (look-in ! 17 (sub ! 0 refl (whole !))) (stop !))))) (from ! (stop !)) (init ! 6 refl (tt, tt)) $
+      assigns ! (agg ! (and-then ! (load ! (from ! (stop !)) (look ! 6 refl)) (and-then ! (load ! (from ! (fld ! refl (stop !))) (look-in ! 17 (sub ! 1 refl (whole !)))) (no-more !)))) (from ! (stop !)) (init ! 5 refl (tt, (tt, (record { fits = g₀ .0 }, tt)))) $
       lft-new ! tt (λ ν₁.
       move ! (1 ∷ 2 ∷ []) $
       use2 W (later (some (λ (δ : GName). ‵ (ShrSlice (named 0) (ν₁ ∷ []) R .own (record { ptr = (b₀, o₀); name = δ; now = ys₀ }) (sliceVal (b₀, o₀) (length ys₀) ∷ [])) ⊛ ‵ (SharedOut R κ₀ (ν₁ ∷ []) q₀ γ₀ b₀ o₀ ys₀)))) (lends-shared R κ₀ (ν₁ ∷ []) q₀ γ₀ b₀ o₀ ys₀ 𝓤 H A W (named 0) (named 0)) $ await ! tt $ pick ! (λ δ₁. split ! $
       move ! (2 ∷ 0 ∷ []) $
       use2 W (raw (Load 𝓤 H A mem run .pre (to-load-1 ν₁ δ₁))) (goes-1 ν₁ δ₁) $
-      calls-at ! fm (Load 𝓤 H A mem run) known-load (to-load-1 ν₁ δ₁) (and-then ! (load ! (from ! (stop !)) (look ! 8 refl)) (no-more !)) (λ v₁.
+      calls-at ! fm (Load 𝓤 H A mem run) known-load (to-load-1 ν₁ δ₁) (and-then ! (load ! (from ! (stop !)) (look ! 5 refl)) (no-more !)) (λ v₁.
       use1 W (later (some (λ (r : List ℕ). ((‵ (flft (ν₁ ∷ []) fullShare) ⊛ ‵ ftrue) ⊛ ‵ (Row .own r (v₁ ∷ []))) ⊛ raw (ensured 𝓤 H A load′.ended (load′.clauses 𝓤 H A mem run) (ν₁ ∷ [], tt) (record { ptr = (b₀, o₀); name = δ₁; now = ys₀ }, tt) tt r)))) (id⊢ 𝓤 _) $ await ! tt $ pick ! (λ c₁.
       split ! $ move ! (1 ∷ []) $ use1 W (raw (fact 𝓤 ((c₁ ≡ loaded ys₀) × AllFit ys₀))) (load-of 𝓤 H A mem run (ν₁ ∷ [], tt) (record { ptr = (b₀, o₀); name = δ₁; now = ys₀ }) c₁) $ heard ! ((c₁ ≡ loaded ys₀) × AllFit ys₀) (λ e₁. split ! $
       move ! (1 ∷ []) $
       facts ! Row (Is Row) (shows 𝓤 H A Row) c₁ (v₁ ∷ []) (λ i₁. split ! $
-      land ! (from ! (stop !)) (init ! 15 refl (row-typed 𝓤 H A W c₁ v₁ i₁)) $ lft-end ! tt $
+      land ! (from ! (stop !)) (init ! 9 refl (row-typed 𝓤 H A W c₁ v₁ i₁)) $ lft-end ! tt $
       move ! (0 ∷ 2 ∷ []) $
       use2 W (later (‵ (MutSlice (named 0) κ₀ R .own (record { ptr = (b₀, o₀); name = γ₀; now = ys₀ }) (sliceVal (b₀, o₀) (length ys₀) ∷ [])) ⊛ ‵ (flft κ₀ q₀))) (shared-back R κ₀ (ν₁ ∷ []) q₀ γ₀ b₀ o₀ ys₀ 𝓤 H A W (named 0) (named 0) g₀) $ await ! tt $ split ! $
       move ! (2 ∷ []) $
       drop ! $
       use0 W (raw (Core 𝓤 H A mem run .pre (to-core c₁ v₁ i₁))) (goes-core c₁ v₁ i₁) $
-      calls-at ! fm (Core 𝓤 H A mem run) known-core (to-core c₁ v₁ i₁) (and-then ! (load ! (from ! (stop !)) (look ! 17 refl)) (and-then ! (load ! (from ! (stop !)) (look ! 15 refl)) (and-then ! (load ! (from ! (stop !)) (look ! 31 refl)) (and-then ! (load ! (from ! (stop !)) (look ! 29 refl)) (and-then ! (load ! (from ! (stop !)) (look ! 27 refl)) (and-then ! (load ! (from ! (stop !)) (look ! 25 refl)) (and-then ! (load ! (from ! (stop !)) (look ! 23 refl)) (and-then ! (load ! (from ! (stop !)) (look ! 21 refl)) (and-then ! (load ! (from ! (stop !)) (look ! 19 refl)) (no-more !)))))))))) (λ vo.
+      calls-at ! fm (Core 𝓤 H A mem run) known-core (to-core c₁ v₁ i₁) (and-then ! (load ! (from ! (stop !)) (look ! 10 refl)) (and-then ! (load ! (from ! (stop !)) (look ! 9 refl)) (and-then ! (load ! (from ! (stop !)) (look ! 17 refl)) (and-then ! (load ! (from ! (stop !)) (look ! 16 refl)) (and-then ! (load ! (from ! (stop !)) (look ! 15 refl)) (and-then ! (load ! (from ! (stop !)) (look ! 14 refl)) (and-then ! (load ! (from ! (stop !)) (look ! 13 refl)) (and-then ! (load ! (from ! (stop !)) (look ! 12 refl)) (and-then ! (load ! (from ! (stop !)) (look ! 11 refl)) (no-more !)))))))))) (λ vo.
       use1 W (later (some (λ (out : Changed). (‵ ftrue ⊛ ‵ (Or .own out (vo ∷ []))) ⊛ raw (ensured 𝓤 H A core′.ended (core′.clauses 𝓤 H A mem run) tt (length ys₀, (c₁, (place, (port, (vm, (guest, (page, (access, (generation, tt))))))))) tt out)))) (id⊢ 𝓤 _) $ await ! tt $ pick ! (λ out.
       split ! $ move ! (1 ∷ []) $ use1 W (some (λ (zc : Lasts core′.ended tt (length ys₀, (c₁, (place, (port, (vm, (guest, (page, (access, (generation, tt)))))))))). ‵ (lasts core′.ended tt (length ys₀, (c₁, (place, (port, (vm, (guest, (page, (access, (generation, tt))))))))) zc) ⊛ raw (fact 𝓤 (change (out .number) (out .words) ≡ fillWord (length ys₀) c₁ place port vm guest page access generation)))) (id⊢ 𝓤 _) $ pick ! (λ zc. split ! $ move ! (1 ∷ []) $ heard ! (change (out .number) (out .words) ≡ fillWord (length ys₀) c₁ place port vm guest page access generation) (λ ec.
-      fsplit ! $
-      drop ! $
-      fsplit ! $
-      drop ! $
-      fsplit ! $
-      drop ! $
-      fsplit ! $
-      drop ! $
-      fsplit ! $
-      drop ! $
-      fsplit ! $
-      drop ! $
-      fsplit ! $
-      drop ! $
-      fsplit ! $
-      drop ! $
-      fsplit ! $
-      drop ! $
       drop ! $
       split ! $
       move ! (1 ∷ []) $
       facts ! Or (Is Or) (shows 𝓤 H A Or) out (vo ∷ []) (λ io.
-      land ! (from ! (stop !)) (init ! 13 refl (LL.lawful O.the-type O′.the-laws 𝓤 H A W .typed out _ io .0)) $
-      rewrite ! 13 (λ (us : List Val). ‵ (fat fullShare O′.mir l₁₁ 0 (only us))) (LL.tells O.the-type O′.the-laws out (vo ∷ []) io) refl $
+      land ! (from ! (stop !)) (init ! 8 refl (LL.lawful O.the-type O′.the-laws 𝓤 H A W .typed out _ io .0)) $
+      rewrite ! 8 (λ (us : List Val). ‵ (fat fullShare O′.mir l₁₁ 0 (only us))) (LL.tells O.the-type O′.the-laws out (vo ∷ []) io) refl $
       drop ! $
-      assigns ! (addr ! (from ! (fld ! refl (hop ! (look-in ! 32 (sub ! 0 refl (whole !))) (stop !))))) (from ! (stop !)) (init ! 4 refl (tt, tt)) $
-      assigns ! (agg ! (and-then ! (load ! (from ! (stop !)) (look ! 4 refl)) (and-then ! (load ! (from ! (fld ! refl (stop !))) (look-in ! 32 (sub ! 1 refl (whole !)))) (no-more !)))) (from ! (stop !)) (init ! 2 refl (tt, (tt, (record { fits = g₀ .0 }, tt)))) $
+      assigns ! (addr ! (from ! (fld ! refl (hop ! (look-in ! 17 (sub ! 0 refl (whole !))) (stop !))))) (from ! (stop !)) (init ! 3 refl (tt, tt)) $
+      assigns ! (agg ! (and-then ! (load ! (from ! (stop !)) (look ! 3 refl)) (and-then ! (load ! (from ! (fld ! refl (stop !))) (look-in ! 17 (sub ! 1 refl (whole !)))) (no-more !)))) (from ! (stop !)) (init ! 2 refl (tt, (tt, (record { fits = g₀ .0 }, tt)))) $
       move ! (1 ∷ 0 ∷ []) $
       use2 W (raw (Store 𝓤 H A mem run .pre (to-store-3 out))) (goes-3 out (field-row (out .words) (array-vals (uint-vals w64) (field-words (out .words))) (LL.owed O.the-type O′.the-laws out (vo ∷ []) io .0))) $
-      calls-at ! fm (Store 𝓤 H A mem run) known-store (to-store-3 out) (and-then ! (load ! (from ! (stop !)) (look ! 1 refl)) (and-then ! (load ! (from ! (fld ! refl (stop !))) (look-in ! 11 (sub ! 0 refl (whole !)))) (no-more !))) (λ v₃.
+      calls-at ! fm (Store 𝓤 H A mem run) known-store (to-store-3 out) (and-then ! (load ! (from ! (stop !)) (look ! 1 refl)) (and-then ! (load ! (from ! (fld ! refl (stop !))) (look-in ! 6 (sub ! 0 refl (whole !)))) (no-more !))) (λ v₃.
       use1 W (later (some (λ (r : Unit {0}). ((‵ (flft κ₀ q₀) ⊛ ‵ ftrue) ⊛ ‵ (Nothing .own r (v₃ ∷ []))) ⊛ raw (ensured 𝓤 H A store′.ended (store′.clauses 𝓤 H A mem run) (κ₀, tt) (record { ptr = (b₀, o₀); name = γ₀; now = ys₀ }, (out .words, tt)) tt r)))) (id⊢ 𝓤 _) $ await ! tt $ pick ! (λ r₃.
       split ! $ move ! (1 ∷ []) $ use1 W (some (λ (z₃ : Lasts store′.ended (κ₀, tt) (record { ptr = (b₀, o₀); name = γ₀; now = ys₀ }, (out .words, tt))). ‵ (lasts store′.ended (κ₀, tt) (record { ptr = (b₀, o₀); name = γ₀; now = ys₀ }, (out .words, tt)) z₃) ⊛ raw (fact 𝓤 (z₃ .0 ≡ stored (out .words) ys₀)))) (id⊢ 𝓤 _) $ pick ! (λ z₃. split ! $ move ! (1 ∷ []) $ heard ! (z₃ .0 ≡ stored (out .words) ys₀) (λ e₃.
-      fsplit ! $ fsplit ! $
-      move ! (1 ∷ []) $
-      feqL ! (λ h₀.
-      move ! (1 ∷ []) $
+      last-eq ! (λ h₀.
       drop ! $
       move ! (1 ∷ []) $
       split ! $
       move ! (1 ∷ []) $
       facts ! Nothing (Is Nothing) (shows 𝓤 H A Nothing) r₃ (v₃ ∷ []) (λ i₃. split ! $
-      land ! (from ! (stop !)) (init ! 7 refl (nothing-lawful 𝓤 H A W .typed r₃ _ i₃ .0)) $
+      land ! (from ! (stop !)) (init ! 5 refl (nothing-lawful 𝓤 H A W .typed r₃ _ i₃ .0)) $
       move ! (1 ∷ []) $
       drop ! $
-      assigns ! (of-opd ! (load ! (from ! (fld ! refl (stop !))) (look-in ! 12 (sub ! 1 refl (whole !))))) (from ! (stop !)) (init ! 34 refl (uint-lawful 𝓤 H A W w64 .typed (out .number) _ (LL.owed O.the-type O′.the-laws out (vo ∷ []) io .1 .0) .0)) $
-      returns ! (look ! 34 refl) $
-      forget ! 34 refl $
-      forget ! 32 refl $
-      forget ! 30 refl $
-      forget ! 28 refl $
-      forget ! 26 refl $
-      forget ! 24 refl $
-      forget ! 22 refl $
-      forget ! 20 refl $
-      forget ! 18 refl $
-      forget ! 16 refl $
-      forget ! 14 refl $
-      forget ! 12 refl $
-      forget ! 10 refl $
-      forget ! 8 refl $
-      forget ! 6 refl $
-      forget ! 4 refl $
-      forget ! 2 refl $
-      move ! (34 ∷ 35 ∷ []) $
-      free1 ! $
-      move ! (32 ∷ 33 ∷ []) $
-      free1 ! $
-      move ! (30 ∷ 31 ∷ []) $
-      free1 ! $
-      move ! (28 ∷ 29 ∷ []) $
-      free1 ! $
-      move ! (26 ∷ 27 ∷ []) $
-      free1 ! $
-      move ! (24 ∷ 25 ∷ []) $
-      free1 ! $
-      move ! (22 ∷ 23 ∷ []) $
-      free1 ! $
-      move ! (20 ∷ 21 ∷ []) $
-      free1 ! $
-      move ! (18 ∷ 19 ∷ []) $
-      free1 ! $
-      move ! (16 ∷ 17 ∷ []) $
-      free1 ! $
-      move ! (14 ∷ 15 ∷ []) $
-      free1 ! $
-      move ! (12 ∷ 13 ∷ []) $
-      free1 ! $
-      move ! (10 ∷ 11 ∷ []) $
-      free1 ! $
-      move ! (8 ∷ 9 ∷ []) $
-      free1 ! $
-      move ! (6 ∷ 7 ∷ []) $
-      free1 ! $
-      move ! (4 ∷ 5 ∷ []) $
-      free1 ! $
-      move ! (2 ∷ 3 ∷ []) $
-      free1 ! $
-      free0 ! $
+      assigns ! (of-opd ! (load ! (from ! (fld ! refl (stop !))) (look-in ! 7 (sub ! 1 refl (whole !))))) (from ! (stop !)) (init ! 18 refl (uint-lawful 𝓤 H A W w64 .typed (out .number) _ (LL.owed O.the-type O′.the-laws out (vo ∷ []) io .1 .0) .0)) $
+      returns ! (look ! 18 refl) $
+      move ! (18 ∷ 35 ∷ 17 ∷ 34 ∷ 16 ∷ 33 ∷ 15 ∷ 32 ∷ 14 ∷ 31 ∷ 13 ∷ 30 ∷ 12 ∷ 29 ∷ 11 ∷ 28 ∷ 10 ∷ 27 ∷ 9 ∷ 26 ∷ 8 ∷ 25 ∷ 7 ∷ 24 ∷ 6 ∷ 23 ∷ 5 ∷ 22 ∷ 4 ∷ 21 ∷ 3 ∷ 20 ∷ 2 ∷ 19 ∷ []) $
+      free-all W ! ((_, _, _) ∷ (_, _, _) ∷ (_, _, _) ∷ (_, _, _) ∷ (_, _, _) ∷ (_, _, _) ∷ (_, _, _) ∷ (_, _, _) ∷ (_, _, _) ∷ (_, _, _) ∷ (_, _, _) ∷ (_, _, _) ∷ (_, _, _) ∷ (_, _, _) ∷ (_, _, _) ∷ (_, _, _) ∷ (_, _, _) ∷ []) $
       suffices ! _ (ends-at 𝓤 H A entry′.ended stayed (entry′.clauses 𝓤 H A mem run) W (((κ₀, tt), (q₀, tt), tt, (record { ptr = (b₀, o₀); name = γ₀; now = ys₀ }, (place, (port, (vm, (guest, (page, (access, (generation, tt)))))))), (sliceVal (b₀, o₀) (length ys₀) ∷ [], (vint w64 place ∷ [], (vint w64 port ∷ [], (vint w64 vm ∷ [], (vint w64 guest ∷ [], (vint w64 page ∷ [], (vint w64 access ∷ [], (vint w64 generation ∷ [], tt))))))))), tt) (vint w64 (out .number)) (out .number) (z₃ .0, (tt, (tt, (tt, (tt, (tt, (tt, (tt, tt)))))))) (h₀, (tt, (tt, (tt, (tt, (tt, (tt, (tt, tt))))))))) $ says ! (fill-slots ys₀ c₁ e₁ (out .number) (out .words) (z₃ .0) e₃ place port vm guest page access generation ec) $
       nothing ! $
       move ! (1 ∷ 0 ∷ []) $
@@ -310,22 +193,15 @@ module _ {M : Type 1} (𝓤 : URA M) (H : Heap 𝓤) (A : Atoms 𝓤) (W : Given
       frame ! $
       nothing ! $
       nothing ! $
-      fjoin ! $
       nothing ! $
-      fjoin ! $
       nothing ! $
-      fjoin ! $
       nothing ! $
-      fjoin ! $
       nothing ! $
-      fjoin ! $
       nothing ! $
-      fjoin ! $
       nothing ! $
-      fjoin ! $
-      move ! (1 ∷ 0 ∷ []) $
-      fjoin ! $
-      frame ! $ owned ! u64 (Is u64) (uint-makes 𝓤 H A W w64) (out .number) _ (LL.owed O.the-type O′.the-laws out (vo ∷ []) io .1 .0) $ done !))))))))))))))))))))))))))))))))))
+      move ! (8 ∷ 0 ∷ 1 ∷ 2 ∷ 3 ∷ 4 ∷ 5 ∷ 6 ∷ 7 ∷ []) $
+      fwhole W ! _ (_ ∷ _ ∷ _ ∷ _ ∷ _ ∷ _ ∷ _ ∷ _ ∷ []) $
+      frame ! $ owned ! u64 (Is u64) (uint-makes 𝓤 H A W w64) (out .number) _ (LL.owed O.the-type O′.the-laws out (vo ∷ []) io .1 .0) $ done !))))))))))))))))))
 
 module _ {M : Type 1} (𝓤 : URA M) (H : Heap 𝓤) (A : Atoms 𝓤) (W : Given 𝓤 H A) (mem : Memory → SProp 𝓤) (run : Routine → Fun 𝓤) (𝓣 : Tables 𝓤 H) (known-load : Triple 𝓤 (𝓣 .C #load) (Load 𝓤 H A mem run)) (known-store : Triple 𝓤 (𝓣 .C #store) (Store 𝓤 H A mem run)) (known-core : Triple 𝓤 (𝓣 .C #core) (Core 𝓤 H A mem run)) where
   entry-walks : Walks 𝓤 H A entry′.ended stayed (WpFn 𝓤 H (𝓣 .C) (𝓣 .Λ) code.function) (entry′.clauses 𝓤 H A mem run)

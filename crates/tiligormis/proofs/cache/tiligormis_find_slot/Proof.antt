@@ -15,8 +15,8 @@ use ghost.Atoms.{Atoms, sem}
 use contract.Monad.{Fun, fact}
 use contract.Lifetimes.{Lfts}
 use contract.Running.{givenOf, tables, tablesOf}
-use types.Kit.{Given, ‵, raw, _⊛_, some, later, _$_, _∵_, !, qed, move, keep, drop, use0, use1, use2, split, join, pick, fsplit, fjoin, suffices, frame, await, done}
-use types.Run.{look, init, forget, stop, from, load, and-then, no-more, land, returns, enter, alloc1, alloc0, params1, pass1, pass0, free1, free0}
+use types.Kit.{Given, ‵, raw, _⊛_, some, later, _$_, _∵_, !, qed, move, keep, drop, use0, use1, use2, split, join, pick, fjoin, suffices, frame, await, done}
+use types.Run.{look, init, stop, from, load, and-then, no-more, land, returns, enter, params1}
 use sound.WpLaws.{FmC, fmOf, WpFn-mono}
 use denote.RattleType.{RattleType, owns}
 use denote.Laws.{Is, shows}
@@ -47,6 +47,7 @@ use Rattle.slots.proofs.find as core′
 use Rattle.slots.proofs.find.Symbol as core-def
 use Rattle.slots.proofs.find.Symbol.{name as #core}
 use Rattle.slots.proofs.find.Met as core-thm
+use Rattle.tiligormis.proofs.AtOnce.{alloc-all, pass-all, free-all, fapart, fwhole}
 use Rattle.tiligormis.proofs.cache.tiligormis_find_slot.Key.{name as #entry}
 use Rattle.tiligormis.proofs.cache.tiligormis_find_slot as entry′
 use Rattle.tiligormis.proofs.cache.tiligormis_find_slot.Statement as stated
@@ -88,13 +89,10 @@ module _ {M : Type 1} (𝓤 : URA M) (H : Heap 𝓤) (A : Atoms 𝓤) (W : Given
       nothing ! $
       nothing ! $
       owned ! u64 (Is u64) (uint-makes 𝓤 H A W w64) guest _ g-guest $
-      fjoin ! $
       owned ! u64 (Is u64) (uint-makes 𝓤 H A W w64) vm _ g-vm $
-      fjoin ! $
       owned ! u64 (Is u64) (uint-makes 𝓤 H A W w64) port _ g-port $
-      fjoin ! $
       owned ! Row (Is Row) (row-makes 𝓤 H A W) c₁ _ i₁ $
-      fjoin ! $
+      fwhole W ! _ (_ ∷ _ ∷ _ ∷ _ ∷ []) $
       move ! (1 ∷ 0 ∷ []) $
       join ! $ frame ! $ nothing ! $ done !
 
@@ -102,35 +100,19 @@ module _ {M : Type 1} (𝓤 : URA M) (H : Heap 𝓤) (A : Atoms 𝓤) (W : Given
       → ent 𝓤 (onEntry 𝓤 H A entry′.signature (κ₀, tt) (q₀, tt) (record { ptr = (b₀, o₀); name = γ₀; now = ys₀ }, (port, (vm, (guest, tt)))) (sliceVal (b₀, o₀) (length ys₀) ∷ [], (vint w64 port ∷ [], (vint w64 vm ∷ [], (vint w64 guest ∷ [], tt))))) (WpFn 𝓤 H (𝓣 .C) (𝓣 .Λ) code.function (sliceVal (b₀, o₀) (length ys₀) ∷ vint w64 port ∷ vint w64 vm ∷ vint w64 guest ∷ []) Post)
   walk 𝓣 fm known-load known-core =
       qed W ((‵ (flft κ₀ q₀) ⊛ ‵ ftrue) ∷ ‵ (owns (ShrSlice (named 0) κ₀ R ∷ u64 ∷ u64 ∷ u64 ∷ []) (record { ptr = (b₀, o₀); name = γ₀; now = ys₀ }, (port, (vm, (guest, tt)))) (sliceVal (b₀, o₀) (length ys₀) ∷ [], (vint w64 port ∷ [], (vint w64 vm ∷ [], (vint w64 guest ∷ [], tt))))) ∷ []) ∵ enter ! (𝓣 .C) (𝓣 .Λ) code.function (sliceVal (b₀, o₀) (length ys₀) ∷ vint w64 port ∷ vint w64 vm ∷ vint w64 guest ∷ []) _ $
-      alloc1 ! (λ l₀.
-      alloc1 ! (λ l₁.
-      alloc1 ! (λ l₂.
-      alloc1 ! (λ l₃.
-      alloc1 ! (λ l₄.
-      alloc1 ! (λ l₅.
-      alloc0 ! $ params1 ! $
-      pass1 ! (init ! 8 refl (tt, (tt, (record { fits = g₀ .0 }, tt)))) $
-      pass1 ! (init ! 6 refl (uint-lawful 𝓤 H A W w64 .typed port _ g-port .0)) $
-      pass1 ! (init ! 4 refl (uint-lawful 𝓤 H A W w64 .typed vm _ g-vm .0)) $
-      pass1 ! (init ! 2 refl (uint-lawful 𝓤 H A W w64 .typed guest _ g-guest .0)) $
-      pass0 ! $
+      alloc-all ! (λ l₀ l₁ l₂ l₃ l₄ l₅.
+      params1 ! $
+      pass-all ! 8 ((refl, (tt, (tt, (record { fits = g₀ .0 }, tt)))), ((refl, (uint-lawful 𝓤 H A W w64 .typed port _ g-port .0)), ((refl, (uint-lawful 𝓤 H A W w64 .typed vm _ g-vm .0)), ((refl, (uint-lawful 𝓤 H A W w64 .typed guest _ g-guest .0)), tt)))) $
       move ! (12 ∷ []) $
       split ! $
       move ! (1 ∷ []) $
       drop ! $
       move ! (13 ∷ []) $
-      fsplit ! $
-      move ! (1 ∷ []) $
-      fsplit ! $
-      move ! (1 ∷ []) $
-      fsplit ! $
-      move ! (1 ∷ []) $
-      fsplit ! $
-      move ! (1 ∷ []) $
-      keep ! (4 ∷ 5 ∷ 6 ∷ 7 ∷ 8 ∷ 9 ∷ 10 ∷ 11 ∷ 12 ∷ 13 ∷ 14 ∷ 15 ∷ 16 ∷ 17 ∷ []) $
+      fapart W ! _ (_ ∷ _ ∷ _ ∷ _ ∷ []) $
+      keep ! (4 ∷ 5 ∷ 6 ∷ 8 ∷ 10 ∷ 12 ∷ 14 ∷ 16 ∷ 7 ∷ 9 ∷ 11 ∷ 13 ∷ 15 ∷ 17 ∷ []) $
       move ! (1 ∷ 0 ∷ []) $
       use2 W (raw (Load 𝓤 H A mem run .pre to-load-1)) goes-1 $
-      calls-at ! fm (Load 𝓤 H A mem run) known-load to-load-1 (and-then ! (load ! (from ! (stop !)) (look ! 9 refl)) (no-more !)) (λ v₁.
+      calls-at ! fm (Load 𝓤 H A mem run) known-load to-load-1 (and-then ! (load ! (from ! (stop !)) (look ! 5 refl)) (no-more !)) (λ v₁.
       use1 W (later (some (λ (r : List ℕ). ((‵ (flft κ₀ q₀) ⊛ ‵ ftrue) ⊛ ‵ (Row .own r (v₁ ∷ []))) ⊛ raw (ensured 𝓤 H A load′.ended (load′.clauses 𝓤 H A mem run) (κ₀, tt) (record { ptr = (b₀, o₀); name = γ₀; now = ys₀ }, tt) tt r)))) (id⊢ 𝓤 _) $ await ! tt $ pick ! (λ c₁.
       split ! $ move ! (1 ∷ []) $ use1 W (raw (fact 𝓤 ((c₁ ≡ loaded ys₀) × AllFit ys₀))) (load-of 𝓤 H A mem run (κ₀, tt) (record { ptr = (b₀, o₀); name = γ₀; now = ys₀ }) c₁) $ heard ! ((c₁ ≡ loaded ys₀) × AllFit ys₀) (λ e₁. split ! $
       move ! (1 ∷ []) $
@@ -139,43 +121,18 @@ module _ {M : Type 1} (𝓤 : URA M) (H : Heap 𝓤) (A : Atoms 𝓤) (W : Given
       move ! (1 ∷ []) $
       drop ! $
       use0 W (raw (Core 𝓤 H A mem run .pre (to-core c₁ v₁ i₁))) (goes-core c₁ v₁ i₁) $
-      calls-at ! fm (Core 𝓤 H A mem run) known-core (to-core c₁ v₁ i₁) (and-then ! (load ! (from ! (stop !)) (look ! 2 refl)) (and-then ! (load ! (from ! (stop !)) (look ! 8 refl)) (and-then ! (load ! (from ! (stop !)) (look ! 6 refl)) (and-then ! (load ! (from ! (stop !)) (look ! 4 refl)) (no-more !))))) (λ vo.
+      calls-at ! fm (Core 𝓤 H A mem run) known-core (to-core c₁ v₁ i₁) (and-then ! (load ! (from ! (stop !)) (look ! 2 refl)) (and-then ! (load ! (from ! (stop !)) (look ! 5 refl)) (and-then ! (load ! (from ! (stop !)) (look ! 4 refl)) (and-then ! (load ! (from ! (stop !)) (look ! 3 refl)) (no-more !))))) (λ vo.
       use1 W (later (some (λ (out : ℕ). (‵ ftrue ⊛ ‵ (Or .own out (vo ∷ []))) ⊛ raw (ensured 𝓤 H A core′.ended (core′.clauses 𝓤 H A mem run) tt (c₁, (port, (vm, (guest, tt)))) tt out)))) (id⊢ 𝓤 _) $ await ! tt $ pick ! (λ out.
       split ! $ move ! (1 ∷ []) $ use1 W (some (λ (zc : Lasts core′.ended tt (c₁, (port, (vm, (guest, tt))))). ‵ (lasts core′.ended tt (c₁, (port, (vm, (guest, tt)))) zc) ⊛ raw (fact 𝓤 (out ≡ findSlot (map slotOf c₁) port vm guest)))) (id⊢ 𝓤 _) $ pick ! (λ zc. split ! $ move ! (1 ∷ []) $ heard ! (out ≡ findSlot (map slotOf c₁) port vm guest) (λ ec.
-      fsplit ! $
-      drop ! $
-      fsplit ! $
-      drop ! $
-      fsplit ! $
-      drop ! $
-      fsplit ! $
-      drop ! $
       drop ! $
       split ! $
       move ! (1 ∷ []) $
       facts ! Or (Is Or) (shows 𝓤 H A Or) out (vo ∷ []) (λ io.
-      land ! (from ! (stop !)) (init ! 12 refl (uint-lawful 𝓤 H A W w64 .typed out _ io .0)) $
+      land ! (from ! (stop !)) (init ! 7 refl (uint-lawful 𝓤 H A W w64 .typed out _ io .0)) $
       drop ! $
-      returns ! (look ! 11 refl) $
-      forget ! 11 refl $
-      forget ! 9 refl $
-      forget ! 7 refl $
-      forget ! 5 refl $
-      forget ! 3 refl $
-      forget ! 1 refl $
-      move ! (11 ∷ 12 ∷ []) $
-      free1 ! $
-      move ! (9 ∷ 10 ∷ []) $
-      free1 ! $
-      move ! (7 ∷ 8 ∷ []) $
-      free1 ! $
-      move ! (5 ∷ 6 ∷ []) $
-      free1 ! $
-      move ! (3 ∷ 4 ∷ []) $
-      free1 ! $
-      move ! (1 ∷ 2 ∷ []) $
-      free1 ! $
-      free0 ! $
+      returns ! (look ! 6 refl) $
+      move ! (6 ∷ 12 ∷ 5 ∷ 11 ∷ 4 ∷ 10 ∷ 3 ∷ 9 ∷ 2 ∷ 8 ∷ 1 ∷ 7 ∷ []) $
+      free-all W ! ((_, _, _) ∷ (_, _, _) ∷ (_, _, _) ∷ (_, _, _) ∷ (_, _, _) ∷ (_, _, _) ∷ []) $
       suffices ! _ (ends-at 𝓤 H A entry′.ended stayed (entry′.clauses 𝓤 H A mem run) W (((κ₀, tt), (q₀, tt), tt, (record { ptr = (b₀, o₀); name = γ₀; now = ys₀ }, (port, (vm, (guest, tt)))), (sliceVal (b₀, o₀) (length ys₀) ∷ [], (vint w64 port ∷ [], (vint w64 vm ∷ [], (vint w64 guest ∷ [], tt))))), tt) (vo) (out) (tt, (tt, (tt, (tt, tt)))) (tt, (tt, (tt, (tt, tt))))) $ says ! (ec ∙ find-loaded ys₀ (e₁ .1) c₁ (e₁ .0) port vm guest) $
       nothing ! $
       move ! (1 ∷ 0 ∷ []) $
@@ -183,14 +140,11 @@ module _ {M : Type 1} (𝓤 : URA M) (H : Heap 𝓤) (A : Atoms 𝓤) (W : Given
       frame ! $
       nothing ! $
       nothing ! $
-      fjoin ! $
       nothing ! $
-      fjoin ! $
       nothing ! $
-      fjoin ! $
       nothing ! $
-      fjoin ! $
-      frame ! $ owned ! Or (Is Or) (uint-makes 𝓤 H A W w64) out _ io $ done !)))))))))))))))
+      fwhole W ! _ (_ ∷ _ ∷ _ ∷ _ ∷ []) $
+      frame ! $ owned ! Or (Is Or) (uint-makes 𝓤 H A W w64) out _ io $ done !))))))))))
 
 module _ {M : Type 1} (𝓤 : URA M) (H : Heap 𝓤) (A : Atoms 𝓤) (W : Given 𝓤 H A) (mem : Memory → SProp 𝓤) (run : Routine → Fun 𝓤) (𝓣 : Tables 𝓤 H) (known-load : Triple 𝓤 (𝓣 .C #load) (Load 𝓤 H A mem run)) (known-core : Triple 𝓤 (𝓣 .C #core) (Core 𝓤 H A mem run)) where
   entry-walks : Walks 𝓤 H A entry′.ended stayed (WpFn 𝓤 H (𝓣 .C) (𝓣 .Λ) code.function) (entry′.clauses 𝓤 H A mem run)
