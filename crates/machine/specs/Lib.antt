@@ -1,5 +1,3 @@
--- The sequence over a header and its lists, and its laws.
-pub mod Run
-pub mod RoomLaws
-pub mod RunLaws
+-- What the entries answer, and what a valid state gives to the functions behind them.
 pub mod EntryLaws
+pub mod Query

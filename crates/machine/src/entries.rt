@@ -3,15 +3,15 @@
 ghost use Rattle.model.specs.Header.{stateOf};
 ghost use Rattle.model.specs.Entries.{JudgedRow, JudgedSequence, JudgedFree};
 ghost use Rattle.operate.specs.Outcome.{outcome};
-ghost use Rattle.machine.specs.Run.{progress, ran, freeOf};
-use super::Ran;
-use super::carry_out;
+ghost use Rattle.sequence.specs.Run.{progress, ran};
+ghost use Rattle.machine.specs.Query.{freeOf};
 use model::Machine;
 use numbers::Answer;
 use numbers::Lowest;
 use numbers::Refusal;
 use operate::Done;
 use rows::Decoded;
+use sequence::Ran;
 
 // ---- One operation, as a row; an unknown one is refused.
 pub fn operation(
@@ -104,7 +104,7 @@ pub fn sequence(
             machine: m,
         };
     }
-    carry_out(
+    sequence::carry_out(
         m,
         sets,
         pairs,

@@ -11,9 +11,9 @@ use Rattle.model.specs.Start.{Told, startAnswer, start}
 use Rattle.cores.specs.Boxes.{Box, BoxValid, stateIn, lentIn}
 use Rattle.cores.specs.Given.{operationGives, sequenceGives, startGives, HeaderWhole}
 use Rattle.cores.proofs.BoxesKept.{operation-state, operation-box-valid, sequence-state, sequence-box-valid, start-state, start-box-valid, refused-box-not-valid}
-use Rattle.tiligormis.specs.SlotLaws.{word-of-slot}
-use Rattle.tiligormis.specs.Slots.{words, slotsOf}
-use Rattle.tiligormis.specs.declared.Slot.{Slot}
+use Rattle.slots.specs.SlotLaws.{word-of-slot}
+use Rattle.slots.specs.Slots.{words, slotsOf}
+use Rattle.slots.specs.declared.Slot.{Slot}
 
 words-again : (ws : List ℕ) → words (slotsOf ws) ≡ ws
 words-again [] = refl

@@ -19,9 +19,9 @@ use Rattle.model.specs.ToldLaws.{LengthsPassed, lengths-passed}
 use Rattle.header.specs.Numbers.{numberOf, changed, begun}
 use Rattle.cores.specs.Boxes.{Box, box, stateIn, lentIn, BoxValid, withHeader, boxOf}
 use Rattle.cores.specs.Given.{Judgement, met, unmet, Given, given, answeredBy, operationGives, operationRefused, OperationAsked, ranThrough, sequenceGives, refusedWhole, FreeGiven, freeTold, FreeAsked, freeGives, StartGiven, startGiven, startedBy, startGives, startRefused, notValid, StartOfWords, all-there, not-whole, no-header, Whole, same, HeaderWhole}
-use Rattle.tiligormis.specs.Slots.{wordOf, words, slotsOf, AllFit, loaded, stored}
-use Rattle.tiligormis.specs.SlotLaws.{loaded-whole, stored-whole, same-loaded}
-use Rattle.tiligormis.specs.declared.Slot.{Slot}
+use Rattle.slots.specs.Slots.{wordOf, words, slotsOf, AllFit, loaded, stored}
+use Rattle.slots.specs.SlotLaws.{loaded-whole, stored-whole, same-loaded}
+use Rattle.slots.specs.declared.Slot.{Slot}
 
 module _ (header sets pairs cpuMap cpuWalker : List ℕ) (cpuSlots : List Slot) (dmaMap dmaWalker : List ℕ) (dmaSlots : List Slot) (memory : List ℕ)
     (cpuWords dmaWords : List ℕ) (c : (cpuWords ≡ loaded cpuSlots) × AllFit cpuSlots) (d : (dmaWords ≡ loaded dmaSlots) × AllFit dmaSlots) where

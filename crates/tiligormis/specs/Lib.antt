@@ -1,6 +1,2 @@
--- What slot records mean.
+-- Boxes of slots by the words of their caches.
 pub mod BoxLaws
-pub mod SlotCallLaws
-pub mod SlotCalls
-pub mod SlotLaws
-pub mod Slots

@@ -5,10 +5,8 @@ ghost use Rattle.model.specs.Start.{freeRefused};
 ghost use Rattle.start.specs.Begun.{told};
 ghost use Rattle.cores.specs.Boxes.{box, BoxValid};
 ghost use Rattle.cores.specs.Given.{Judgement, given, operationGives, operationRefused, OperationAsked, sequenceGives, refusedWhole, freeGives, freeTold, freeGiven, FreeAsked, startGives, startGiven, startRefused, HeaderWhole};
-ghost use Rattle.tiligormis.specs.Slots.{words, slotsOf};
-use super::Slot;
-use super::load;
-use super::store;
+ghost use Rattle.slots.specs.Slots.{words, slotsOf};
+use slots::Slot;
 
 // Whether a box is valid.
 #[no_mangle]
@@ -28,8 +26,8 @@ pub extern "C" fn tiligormis_valid(
 {
     let cpu_slots = cpu_cache.len();
     let dma_slots = dma_cache.len();
-    let cpu_words = load(cpu_cache);
-    let dma_words = load(dma_cache);
+    let cpu_words = slots::load(cpu_cache);
+    let dma_words = slots::load(dma_cache);
     cores::valid(
         machine,
         sets,
@@ -69,8 +67,8 @@ pub extern "C" fn tiligormis_operation(
 {
     let cpu_slots = cpu_cache.len();
     let dma_slots = dma_cache.len();
-    let cpu_words = load(&*cpu_cache);
-    let dma_words = load(&*dma_cache);
+    let cpu_words = slots::load(&*cpu_cache);
+    let dma_words = slots::load(&*dma_cache);
     let out = cores::operation(
         machine,
         sets,
@@ -87,8 +85,8 @@ pub extern "C" fn tiligormis_operation(
         cpu_words,
         dma_words,
     );
-    store(cpu_cache, out.cpu);
-    store(dma_cache, out.dma);
+    slots::store(cpu_cache, out.cpu);
+    slots::store(dma_cache, out.dma);
     out.number
 }
 
@@ -115,8 +113,8 @@ pub extern "C" fn tiligormis_sequence(
 {
     let cpu_slots = cpu_cache.len();
     let dma_slots = dma_cache.len();
-    let cpu_words = load(&*cpu_cache);
-    let dma_words = load(&*dma_cache);
+    let cpu_words = slots::load(&*cpu_cache);
+    let dma_words = slots::load(&*dma_cache);
     let out = cores::sequence(
         machine,
         sets,
@@ -133,8 +131,8 @@ pub extern "C" fn tiligormis_sequence(
         cpu_words,
         dma_words,
     );
-    store(cpu_cache, out.cpu);
-    store(dma_cache, out.dma);
+    slots::store(cpu_cache, out.cpu);
+    slots::store(dma_cache, out.dma);
     out.number
 }
 
@@ -160,8 +158,8 @@ pub extern "C" fn tiligormis_free(
 {
     let cpu_slots = cpu_cache.len();
     let dma_slots = dma_cache.len();
-    let cpu_words = load(cpu_cache);
-    let dma_words = load(dma_cache);
+    let cpu_words = slots::load(cpu_cache);
+    let dma_words = slots::load(dma_cache);
     cores::free(
         machine,
         sets,
@@ -204,8 +202,8 @@ pub extern "C" fn tiligormis_start(
 {
     let cpu_slots = cpu_cache.len();
     let dma_slots = dma_cache.len();
-    let cpu_words = load(&*cpu_cache);
-    let dma_words = load(&*dma_cache);
+    let cpu_words = slots::load(&*cpu_cache);
+    let dma_words = slots::load(&*dma_cache);
     let out = cores::start(
         machine,
         sets,
@@ -224,7 +222,7 @@ pub extern "C" fn tiligormis_start(
         cpu_words,
         dma_words,
     );
-    store(cpu_cache, out.cpu);
-    store(dma_cache, out.dma);
+    slots::store(cpu_cache, out.cpu);
+    slots::store(dma_cache, out.dma);
     out.number
 }

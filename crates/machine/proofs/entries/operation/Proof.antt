@@ -3,7 +3,7 @@ use Rattle.numbers.specs.DecidesLaws.{failed, passed}
 use Rattle.model.specs.Entries.{valid, not-valid}
 use Rattle.model.specs.Header.{stateOf}
 use Rattle.machine.specs.EntryLaws.{fit}
-use Rattle.machine.specs.RunLaws.{row-done, row-unknown}
+use Rattle.sequence.specs.RunLaws.{row-done, row-unknown}
 use Rattle.machine.proofs.entries.operation.Statement.{statement}
 use Rattle.machine.proofs.entries.operation.Tie as tie
 

@@ -16,9 +16,9 @@ use ghost.Atoms.{Atoms, sem}
 use contract.Monad.{Fun, fact}
 use contract.Lifetimes.{Lfts}
 use contract.Running.{givenOf, tables, tablesOf}
-use types.Kit.{Given, ‵, raw, _⊛_, some, later, _$_, _∵_, !, qed, move, keep, drop, use1, use2, split, join, group, pick, rewrite, fsplit, fjoin, feqL, suffices, frame, await, done}
+use types.Kit.{Given, ‵, raw, _⊛_, some, later, _$_, _∵_, !, qed, move, keep, drop, use1, use2, split, join, group, pick, rewrite, fsplit, fjoin, suffices, frame, await, done}
 use types.Part.{agg, whole, sub, look-in}
-use types.Run.{look, init, store, forget, stop, hop, fld, from, load, of-opd, addr, and-then, no-more, assigns, land, returns, enter, alloc1, alloc0, params1, pass1, pass0, free1, free0}
+use types.Run.{look, init, store, stop, hop, fld, from, load, of-opd, addr, and-then, no-more, assigns, land, returns, enter, params1}
 use types.Tokens.{lft-new, lft-end}
 use sound.WpLaws.{FmC, fmOf, WpFn-mono}
 use denote.RattleType.{RattleType, owns}
@@ -43,20 +43,21 @@ use Rattle.cores.specs.Boxes.{box, BoxValid}
 use Rattle.cores.specs.Given.{Judgement, given, sequenceGives, refusedWhole, Whole, same}
 use Rattle.cores.specs.declared.Finished.{Finished}
 use Rattle.tiligormis.specs.BoxLaws.{sequence-slots}
-use Rattle.tiligormis.specs.Slots.{AllFit, loaded, stored}
-use Rattle.tiligormis.specs.declared.Slot.{Slot}
-use Rattle.tiligormis.proofs.Again.{SharedOut, lends-shared, shared-back}
-use Rattle.tiligormis.proofs.Rows.{R, Row, field-words, field-row, row-makes, row-typed}
+use Rattle.slots.specs.Slots.{AllFit, loaded, stored}
+use Rattle.slots.specs.declared.Slot.{Slot}
+use Rattle.tiligormis.proofs.AtOnce.{alloc-all, pass-all, free-all, apart, fapart, fwhole, last-eq}
+use Rattle.tiligormis.proofs.SharedLoan.{SharedOut, lends-shared, shared-back}
+use Rattle.slots.proofs.Rows.{R, Row, field-words, field-row, row-makes, row-typed}
 use Rattle.cores.proofs.Finished as O
 use Rattle.cores.proofs.Finished.Laws as O′
-use Rattle.tiligormis.proofs.load as load′
-use Rattle.tiligormis.proofs.load.Symbol as load-def
-use Rattle.tiligormis.proofs.load.Symbol.{name as #load}
-use Rattle.tiligormis.proofs.load.Met as load-thm
-use Rattle.tiligormis.proofs.store as store′
-use Rattle.tiligormis.proofs.store.Symbol as store-def
-use Rattle.tiligormis.proofs.store.Symbol.{name as #store}
-use Rattle.tiligormis.proofs.store.Met as store-thm
+use Rattle.slots.proofs.load as load′
+use Rattle.slots.proofs.load.Symbol as load-def
+use Rattle.slots.proofs.load.Symbol.{name as #load}
+use Rattle.slots.proofs.load.Met as load-thm
+use Rattle.slots.proofs.store as store′
+use Rattle.slots.proofs.store.Symbol as store-def
+use Rattle.slots.proofs.store.Symbol.{name as #store}
+use Rattle.slots.proofs.store.Met as store-thm
 use Rattle.cores.proofs.sequence as core′
 use Rattle.cores.proofs.sequence.Symbol as core-def
 use Rattle.cores.proofs.sequence.Symbol.{name as #core}
@@ -109,55 +110,15 @@ module _ {M : Type 1} (𝓤 : URA M) (H : Heap 𝓤) (A : Atoms 𝓤) (W : Given
   goes-core c₁ v₁ i₁ c₂ v₂ i₂ =
       qed W (‵ (flft κ₀ q₀) ∷ ‵ (flft κ₁ q₁) ∷ ‵ (flft κ₂ q₂) ∷ ‵ (flft κ₃ q₃) ∷ ‵ (flft κ₄ q₄) ∷ ‵ (flft κ₆ q₆) ∷ ‵ (flft κ₇ q₇) ∷ ‵ (flft κ₉ q₉) ∷ ‵ (flft κ₁₀ q₁₀) ∷ ‵ (flft κ₁₁ q₁₁) ∷ ‵ (MutSlice (named 0) κ₀ u64 .own (record { ptr = (b₀, o₀); name = γ₀; now = ys₀ }) (sliceVal (b₀, o₀) (length ys₀) ∷ [])) ∷ ‵ (MutSlice (named 1) κ₁ u64 .own (record { ptr = (b₁, o₁); name = γ₁; now = ys₁ }) (sliceVal (b₁, o₁) (length ys₁) ∷ [])) ∷ ‵ (MutSlice (named 2) κ₂ u64 .own (record { ptr = (b₂, o₂); name = γ₂; now = ys₂ }) (sliceVal (b₂, o₂) (length ys₂) ∷ [])) ∷ ‵ (MutSlice (named 3) κ₃ u64 .own (record { ptr = (b₃, o₃); name = γ₃; now = ys₃ }) (sliceVal (b₃, o₃) (length ys₃) ∷ [])) ∷ ‵ (MutSlice (named 4) κ₄ u64 .own (record { ptr = (b₄, o₄); name = γ₄; now = ys₄ }) (sliceVal (b₄, o₄) (length ys₄) ∷ [])) ∷ ‵ (MutSlice (named 6) κ₆ u64 .own (record { ptr = (b₆, o₆); name = γ₆; now = ys₆ }) (sliceVal (b₆, o₆) (length ys₆) ∷ [])) ∷ ‵ (MutSlice (named 7) κ₇ u64 .own (record { ptr = (b₇, o₇); name = γ₇; now = ys₇ }) (sliceVal (b₇, o₇) (length ys₇) ∷ [])) ∷ ‵ (MutSlice (named 9) κ₉ u64 .own (record { ptr = (b₉, o₉); name = γ₉; now = ys₉ }) (sliceVal (b₉, o₉) (length ys₉) ∷ [])) ∷ ‵ (ShrSlice (named 10) κ₁₀ u64 .own (record { ptr = (b₁₀, o₁₀); name = γ₁₀; now = ys₁₀ }) (sliceVal (b₁₀, o₁₀) (length ys₁₀) ∷ [])) ∷ ‵ (MutSlice (named 11) κ₁₁ u64 .own (record { ptr = (b₁₁, o₁₁); name = γ₁₁; now = ys₁₁ }) (sliceVal (b₁₁, o₁₁) (length ys₁₁) ∷ [])) ∷ []) ∵
       nothing ! $
-      move ! (10 ∷ 0 ∷ []) $
-      join ! $
-      move ! (9 ∷ 0 ∷ []) $
-      join ! $
-      move ! (8 ∷ 0 ∷ []) $
-      join ! $
-      move ! (7 ∷ 0 ∷ []) $
-      join ! $
-      move ! (6 ∷ 0 ∷ []) $
-      join ! $
-      move ! (5 ∷ 0 ∷ []) $
-      join ! $
-      move ! (4 ∷ 0 ∷ []) $
-      join ! $
-      move ! (3 ∷ 0 ∷ []) $
-      join ! $
-      move ! (2 ∷ 0 ∷ []) $
-      join ! $
-      move ! (1 ∷ 0 ∷ []) $
-      join ! $
+      move ! (1 ∷ 2 ∷ 3 ∷ 4 ∷ 5 ∷ 6 ∷ 7 ∷ 8 ∷ 9 ∷ 10 ∷ 0 ∷ []) $
+      group ! 11 $
       nothing ! $
       owned ! Row (Is Row) (row-makes 𝓤 H A W) c₂ _ i₂ $
-      fjoin ! $
       owned ! Row (Is Row) (row-makes 𝓤 H A W) c₁ _ i₁ $
-      fjoin ! $
       owned ! usize (Is usize) (uint-makes 𝓤 H A W w64) (length ys₈) _ (refl, g₈ .0) $
-      fjoin ! $
       owned ! usize (Is usize) (uint-makes 𝓤 H A W w64) (length ys₅) _ (refl, g₅ .0) $
-      fjoin ! $
-      move ! (11 ∷ 0 ∷ []) $
-      fjoin ! $
-      move ! (10 ∷ 0 ∷ []) $
-      fjoin ! $
-      move ! (9 ∷ 0 ∷ []) $
-      fjoin ! $
-      move ! (8 ∷ 0 ∷ []) $
-      fjoin ! $
-      move ! (7 ∷ 0 ∷ []) $
-      fjoin ! $
-      move ! (6 ∷ 0 ∷ []) $
-      fjoin ! $
-      move ! (5 ∷ 0 ∷ []) $
-      fjoin ! $
-      move ! (4 ∷ 0 ∷ []) $
-      fjoin ! $
-      move ! (3 ∷ 0 ∷ []) $
-      fjoin ! $
-      move ! (2 ∷ 0 ∷ []) $
-      fjoin ! $
+      move ! (6 ∷ 7 ∷ 8 ∷ 9 ∷ 10 ∷ 11 ∷ 12 ∷ 13 ∷ 14 ∷ 15 ∷ 0 ∷ 1 ∷ 2 ∷ 3 ∷ 4 ∷ []) $
+      fwhole W ! _ (_ ∷ _ ∷ _ ∷ _ ∷ _ ∷ _ ∷ _ ∷ _ ∷ _ ∷ _ ∷ _ ∷ _ ∷ _ ∷ _ ∷ []) $
       move ! (1 ∷ 0 ∷ []) $
       join ! $ frame ! $ nothing ! $ done !
 
@@ -177,488 +138,140 @@ module _ {M : Type 1} (𝓤 : URA M) (H : Heap 𝓤) (A : Atoms 𝓤) (W : Given
       → ent 𝓤 (onEntry 𝓤 H A entry′.signature (κ₀, (κ₁, (κ₂, (κ₃, (κ₄, (κ₅, (κ₆, (κ₇, (κ₈, (κ₉, (κ₁₀, (κ₁₁, tt)))))))))))) (q₀, (q₁, (q₂, (q₃, (q₄, (q₅, (q₆, (q₇, (q₈, (q₉, (q₁₀, (q₁₁, tt)))))))))))) (record { ptr = (b₀, o₀); name = γ₀; now = ys₀ }, (record { ptr = (b₁, o₁); name = γ₁; now = ys₁ }, (record { ptr = (b₂, o₂); name = γ₂; now = ys₂ }, (record { ptr = (b₃, o₃); name = γ₃; now = ys₃ }, (record { ptr = (b₄, o₄); name = γ₄; now = ys₄ }, (record { ptr = (b₅, o₅); name = γ₅; now = ys₅ }, (record { ptr = (b₆, o₆); name = γ₆; now = ys₆ }, (record { ptr = (b₇, o₇); name = γ₇; now = ys₇ }, (record { ptr = (b₈, o₈); name = γ₈; now = ys₈ }, (record { ptr = (b₉, o₉); name = γ₉; now = ys₉ }, (record { ptr = (b₁₀, o₁₀); name = γ₁₀; now = ys₁₀ }, (record { ptr = (b₁₁, o₁₁); name = γ₁₁; now = ys₁₁ }, tt)))))))))))) (sliceVal (b₀, o₀) (length ys₀) ∷ [], (sliceVal (b₁, o₁) (length ys₁) ∷ [], (sliceVal (b₂, o₂) (length ys₂) ∷ [], (sliceVal (b₃, o₃) (length ys₃) ∷ [], (sliceVal (b₄, o₄) (length ys₄) ∷ [], (sliceVal (b₅, o₅) (length ys₅) ∷ [], (sliceVal (b₆, o₆) (length ys₆) ∷ [], (sliceVal (b₇, o₇) (length ys₇) ∷ [], (sliceVal (b₈, o₈) (length ys₈) ∷ [], (sliceVal (b₉, o₉) (length ys₉) ∷ [], (sliceVal (b₁₀, o₁₀) (length ys₁₀) ∷ [], (sliceVal (b₁₁, o₁₁) (length ys₁₁) ∷ [], tt))))))))))))) (WpFn 𝓤 H (𝓣 .C) (𝓣 .Λ) code.function (sliceVal (b₀, o₀) (length ys₀) ∷ sliceVal (b₁, o₁) (length ys₁) ∷ sliceVal (b₂, o₂) (length ys₂) ∷ sliceVal (b₃, o₃) (length ys₃) ∷ sliceVal (b₄, o₄) (length ys₄) ∷ sliceVal (b₅, o₅) (length ys₅) ∷ sliceVal (b₆, o₆) (length ys₆) ∷ sliceVal (b₇, o₇) (length ys₇) ∷ sliceVal (b₈, o₈) (length ys₈) ∷ sliceVal (b₉, o₉) (length ys₉) ∷ sliceVal (b₁₀, o₁₀) (length ys₁₀) ∷ sliceVal (b₁₁, o₁₁) (length ys₁₁) ∷ []) Post)
   walk 𝓣 fm known-load known-store known-core =
       qed W ((‵ (flft κ₀ q₀) ⊛ (‵ (flft κ₁ q₁) ⊛ (‵ (flft κ₂ q₂) ⊛ (‵ (flft κ₃ q₃) ⊛ (‵ (flft κ₄ q₄) ⊛ (‵ (flft κ₅ q₅) ⊛ (‵ (flft κ₆ q₆) ⊛ (‵ (flft κ₇ q₇) ⊛ (‵ (flft κ₈ q₈) ⊛ (‵ (flft κ₉ q₉) ⊛ (‵ (flft κ₁₀ q₁₀) ⊛ (‵ (flft κ₁₁ q₁₁) ⊛ ‵ ftrue)))))))))))) ∷ ‵ (owns (MutSlice (named 0) κ₀ u64 ∷ MutSlice (named 1) κ₁ u64 ∷ MutSlice (named 2) κ₂ u64 ∷ MutSlice (named 3) κ₃ u64 ∷ MutSlice (named 4) κ₄ u64 ∷ MutSlice (named 5) κ₅ R ∷ MutSlice (named 6) κ₆ u64 ∷ MutSlice (named 7) κ₇ u64 ∷ MutSlice (named 8) κ₈ R ∷ MutSlice (named 9) κ₉ u64 ∷ ShrSlice (named 10) κ₁₀ u64 ∷ MutSlice (named 11) κ₁₁ u64 ∷ []) (record { ptr = (b₀, o₀); name = γ₀; now = ys₀ }, (record { ptr = (b₁, o₁); name = γ₁; now = ys₁ }, (record { ptr = (b₂, o₂); name = γ₂; now = ys₂ }, (record { ptr = (b₃, o₃); name = γ₃; now = ys₃ }, (record { ptr = (b₄, o₄); name = γ₄; now = ys₄ }, (record { ptr = (b₅, o₅); name = γ₅; now = ys₅ }, (record { ptr = (b₆, o₆); name = γ₆; now = ys₆ }, (record { ptr = (b₇, o₇); name = γ₇; now = ys₇ }, (record { ptr = (b₈, o₈); name = γ₈; now = ys₈ }, (record { ptr = (b₉, o₉); name = γ₉; now = ys₉ }, (record { ptr = (b₁₀, o₁₀); name = γ₁₀; now = ys₁₀ }, (record { ptr = (b₁₁, o₁₁); name = γ₁₁; now = ys₁₁ }, tt)))))))))))) (sliceVal (b₀, o₀) (length ys₀) ∷ [], (sliceVal (b₁, o₁) (length ys₁) ∷ [], (sliceVal (b₂, o₂) (length ys₂) ∷ [], (sliceVal (b₃, o₃) (length ys₃) ∷ [], (sliceVal (b₄, o₄) (length ys₄) ∷ [], (sliceVal (b₅, o₅) (length ys₅) ∷ [], (sliceVal (b₆, o₆) (length ys₆) ∷ [], (sliceVal (b₇, o₇) (length ys₇) ∷ [], (sliceVal (b₈, o₈) (length ys₈) ∷ [], (sliceVal (b₉, o₉) (length ys₉) ∷ [], (sliceVal (b₁₀, o₁₀) (length ys₁₀) ∷ [], (sliceVal (b₁₁, o₁₁) (length ys₁₁) ∷ [], tt))))))))))))) ∷ []) ∵ enter ! (𝓣 .C) (𝓣 .Λ) code.function (sliceVal (b₀, o₀) (length ys₀) ∷ sliceVal (b₁, o₁) (length ys₁) ∷ sliceVal (b₂, o₂) (length ys₂) ∷ sliceVal (b₃, o₃) (length ys₃) ∷ sliceVal (b₄, o₄) (length ys₄) ∷ sliceVal (b₅, o₅) (length ys₅) ∷ sliceVal (b₆, o₆) (length ys₆) ∷ sliceVal (b₇, o₇) (length ys₇) ∷ sliceVal (b₈, o₈) (length ys₈) ∷ sliceVal (b₉, o₉) (length ys₉) ∷ sliceVal (b₁₀, o₁₀) (length ys₁₀) ∷ sliceVal (b₁₁, o₁₁) (length ys₁₁) ∷ []) _ $
-      alloc1 ! (λ l₀.
-      alloc1 ! (λ l₁.
-      alloc1 ! (λ l₂.
-      alloc1 ! (λ l₃.
-      alloc1 ! (λ l₄.
-      alloc1 ! (λ l₅.
-      alloc1 ! (λ l₆.
-      alloc1 ! (λ l₇.
-      alloc1 ! (λ l₈.
-      alloc1 ! (λ l₉.
-      alloc1 ! (λ l₁₀.
-      alloc1 ! (λ l₁₁.
-      alloc1 ! (λ l₁₂.
-      alloc1 ! (λ l₁₃.
-      alloc1 ! (λ l₁₄.
-      alloc1 ! (λ l₁₅.
-      alloc1 ! (λ l₁₆.
-      alloc1 ! (λ l₁₇.
-      alloc1 ! (λ l₁₈.
-      alloc1 ! (λ l₁₉.
-      alloc1 ! (λ l₂₀.
-      alloc1 ! (λ l₂₁.
-      alloc1 ! (λ l₂₂.
-      alloc1 ! (λ l₂₃.
-      alloc1 ! (λ l₂₄.
-      alloc1 ! (λ l₂₅.
-      alloc1 ! (λ l₂₆.
-      alloc1 ! (λ l₂₇.
-      alloc1 ! (λ l₂₈.
-      alloc1 ! (λ l₂₉.
-      alloc1 ! (λ l₃₀.
-      alloc1 ! (λ l₃₁.
-      alloc1 ! (λ l₃₂.
-      alloc1 ! (λ l₃₃.
-      alloc1 ! (λ l₃₄.
-      alloc1 ! (λ l₃₅.
-      alloc1 ! (λ l₃₆.
-      alloc1 ! (λ l₃₇.
-      alloc1 ! (λ l₃₈.
-      alloc1 ! (λ l₃₉.
-      alloc1 ! (λ l₄₀.
-      alloc1 ! (λ l₄₁.
-      alloc1 ! (λ l₄₂.
-      alloc1 ! (λ l₄₃.
-      alloc1 ! (λ l₄₄.
-      alloc0 ! $ params1 ! $
-      pass1 ! (init ! 86 refl (tt, (tt, (record { fits = g₀ .0 }, tt)))) $
-      pass1 ! (init ! 84 refl (tt, (tt, (record { fits = g₁ .0 }, tt)))) $
-      pass1 ! (init ! 82 refl (tt, (tt, (record { fits = g₂ .0 }, tt)))) $
-      pass1 ! (init ! 80 refl (tt, (tt, (record { fits = g₃ .0 }, tt)))) $
-      pass1 ! (init ! 78 refl (tt, (tt, (record { fits = g₄ .0 }, tt)))) $
-      pass1 ! (init ! 76 refl (tt, (tt, (record { fits = g₅ .0 }, tt)))) $
-      pass1 ! (init ! 74 refl (tt, (tt, (record { fits = g₆ .0 }, tt)))) $
-      pass1 ! (init ! 72 refl (tt, (tt, (record { fits = g₇ .0 }, tt)))) $
-      pass1 ! (init ! 70 refl (tt, (tt, (record { fits = g₈ .0 }, tt)))) $
-      pass1 ! (init ! 68 refl (tt, (tt, (record { fits = g₉ .0 }, tt)))) $
-      pass1 ! (init ! 66 refl (tt, (tt, (record { fits = g₁₀ .0 }, tt)))) $
-      pass1 ! (init ! 64 refl (tt, (tt, (record { fits = g₁₁ .0 }, tt)))) $
-      pass0 ! $
+      alloc-all ! (λ l₀ l₁ l₂ l₃ l₄ l₅ l₆ l₇ l₈ l₉ l₁₀ l₁₁ l₁₂ l₁₃ l₁₄ l₁₅ l₁₆ l₁₇ l₁₈ l₁₉ l₂₀ l₂₁ l₂₂ l₂₃ l₂₄ l₂₅ l₂₆ l₂₇ l₂₈ l₂₉ l₃₀ l₃₁ l₃₂ l₃₃ l₃₄ l₃₅ l₃₆ l₃₇ l₃₈ l₃₉ l₄₀ l₄₁ l₄₂ l₄₃ l₄₄.
+      params1 ! $
+      pass-all ! 86 ((refl, (tt, (tt, (record { fits = g₀ .0 }, tt)))), ((refl, (tt, (tt, (record { fits = g₁ .0 }, tt)))), ((refl, (tt, (tt, (record { fits = g₂ .0 }, tt)))), ((refl, (tt, (tt, (record { fits = g₃ .0 }, tt)))), ((refl, (tt, (tt, (record { fits = g₄ .0 }, tt)))), ((refl, (tt, (tt, (record { fits = g₅ .0 }, tt)))), ((refl, (tt, (tt, (record { fits = g₆ .0 }, tt)))), ((refl, (tt, (tt, (record { fits = g₇ .0 }, tt)))), ((refl, (tt, (tt, (record { fits = g₈ .0 }, tt)))), ((refl, (tt, (tt, (record { fits = g₉ .0 }, tt)))), ((refl, (tt, (tt, (record { fits = g₁₀ .0 }, tt)))), ((refl, (tt, (tt, (record { fits = g₁₁ .0 }, tt)))), tt)))))))))))) $
       move ! (90 ∷ []) $
-      split ! $
-      move ! (1 ∷ []) $
-      split ! $
-      move ! (1 ∷ []) $
-      split ! $
-      move ! (1 ∷ []) $
-      split ! $
-      move ! (1 ∷ []) $
-      split ! $
-      move ! (1 ∷ []) $
-      split ! $
-      move ! (1 ∷ []) $
-      split ! $
-      move ! (1 ∷ []) $
-      split ! $
-      move ! (1 ∷ []) $
-      split ! $
-      move ! (1 ∷ []) $
-      split ! $
-      move ! (1 ∷ []) $
-      split ! $
-      move ! (1 ∷ []) $
-      split ! $
-      move ! (1 ∷ []) $
+      apart W ! _ (_ ∷ _ ∷ _ ∷ _ ∷ _ ∷ _ ∷ _ ∷ _ ∷ _ ∷ _ ∷ _ ∷ _ ∷ []) $
       drop ! $
       move ! (102 ∷ []) $
-      fsplit ! $
-      move ! (1 ∷ []) $
-      fsplit ! $
-      move ! (1 ∷ []) $
-      fsplit ! $
-      move ! (1 ∷ []) $
-      fsplit ! $
-      move ! (1 ∷ []) $
-      fsplit ! $
-      move ! (1 ∷ []) $
-      fsplit ! $
-      move ! (1 ∷ []) $
-      fsplit ! $
-      move ! (1 ∷ []) $
-      fsplit ! $
-      move ! (1 ∷ []) $
-      fsplit ! $
-      move ! (1 ∷ []) $
-      fsplit ! $
-      move ! (1 ∷ []) $
-      fsplit ! $
-      move ! (1 ∷ []) $
-      fsplit ! $
-      move ! (1 ∷ []) $
-      keep ! (12 ∷ 24 ∷ 11 ∷ 23 ∷ 10 ∷ 22 ∷ 9 ∷ 21 ∷ 8 ∷ 20 ∷ 7 ∷ 19 ∷ 6 ∷ 18 ∷ 5 ∷ 17 ∷ 4 ∷ 16 ∷ 3 ∷ 15 ∷ 2 ∷ 14 ∷ 1 ∷ 13 ∷ 25 ∷ 26 ∷ 27 ∷ 28 ∷ 29 ∷ 30 ∷ 31 ∷ 32 ∷ 33 ∷ 34 ∷ 35 ∷ 36 ∷ 37 ∷ 38 ∷ 39 ∷ 40 ∷ 41 ∷ 42 ∷ 43 ∷ 44 ∷ 45 ∷ 46 ∷ 47 ∷ 48 ∷ 49 ∷ 50 ∷ 51 ∷ 52 ∷ 53 ∷ 54 ∷ 55 ∷ 56 ∷ 57 ∷ 58 ∷ 59 ∷ 60 ∷ 61 ∷ 62 ∷ 63 ∷ 64 ∷ 65 ∷ 66 ∷ 67 ∷ 68 ∷ 69 ∷ 70 ∷ 71 ∷ 72 ∷ 73 ∷ 74 ∷ 75 ∷ 76 ∷ 77 ∷ 78 ∷ 79 ∷ 80 ∷ 81 ∷ 82 ∷ 83 ∷ 84 ∷ 85 ∷ 86 ∷ 87 ∷ 88 ∷ 89 ∷ 90 ∷ 91 ∷ 92 ∷ 93 ∷ 94 ∷ 95 ∷ 96 ∷ 97 ∷ 98 ∷ 99 ∷ 100 ∷ 101 ∷ 102 ∷ 103 ∷ 104 ∷ 105 ∷ 106 ∷ 107 ∷ 108 ∷ 109 ∷ 110 ∷ 111 ∷ 112 ∷ 113 ∷ 114 ∷ []) $
-      assigns ! (of-opd ! (load ! (from ! (fld ! refl (stop !))) (look-in ! 100 (sub ! 1 refl (whole !))))) (from ! (stop !)) (init ! 86 refl (tt, record { fits = g₅ .0 })) $
-      assigns ! (of-opd ! (load ! (from ! (fld ! refl (stop !))) (look-in ! 94 (sub ! 1 refl (whole !))))) (from ! (stop !)) (init ! 84 refl (tt, record { fits = g₈ .0 })) $
-      assigns ! (addr ! (from ! (fld ! refl (hop ! (look-in ! 100 (sub ! 0 refl (whole !))) (stop !))))) (from ! (stop !)) (init ! 76 refl (tt, tt)) $
-      assigns ! (agg ! (and-then ! (load ! (from ! (stop !)) (look ! 76 refl)) (and-then ! (load ! (from ! (fld ! refl (stop !))) (look-in ! 100 (sub ! 1 refl (whole !)))) (no-more !)))) (from ! (stop !)) (init ! 74 refl (tt, (tt, (record { fits = g₅ .0 }, tt)))) $
+      fapart W ! _ (_ ∷ _ ∷ _ ∷ _ ∷ _ ∷ _ ∷ _ ∷ _ ∷ _ ∷ _ ∷ _ ∷ _ ∷ []) $
+      keep ! (12 ∷ 24 ∷ 11 ∷ 23 ∷ 10 ∷ 22 ∷ 9 ∷ 21 ∷ 8 ∷ 20 ∷ 7 ∷ 19 ∷ 6 ∷ 18 ∷ 5 ∷ 17 ∷ 4 ∷ 16 ∷ 3 ∷ 15 ∷ 2 ∷ 14 ∷ 1 ∷ 13 ∷ 25 ∷ 27 ∷ 29 ∷ 31 ∷ 33 ∷ 35 ∷ 37 ∷ 39 ∷ 41 ∷ 43 ∷ 45 ∷ 47 ∷ 49 ∷ 51 ∷ 53 ∷ 55 ∷ 57 ∷ 59 ∷ 61 ∷ 63 ∷ 65 ∷ 67 ∷ 69 ∷ 71 ∷ 73 ∷ 75 ∷ 77 ∷ 79 ∷ 81 ∷ 83 ∷ 85 ∷ 87 ∷ 89 ∷ 91 ∷ 93 ∷ 95 ∷ 97 ∷ 99 ∷ 101 ∷ 103 ∷ 105 ∷ 107 ∷ 109 ∷ 111 ∷ 113 ∷ 26 ∷ 28 ∷ 30 ∷ 32 ∷ 34 ∷ 36 ∷ 38 ∷ 40 ∷ 42 ∷ 44 ∷ 46 ∷ 48 ∷ 50 ∷ 52 ∷ 54 ∷ 56 ∷ 58 ∷ 60 ∷ 62 ∷ 64 ∷ 66 ∷ 68 ∷ 70 ∷ 72 ∷ 74 ∷ 76 ∷ 78 ∷ 80 ∷ 82 ∷ 84 ∷ 86 ∷ 88 ∷ 90 ∷ 92 ∷ 94 ∷ 96 ∷ 98 ∷ 100 ∷ 102 ∷ 104 ∷ 106 ∷ 108 ∷ 110 ∷ 112 ∷ 114 ∷ []) $
+      assigns ! (of-opd ! (load ! (from ! (fld ! refl (stop !))) (look-in ! 62 (sub ! 1 refl (whole !))))) (from ! (stop !)) (init ! 55 refl (tt, record { fits = g₅ .0 })) $
+      assigns ! (of-opd ! (load ! (from ! (fld ! refl (stop !))) (look-in ! 59 (sub ! 1 refl (whole !))))) (from ! (stop !)) (init ! 54 refl (tt, record { fits = g₈ .0 })) $
+      assigns ! (addr ! (from ! (fld ! refl (hop ! (look-in ! 62 (sub ! 0 refl (whole !))) (stop !))))) (from ! (stop !)) (init ! 50 refl (tt, tt)) $
+      assigns ! (agg ! (and-then ! (load ! (from ! (stop !)) (look ! 50 refl)) (and-then ! (load ! (from ! (fld ! refl (stop !))) (look-in ! 62 (sub ! 1 refl (whole !)))) (no-more !)))) (from ! (stop !)) (init ! 49 refl (tt, (tt, (record { fits = g₅ .0 }, tt)))) $
       lft-new ! tt (λ ν₁.
       move ! (11 ∷ 12 ∷ []) $
       use2 W (later (some (λ (δ : GName). ‵ (ShrSlice (named 0) (ν₁ ∷ []) R .own (record { ptr = (b₅, o₅); name = δ; now = ys₅ }) (sliceVal (b₅, o₅) (length ys₅) ∷ [])) ⊛ ‵ (SharedOut R κ₅ (ν₁ ∷ []) q₅ γ₅ b₅ o₅ ys₅)))) (lends-shared R κ₅ (ν₁ ∷ []) q₅ γ₅ b₅ o₅ ys₅ 𝓤 H A W (named 5) (named 0)) $ await ! tt $ pick ! (λ δ₁. split ! $
       move ! (2 ∷ 0 ∷ []) $
       use2 W (raw (Load 𝓤 H A mem run .pre (to-load-1 ν₁ δ₁))) (goes-1 ν₁ δ₁) $
-      calls-at ! fm (Load 𝓤 H A mem run) known-load (to-load-1 ν₁ δ₁) (and-then ! (load ! (from ! (stop !)) (look ! 74 refl)) (no-more !)) (λ v₁.
+      calls-at ! fm (Load 𝓤 H A mem run) known-load (to-load-1 ν₁ δ₁) (and-then ! (load ! (from ! (stop !)) (look ! 49 refl)) (no-more !)) (λ v₁.
       use1 W (later (some (λ (r : List ℕ). ((‵ (flft (ν₁ ∷ []) fullShare) ⊛ ‵ ftrue) ⊛ ‵ (Row .own r (v₁ ∷ []))) ⊛ raw (ensured 𝓤 H A load′.ended (load′.clauses 𝓤 H A mem run) (ν₁ ∷ [], tt) (record { ptr = (b₅, o₅); name = δ₁; now = ys₅ }, tt) tt r)))) (id⊢ 𝓤 _) $ await ! tt $ pick ! (λ c₁.
       split ! $ move ! (1 ∷ []) $ use1 W (raw (fact 𝓤 ((c₁ ≡ loaded ys₅) × AllFit ys₅))) (load-of 𝓤 H A mem run (ν₁ ∷ [], tt) (record { ptr = (b₅, o₅); name = δ₁; now = ys₅ }) c₁) $ heard ! ((c₁ ≡ loaded ys₅) × AllFit ys₅) (λ e₁. split ! $
       move ! (1 ∷ []) $
       facts ! Row (Is Row) (shows 𝓤 H A Row) c₁ (v₁ ∷ []) (λ i₁. split ! $
-      land ! (from ! (stop !)) (init ! 83 refl (row-typed 𝓤 H A W c₁ v₁ i₁)) $ lft-end ! tt $
+      land ! (from ! (stop !)) (init ! 54 refl (row-typed 𝓤 H A W c₁ v₁ i₁)) $ lft-end ! tt $
       move ! (0 ∷ 2 ∷ []) $
       use2 W (later (‵ (MutSlice (named 5) κ₅ R .own (record { ptr = (b₅, o₅); name = γ₅; now = ys₅ }) (sliceVal (b₅, o₅) (length ys₅) ∷ [])) ⊛ ‵ (flft κ₅ q₅))) (shared-back R κ₅ (ν₁ ∷ []) q₅ γ₅ b₅ o₅ ys₅ 𝓤 H A W (named 5) (named 0) g₅) $ await ! tt $ split ! $
       move ! (2 ∷ []) $
       drop ! $
-      assigns ! (addr ! (from ! (fld ! refl (hop ! (look-in ! 94 (sub ! 0 refl (whole !))) (stop !))))) (from ! (stop !)) (init ! 72 refl (tt, tt)) $
-      assigns ! (agg ! (and-then ! (load ! (from ! (stop !)) (look ! 72 refl)) (and-then ! (load ! (from ! (fld ! refl (stop !))) (look-in ! 94 (sub ! 1 refl (whole !)))) (no-more !)))) (from ! (stop !)) (init ! 70 refl (tt, (tt, (record { fits = g₈ .0 }, tt)))) $
+      assigns ! (addr ! (from ! (fld ! refl (hop ! (look-in ! 59 (sub ! 0 refl (whole !))) (stop !))))) (from ! (stop !)) (init ! 48 refl (tt, tt)) $
+      assigns ! (agg ! (and-then ! (load ! (from ! (stop !)) (look ! 48 refl)) (and-then ! (load ! (from ! (fld ! refl (stop !))) (look-in ! 59 (sub ! 1 refl (whole !)))) (no-more !)))) (from ! (stop !)) (init ! 47 refl (tt, (tt, (record { fits = g₈ .0 }, tt)))) $
       lft-new ! tt (λ ν₂.
       move ! (17 ∷ 18 ∷ []) $
       use2 W (later (some (λ (δ : GName). ‵ (ShrSlice (named 0) (ν₂ ∷ []) R .own (record { ptr = (b₈, o₈); name = δ; now = ys₈ }) (sliceVal (b₈, o₈) (length ys₈) ∷ [])) ⊛ ‵ (SharedOut R κ₈ (ν₂ ∷ []) q₈ γ₈ b₈ o₈ ys₈)))) (lends-shared R κ₈ (ν₂ ∷ []) q₈ γ₈ b₈ o₈ ys₈ 𝓤 H A W (named 8) (named 0)) $ await ! tt $ pick ! (λ δ₂. split ! $
       move ! (2 ∷ 0 ∷ []) $
       use2 W (raw (Load 𝓤 H A mem run .pre (to-load-2 ν₂ δ₂))) (goes-2 ν₂ δ₂) $
-      calls-at ! fm (Load 𝓤 H A mem run) known-load (to-load-2 ν₂ δ₂) (and-then ! (load ! (from ! (stop !)) (look ! 70 refl)) (no-more !)) (λ v₂.
+      calls-at ! fm (Load 𝓤 H A mem run) known-load (to-load-2 ν₂ δ₂) (and-then ! (load ! (from ! (stop !)) (look ! 47 refl)) (no-more !)) (λ v₂.
       use1 W (later (some (λ (r : List ℕ). ((‵ (flft (ν₂ ∷ []) fullShare) ⊛ ‵ ftrue) ⊛ ‵ (Row .own r (v₂ ∷ []))) ⊛ raw (ensured 𝓤 H A load′.ended (load′.clauses 𝓤 H A mem run) (ν₂ ∷ [], tt) (record { ptr = (b₈, o₈); name = δ₂; now = ys₈ }, tt) tt r)))) (id⊢ 𝓤 _) $ await ! tt $ pick ! (λ c₂.
       split ! $ move ! (1 ∷ []) $ use1 W (raw (fact 𝓤 ((c₂ ≡ loaded ys₈) × AllFit ys₈))) (load-of 𝓤 H A mem run (ν₂ ∷ [], tt) (record { ptr = (b₈, o₈); name = δ₂; now = ys₈ }) c₂) $ heard ! ((c₂ ≡ loaded ys₈) × AllFit ys₈) (λ e₂. split ! $
       move ! (1 ∷ []) $
       facts ! Row (Is Row) (shows 𝓤 H A Row) c₂ (v₂ ∷ []) (λ i₂. split ! $
-      land ! (from ! (stop !)) (init ! 81 refl (row-typed 𝓤 H A W c₂ v₂ i₂)) $ lft-end ! tt $
+      land ! (from ! (stop !)) (init ! 53 refl (row-typed 𝓤 H A W c₂ v₂ i₂)) $ lft-end ! tt $
       move ! (0 ∷ 2 ∷ []) $
       use2 W (later (‵ (MutSlice (named 8) κ₈ R .own (record { ptr = (b₈, o₈); name = γ₈; now = ys₈ }) (sliceVal (b₈, o₈) (length ys₈) ∷ [])) ⊛ ‵ (flft κ₈ q₈))) (shared-back R κ₈ (ν₂ ∷ []) q₈ γ₈ b₈ o₈ ys₈ 𝓤 H A W (named 8) (named 0) g₈) $ await ! tt $ split ! $
       move ! (2 ∷ []) $
       drop ! $
-      assigns ! (addr ! (from ! (fld ! refl (hop ! (look-in ! 110 (sub ! 0 refl (whole !))) (stop !))))) (from ! (stop !)) (init ! 68 refl (tt, tt)) $
-      assigns ! (agg ! (and-then ! (load ! (from ! (stop !)) (look ! 68 refl)) (and-then ! (load ! (from ! (fld ! refl (stop !))) (look-in ! 110 (sub ! 1 refl (whole !)))) (no-more !)))) (from ! (stop !)) (init ! 66 refl (tt, (tt, (record { fits = g₀ .0 }, tt)))) $
-      assigns ! (addr ! (from ! (fld ! refl (hop ! (look-in ! 108 (sub ! 0 refl (whole !))) (stop !))))) (from ! (stop !)) (init ! 64 refl (tt, tt)) $
-      assigns ! (agg ! (and-then ! (load ! (from ! (stop !)) (look ! 64 refl)) (and-then ! (load ! (from ! (fld ! refl (stop !))) (look-in ! 108 (sub ! 1 refl (whole !)))) (no-more !)))) (from ! (stop !)) (init ! 62 refl (tt, (tt, (record { fits = g₁ .0 }, tt)))) $
-      assigns ! (addr ! (from ! (fld ! refl (hop ! (look-in ! 106 (sub ! 0 refl (whole !))) (stop !))))) (from ! (stop !)) (init ! 60 refl (tt, tt)) $
-      assigns ! (agg ! (and-then ! (load ! (from ! (stop !)) (look ! 60 refl)) (and-then ! (load ! (from ! (fld ! refl (stop !))) (look-in ! 106 (sub ! 1 refl (whole !)))) (no-more !)))) (from ! (stop !)) (init ! 58 refl (tt, (tt, (record { fits = g₂ .0 }, tt)))) $
-      assigns ! (addr ! (from ! (fld ! refl (hop ! (look-in ! 104 (sub ! 0 refl (whole !))) (stop !))))) (from ! (stop !)) (init ! 56 refl (tt, tt)) $
-      assigns ! (agg ! (and-then ! (load ! (from ! (stop !)) (look ! 56 refl)) (and-then ! (load ! (from ! (fld ! refl (stop !))) (look-in ! 104 (sub ! 1 refl (whole !)))) (no-more !)))) (from ! (stop !)) (init ! 54 refl (tt, (tt, (record { fits = g₃ .0 }, tt)))) $
-      assigns ! (addr ! (from ! (fld ! refl (hop ! (look-in ! 102 (sub ! 0 refl (whole !))) (stop !))))) (from ! (stop !)) (init ! 52 refl (tt, tt)) $
-      assigns ! (agg ! (and-then ! (load ! (from ! (stop !)) (look ! 52 refl)) (and-then ! (load ! (from ! (fld ! refl (stop !))) (look-in ! 102 (sub ! 1 refl (whole !)))) (no-more !)))) (from ! (stop !)) (init ! 50 refl (tt, (tt, (record { fits = g₄ .0 }, tt)))) $
-      assigns ! (addr ! (from ! (fld ! refl (hop ! (look-in ! 98 (sub ! 0 refl (whole !))) (stop !))))) (from ! (stop !)) (init ! 48 refl (tt, tt)) $
-      assigns ! (agg ! (and-then ! (load ! (from ! (stop !)) (look ! 48 refl)) (and-then ! (load ! (from ! (fld ! refl (stop !))) (look-in ! 98 (sub ! 1 refl (whole !)))) (no-more !)))) (from ! (stop !)) (init ! 46 refl (tt, (tt, (record { fits = g₆ .0 }, tt)))) $
-      assigns ! (addr ! (from ! (fld ! refl (hop ! (look-in ! 96 (sub ! 0 refl (whole !))) (stop !))))) (from ! (stop !)) (init ! 44 refl (tt, tt)) $
-      assigns ! (agg ! (and-then ! (load ! (from ! (stop !)) (look ! 44 refl)) (and-then ! (load ! (from ! (fld ! refl (stop !))) (look-in ! 96 (sub ! 1 refl (whole !)))) (no-more !)))) (from ! (stop !)) (init ! 42 refl (tt, (tt, (record { fits = g₇ .0 }, tt)))) $
-      assigns ! (addr ! (from ! (fld ! refl (hop ! (look-in ! 92 (sub ! 0 refl (whole !))) (stop !))))) (from ! (stop !)) (init ! 40 refl (tt, tt)) $
-      assigns ! (agg ! (and-then ! (load ! (from ! (stop !)) (look ! 40 refl)) (and-then ! (load ! (from ! (fld ! refl (stop !))) (look-in ! 92 (sub ! 1 refl (whole !)))) (no-more !)))) (from ! (stop !)) (init ! 38 refl (tt, (tt, (record { fits = g₉ .0 }, tt)))) $
-      assigns ! (addr ! (from ! (fld ! refl (hop ! (look-in ! 88 (sub ! 0 refl (whole !))) (stop !))))) (from ! (stop !)) (init ! 36 refl (tt, tt)) $
-      assigns ! (agg ! (and-then ! (load ! (from ! (stop !)) (look ! 36 refl)) (and-then ! (load ! (from ! (fld ! refl (stop !))) (look-in ! 88 (sub ! 1 refl (whole !)))) (no-more !)))) (from ! (stop !)) (init ! 34 refl (tt, (tt, (record { fits = g₁₁ .0 }, tt)))) $
+      assigns ! (addr ! (from ! (fld ! refl (hop ! (look-in ! 67 (sub ! 0 refl (whole !))) (stop !))))) (from ! (stop !)) (init ! 46 refl (tt, tt)) $
+      assigns ! (agg ! (and-then ! (load ! (from ! (stop !)) (look ! 46 refl)) (and-then ! (load ! (from ! (fld ! refl (stop !))) (look-in ! 67 (sub ! 1 refl (whole !)))) (no-more !)))) (from ! (stop !)) (init ! 45 refl (tt, (tt, (record { fits = g₀ .0 }, tt)))) $
+      assigns ! (addr ! (from ! (fld ! refl (hop ! (look-in ! 66 (sub ! 0 refl (whole !))) (stop !))))) (from ! (stop !)) (init ! 44 refl (tt, tt)) $
+      assigns ! (agg ! (and-then ! (load ! (from ! (stop !)) (look ! 44 refl)) (and-then ! (load ! (from ! (fld ! refl (stop !))) (look-in ! 66 (sub ! 1 refl (whole !)))) (no-more !)))) (from ! (stop !)) (init ! 43 refl (tt, (tt, (record { fits = g₁ .0 }, tt)))) $
+      assigns ! (addr ! (from ! (fld ! refl (hop ! (look-in ! 65 (sub ! 0 refl (whole !))) (stop !))))) (from ! (stop !)) (init ! 42 refl (tt, tt)) $
+      assigns ! (agg ! (and-then ! (load ! (from ! (stop !)) (look ! 42 refl)) (and-then ! (load ! (from ! (fld ! refl (stop !))) (look-in ! 65 (sub ! 1 refl (whole !)))) (no-more !)))) (from ! (stop !)) (init ! 41 refl (tt, (tt, (record { fits = g₂ .0 }, tt)))) $
+      assigns ! (addr ! (from ! (fld ! refl (hop ! (look-in ! 64 (sub ! 0 refl (whole !))) (stop !))))) (from ! (stop !)) (init ! 40 refl (tt, tt)) $
+      assigns ! (agg ! (and-then ! (load ! (from ! (stop !)) (look ! 40 refl)) (and-then ! (load ! (from ! (fld ! refl (stop !))) (look-in ! 64 (sub ! 1 refl (whole !)))) (no-more !)))) (from ! (stop !)) (init ! 39 refl (tt, (tt, (record { fits = g₃ .0 }, tt)))) $
+      assigns ! (addr ! (from ! (fld ! refl (hop ! (look-in ! 63 (sub ! 0 refl (whole !))) (stop !))))) (from ! (stop !)) (init ! 38 refl (tt, tt)) $
+      assigns ! (agg ! (and-then ! (load ! (from ! (stop !)) (look ! 38 refl)) (and-then ! (load ! (from ! (fld ! refl (stop !))) (look-in ! 63 (sub ! 1 refl (whole !)))) (no-more !)))) (from ! (stop !)) (init ! 37 refl (tt, (tt, (record { fits = g₄ .0 }, tt)))) $
+      assigns ! (addr ! (from ! (fld ! refl (hop ! (look-in ! 61 (sub ! 0 refl (whole !))) (stop !))))) (from ! (stop !)) (init ! 36 refl (tt, tt)) $
+      assigns ! (agg ! (and-then ! (load ! (from ! (stop !)) (look ! 36 refl)) (and-then ! (load ! (from ! (fld ! refl (stop !))) (look-in ! 61 (sub ! 1 refl (whole !)))) (no-more !)))) (from ! (stop !)) (init ! 35 refl (tt, (tt, (record { fits = g₆ .0 }, tt)))) $
+      assigns ! (addr ! (from ! (fld ! refl (hop ! (look-in ! 60 (sub ! 0 refl (whole !))) (stop !))))) (from ! (stop !)) (init ! 34 refl (tt, tt)) $
+      assigns ! (agg ! (and-then ! (load ! (from ! (stop !)) (look ! 34 refl)) (and-then ! (load ! (from ! (fld ! refl (stop !))) (look-in ! 60 (sub ! 1 refl (whole !)))) (no-more !)))) (from ! (stop !)) (init ! 33 refl (tt, (tt, (record { fits = g₇ .0 }, tt)))) $
+      assigns ! (addr ! (from ! (fld ! refl (hop ! (look-in ! 58 (sub ! 0 refl (whole !))) (stop !))))) (from ! (stop !)) (init ! 32 refl (tt, tt)) $
+      assigns ! (agg ! (and-then ! (load ! (from ! (stop !)) (look ! 32 refl)) (and-then ! (load ! (from ! (fld ! refl (stop !))) (look-in ! 58 (sub ! 1 refl (whole !)))) (no-more !)))) (from ! (stop !)) (init ! 31 refl (tt, (tt, (record { fits = g₉ .0 }, tt)))) $
+      assigns ! (addr ! (from ! (fld ! refl (hop ! (look-in ! 56 (sub ! 0 refl (whole !))) (stop !))))) (from ! (stop !)) (init ! 30 refl (tt, tt)) $
+      assigns ! (agg ! (and-then ! (load ! (from ! (stop !)) (look ! 30 refl)) (and-then ! (load ! (from ! (fld ! refl (stop !))) (look-in ! 56 (sub ! 1 refl (whole !)))) (no-more !)))) (from ! (stop !)) (init ! 29 refl (tt, (tt, (record { fits = g₁₁ .0 }, tt)))) $
       move ! (5 ∷ 7 ∷ 9 ∷ 11 ∷ 13 ∷ 15 ∷ 17 ∷ 19 ∷ 21 ∷ 23 ∷ 4 ∷ 6 ∷ 8 ∷ 10 ∷ 12 ∷ 14 ∷ 16 ∷ 18 ∷ 20 ∷ 22 ∷ []) $
       group ! 20 $ use1 W (raw (Core 𝓤 H A mem run .pre (to-core c₁ v₁ i₁ c₂ v₂ i₂))) (goes-core c₁ v₁ i₁ c₂ v₂ i₂) $
-      calls-at ! fm (Core 𝓤 H A mem run) known-core (to-core c₁ v₁ i₁ c₂ v₂ i₂) (and-then ! (load ! (from ! (stop !)) (look ! 47 refl)) (and-then ! (load ! (from ! (stop !)) (look ! 43 refl)) (and-then ! (load ! (from ! (stop !)) (look ! 39 refl)) (and-then ! (load ! (from ! (stop !)) (look ! 35 refl)) (and-then ! (load ! (from ! (stop !)) (look ! 31 refl)) (and-then ! (load ! (from ! (stop !)) (look ! 27 refl)) (and-then ! (load ! (from ! (stop !)) (look ! 23 refl)) (and-then ! (load ! (from ! (stop !)) (look ! 19 refl)) (and-then ! (load ! (from ! (stop !)) (look ! 71 refl)) (and-then ! (load ! (from ! (stop !)) (look ! 15 refl)) (and-then ! (load ! (from ! (stop !)) (look ! 67 refl)) (and-then ! (load ! (from ! (stop !)) (look ! 65 refl)) (and-then ! (load ! (from ! (stop !)) (look ! 63 refl)) (and-then ! (load ! (from ! (stop !)) (look ! 61 refl)) (no-more !))))))))))))))) (λ vo.
+      calls-at ! fm (Core 𝓤 H A mem run) known-core (to-core c₁ v₁ i₁ c₂ v₂ i₂) (and-then ! (load ! (from ! (stop !)) (look ! 26 refl)) (and-then ! (load ! (from ! (stop !)) (look ! 24 refl)) (and-then ! (load ! (from ! (stop !)) (look ! 22 refl)) (and-then ! (load ! (from ! (stop !)) (look ! 20 refl)) (and-then ! (load ! (from ! (stop !)) (look ! 18 refl)) (and-then ! (load ! (from ! (stop !)) (look ! 16 refl)) (and-then ! (load ! (from ! (stop !)) (look ! 14 refl)) (and-then ! (load ! (from ! (stop !)) (look ! 12 refl)) (and-then ! (load ! (from ! (stop !)) (look ! 38 refl)) (and-then ! (load ! (from ! (stop !)) (look ! 10 refl)) (and-then ! (load ! (from ! (stop !)) (look ! 36 refl)) (and-then ! (load ! (from ! (stop !)) (look ! 35 refl)) (and-then ! (load ! (from ! (stop !)) (look ! 34 refl)) (and-then ! (load ! (from ! (stop !)) (look ! 33 refl)) (no-more !))))))))))))))) (λ vo.
       use1 W (later (some (λ (out : Finished). ((‵ (flft κ₀ q₀) ⊛ (‵ (flft κ₁ q₁) ⊛ (‵ (flft κ₂ q₂) ⊛ (‵ (flft κ₃ q₃) ⊛ (‵ (flft κ₄ q₄) ⊛ (‵ (flft κ₆ q₆) ⊛ (‵ (flft κ₇ q₇) ⊛ (‵ (flft κ₉ q₉) ⊛ (‵ (flft κ₁₀ q₁₀) ⊛ (‵ (flft κ₁₁ q₁₁) ⊛ ‵ ftrue)))))))))) ⊛ ‵ (Or .own out (vo ∷ []))) ⊛ raw (ensured 𝓤 H A core′.ended (core′.clauses 𝓤 H A mem run) (κ₀, (κ₁, (κ₂, (κ₃, (κ₄, (κ₆, (κ₇, (κ₉, (κ₁₀, (κ₁₁, tt)))))))))) (record { ptr = (b₀, o₀); name = γ₀; now = ys₀ }, (record { ptr = (b₁, o₁); name = γ₁; now = ys₁ }, (record { ptr = (b₂, o₂); name = γ₂; now = ys₂ }, (record { ptr = (b₃, o₃); name = γ₃; now = ys₃ }, (record { ptr = (b₄, o₄); name = γ₄; now = ys₄ }, (record { ptr = (b₆, o₆); name = γ₆; now = ys₆ }, (record { ptr = (b₇, o₇); name = γ₇; now = ys₇ }, (record { ptr = (b₉, o₉); name = γ₉; now = ys₉ }, (record { ptr = (b₁₀, o₁₀); name = γ₁₀; now = ys₁₀ }, (record { ptr = (b₁₁, o₁₁); name = γ₁₁; now = ys₁₁ }, (length ys₅, (length ys₈, (c₁, (c₂, tt)))))))))))))) tt out)))) (id⊢ 𝓤 _) $ await ! tt $ pick ! (λ out.
       split ! $ move ! (1 ∷ []) $ use1 W (some (λ (zc : Lasts core′.ended (κ₀, (κ₁, (κ₂, (κ₃, (κ₄, (κ₆, (κ₇, (κ₉, (κ₁₀, (κ₁₁, tt)))))))))) (record { ptr = (b₀, o₀); name = γ₀; now = ys₀ }, (record { ptr = (b₁, o₁); name = γ₁; now = ys₁ }, (record { ptr = (b₂, o₂); name = γ₂; now = ys₂ }, (record { ptr = (b₃, o₃); name = γ₃; now = ys₃ }, (record { ptr = (b₄, o₄); name = γ₄; now = ys₄ }, (record { ptr = (b₆, o₆); name = γ₆; now = ys₆ }, (record { ptr = (b₇, o₇); name = γ₇; now = ys₇ }, (record { ptr = (b₉, o₉); name = γ₉; now = ys₉ }, (record { ptr = (b₁₀, o₁₀); name = γ₁₀; now = ys₁₀ }, (record { ptr = (b₁₁, o₁₁); name = γ₁₁; now = ys₁₁ }, (length ys₅, (length ys₈, (c₁, (c₂, tt))))))))))))))). ‵ (lasts core′.ended (κ₀, (κ₁, (κ₂, (κ₃, (κ₄, (κ₆, (κ₇, (κ₉, (κ₁₀, (κ₁₁, tt)))))))))) (record { ptr = (b₀, o₀); name = γ₀; now = ys₀ }, (record { ptr = (b₁, o₁); name = γ₁; now = ys₁ }, (record { ptr = (b₂, o₂); name = γ₂; now = ys₂ }, (record { ptr = (b₃, o₃); name = γ₃; now = ys₃ }, (record { ptr = (b₄, o₄); name = γ₄; now = ys₄ }, (record { ptr = (b₆, o₆); name = γ₆; now = ys₆ }, (record { ptr = (b₇, o₇); name = γ₇; now = ys₇ }, (record { ptr = (b₉, o₉); name = γ₉; now = ys₉ }, (record { ptr = (b₁₀, o₁₀); name = γ₁₀; now = ys₁₀ }, (record { ptr = (b₁₁, o₁₁); name = γ₁₁; now = ys₁₁ }, (length ys₅, (length ys₈, (c₁, (c₂, tt)))))))))))))) zc) ⊛ raw (fact 𝓤 (Judgement (Whole (length ys₅) (length ys₈) × BoxValid same (box ys₀ ys₁ ys₂ ys₃ ys₄ c₁ ys₆ ys₇ c₂ ys₉)) (sequenceGives same same (box ys₀ ys₁ ys₂ ys₃ ys₄ c₁ ys₆ ys₇ c₂ ys₉) ys₁₀ ys₁₁) (refusedWhole (box ys₀ ys₁ ys₂ ys₃ ys₄ c₁ ys₆ ys₇ c₂ ys₉) ys₁₁) (given (out .number) (zc .1 .1 .1 .1 .1 .1 .1 .1 .1 .0) (box (zc .0) (zc .1 .0) (zc .1 .1 .0) (zc .1 .1 .1 .0) (zc .1 .1 .1 .1 .0) (out .cpu) (zc .1 .1 .1 .1 .1 .0) (zc .1 .1 .1 .1 .1 .1 .0) (out .dma) (zc .1 .1 .1 .1 .1 .1 .1 .0))))))) (id⊢ 𝓤 _) $ pick ! (λ zc. split ! $ move ! (1 ∷ []) $ heard ! (Judgement (Whole (length ys₅) (length ys₈) × BoxValid same (box ys₀ ys₁ ys₂ ys₃ ys₄ c₁ ys₆ ys₇ c₂ ys₉)) (sequenceGives same same (box ys₀ ys₁ ys₂ ys₃ ys₄ c₁ ys₆ ys₇ c₂ ys₉) ys₁₀ ys₁₁) (refusedWhole (box ys₀ ys₁ ys₂ ys₃ ys₄ c₁ ys₆ ys₇ c₂ ys₉) ys₁₁) (given (out .number) (zc .1 .1 .1 .1 .1 .1 .1 .1 .1 .0) (box (zc .0) (zc .1 .0) (zc .1 .1 .0) (zc .1 .1 .1 .0) (zc .1 .1 .1 .1 .0) (out .cpu) (zc .1 .1 .1 .1 .1 .0) (zc .1 .1 .1 .1 .1 .1 .0) (out .dma) (zc .1 .1 .1 .1 .1 .1 .1 .0)))) (λ ec.
-      fsplit ! $
-      fsplit ! $
-      move ! (1 ∷ []) $
-      feqL ! (λ h₀.
-      move ! (1 ∷ []) $
-      fsplit ! $
-      fsplit ! $
-      move ! (1 ∷ []) $
-      feqL ! (λ h₁.
-      move ! (1 ∷ []) $
-      fsplit ! $
-      fsplit ! $
-      move ! (1 ∷ []) $
-      feqL ! (λ h₂.
-      move ! (1 ∷ []) $
-      fsplit ! $
-      fsplit ! $
-      move ! (1 ∷ []) $
-      feqL ! (λ h₃.
-      move ! (1 ∷ []) $
-      fsplit ! $
-      fsplit ! $
-      move ! (1 ∷ []) $
-      feqL ! (λ h₄.
-      move ! (1 ∷ []) $
-      fsplit ! $
-      fsplit ! $
-      move ! (1 ∷ []) $
-      feqL ! (λ h₆.
-      move ! (1 ∷ []) $
-      fsplit ! $
-      fsplit ! $
-      move ! (1 ∷ []) $
-      feqL ! (λ h₇.
-      move ! (1 ∷ []) $
-      fsplit ! $
-      fsplit ! $
-      move ! (1 ∷ []) $
-      feqL ! (λ h₉.
-      move ! (1 ∷ []) $
+      last-eq ! (λ h₀.
+      last-eq ! (λ h₁.
+      last-eq ! (λ h₂.
+      last-eq ! (λ h₃.
+      last-eq ! (λ h₄.
+      last-eq ! (λ h₆.
+      last-eq ! (λ h₇.
+      last-eq ! (λ h₉.
       fsplit ! $
       drop ! $
-      fsplit ! $
-      fsplit ! $
-      move ! (1 ∷ []) $
-      feqL ! (λ h₁₁.
-      move ! (1 ∷ []) $
-      fsplit ! $
-      drop ! $
-      fsplit ! $
-      drop ! $
-      fsplit ! $
-      drop ! $
-      fsplit ! $
-      drop ! $
+      last-eq ! (λ h₁₁.
       drop ! $
       move ! (9 ∷ []) $
       split ! $
       move ! (1 ∷ []) $
       facts ! Or (Is Or) (shows 𝓤 H A Or) out (vo ∷ []) (λ io.
-      land ! (from ! (stop !)) (init ! 68 refl (LL.lawful O.the-type O′.the-laws 𝓤 H A W .typed out _ io .0)) $
-      rewrite ! 68 (λ (us : List Val). ‵ (fat fullShare O′.mir l₁₇ 0 (only us))) (LL.tells O.the-type O′.the-laws out (vo ∷ []) io) refl $
-      split ! $
-      move ! (1 ∷ []) $
-      split ! $
-      move ! (1 ∷ []) $
-      split ! $
-      move ! (1 ∷ []) $
-      split ! $
-      move ! (1 ∷ []) $
-      split ! $
-      move ! (1 ∷ []) $
-      split ! $
-      move ! (1 ∷ []) $
-      split ! $
-      move ! (1 ∷ []) $
-      split ! $
-      move ! (1 ∷ []) $
-      split ! $
-      move ! (1 ∷ []) $
-      split ! $
-      move ! (1 ∷ []) $
+      land ! (from ! (stop !)) (init ! 41 refl (LL.lawful O.the-type O′.the-laws 𝓤 H A W .typed out _ io .0)) $
+      rewrite ! 41 (λ (us : List Val). ‵ (fat fullShare O′.mir l₁₇ 0 (only us))) (LL.tells O.the-type O′.the-laws out (vo ∷ []) io) refl $
+      apart W ! _ (_ ∷ _ ∷ _ ∷ _ ∷ _ ∷ _ ∷ _ ∷ _ ∷ _ ∷ _ ∷ []) $
       drop ! $
-      assigns ! (addr ! (from ! (fld ! refl (hop ! (look-in ! 99 (sub ! 0 refl (whole !))) (stop !))))) (from ! (stop !)) (init ! 29 refl (tt, tt)) $
-      assigns ! (agg ! (and-then ! (load ! (from ! (stop !)) (look ! 29 refl)) (and-then ! (load ! (from ! (fld ! refl (stop !))) (look-in ! 99 (sub ! 1 refl (whole !)))) (no-more !)))) (from ! (stop !)) (init ! 27 refl (tt, (tt, (record { fits = g₅ .0 }, tt)))) $
+      assigns ! (addr ! (from ! (fld ! refl (hop ! (look-in ! 61 (sub ! 0 refl (whole !))) (stop !))))) (from ! (stop !)) (init ! 26 refl (tt, tt)) $
+      assigns ! (agg ! (and-then ! (load ! (from ! (stop !)) (look ! 26 refl)) (and-then ! (load ! (from ! (fld ! refl (stop !))) (look-in ! 61 (sub ! 1 refl (whole !)))) (no-more !)))) (from ! (stop !)) (init ! 25 refl (tt, (tt, (record { fits = g₅ .0 }, tt)))) $
       move ! (22 ∷ 21 ∷ []) $
       use2 W (raw (Store 𝓤 H A mem run .pre (to-store-4 out))) (goes-4 out (field-row (out .cpu) (array-vals (uint-vals w64) (field-words (out .cpu))) (LL.owed O.the-type O′.the-laws out (vo ∷ []) io .0))) $
-      calls-at ! fm (Store 𝓤 H A mem run) known-store (to-store-4 out) (and-then ! (load ! (from ! (stop !)) (look ! 26 refl)) (and-then ! (load ! (from ! (fld ! refl (stop !))) (look-in ! 76 (sub ! 0 refl (whole !)))) (no-more !))) (λ v₄.
+      calls-at ! fm (Store 𝓤 H A mem run) known-store (to-store-4 out) (and-then ! (load ! (from ! (stop !)) (look ! 24 refl)) (and-then ! (load ! (from ! (fld ! refl (stop !))) (look-in ! 49 (sub ! 0 refl (whole !)))) (no-more !))) (λ v₄.
       use1 W (later (some (λ (r : Unit {0}). ((‵ (flft κ₅ q₅) ⊛ ‵ ftrue) ⊛ ‵ (Nothing .own r (v₄ ∷ []))) ⊛ raw (ensured 𝓤 H A store′.ended (store′.clauses 𝓤 H A mem run) (κ₅, tt) (record { ptr = (b₅, o₅); name = γ₅; now = ys₅ }, (out .cpu, tt)) tt r)))) (id⊢ 𝓤 _) $ await ! tt $ pick ! (λ r₄.
       split ! $ move ! (1 ∷ []) $ use1 W (some (λ (z₄ : Lasts store′.ended (κ₅, tt) (record { ptr = (b₅, o₅); name = γ₅; now = ys₅ }, (out .cpu, tt))). ‵ (lasts store′.ended (κ₅, tt) (record { ptr = (b₅, o₅); name = γ₅; now = ys₅ }, (out .cpu, tt)) z₄) ⊛ raw (fact 𝓤 (z₄ .0 ≡ stored (out .cpu) ys₅)))) (id⊢ 𝓤 _) $ pick ! (λ z₄. split ! $ move ! (1 ∷ []) $ heard ! (z₄ .0 ≡ stored (out .cpu) ys₅) (λ e₄.
-      fsplit ! $ fsplit ! $
-      move ! (1 ∷ []) $
-      feqL ! (λ h₅.
-      move ! (1 ∷ []) $
+      last-eq ! (λ h₅.
       drop ! $
       move ! (1 ∷ []) $
       split ! $
       move ! (1 ∷ []) $
       facts ! Nothing (Is Nothing) (shows 𝓤 H A Nothing) r₄ (v₄ ∷ []) (λ i₄. split ! $
-      land ! (from ! (stop !)) (init ! 32 refl (nothing-lawful 𝓤 H A W .typed r₄ _ i₄ .0)) $
+      land ! (from ! (stop !)) (init ! 28 refl (nothing-lawful 𝓤 H A W .typed r₄ _ i₄ .0)) $
       move ! (1 ∷ []) $
       drop ! $
-      assigns ! (addr ! (from ! (fld ! refl (hop ! (look-in ! 93 (sub ! 0 refl (whole !))) (stop !))))) (from ! (stop !)) (init ! 25 refl (tt, tt)) $
-      assigns ! (agg ! (and-then ! (load ! (from ! (stop !)) (look ! 25 refl)) (and-then ! (load ! (from ! (fld ! refl (stop !))) (look-in ! 93 (sub ! 1 refl (whole !)))) (no-more !)))) (from ! (stop !)) (init ! 23 refl (tt, (tt, (record { fits = g₈ .0 }, tt)))) $
+      assigns ! (addr ! (from ! (fld ! refl (hop ! (look-in ! 58 (sub ! 0 refl (whole !))) (stop !))))) (from ! (stop !)) (init ! 24 refl (tt, tt)) $
+      assigns ! (agg ! (and-then ! (load ! (from ! (stop !)) (look ! 24 refl)) (and-then ! (load ! (from ! (fld ! refl (stop !))) (look-in ! 58 (sub ! 1 refl (whole !)))) (no-more !)))) (from ! (stop !)) (init ! 23 refl (tt, (tt, (record { fits = g₈ .0 }, tt)))) $
       move ! (22 ∷ 21 ∷ []) $
       use2 W (raw (Store 𝓤 H A mem run .pre (to-store-5 out))) (goes-5 out (field-row (out .dma) (array-vals (uint-vals w64) (field-words (out .dma))) (LL.owed O.the-type O′.the-laws out (vo ∷ []) io .1 .0))) $
-      calls-at ! fm (Store 𝓤 H A mem run) known-store (to-store-5 out) (and-then ! (load ! (from ! (stop !)) (look ! 22 refl)) (and-then ! (load ! (from ! (fld ! refl (stop !))) (look-in ! 76 (sub ! 1 refl (whole !)))) (no-more !))) (λ v₅.
+      calls-at ! fm (Store 𝓤 H A mem run) known-store (to-store-5 out) (and-then ! (load ! (from ! (stop !)) (look ! 22 refl)) (and-then ! (load ! (from ! (fld ! refl (stop !))) (look-in ! 49 (sub ! 1 refl (whole !)))) (no-more !))) (λ v₅.
       use1 W (later (some (λ (r : Unit {0}). ((‵ (flft κ₈ q₈) ⊛ ‵ ftrue) ⊛ ‵ (Nothing .own r (v₅ ∷ []))) ⊛ raw (ensured 𝓤 H A store′.ended (store′.clauses 𝓤 H A mem run) (κ₈, tt) (record { ptr = (b₈, o₈); name = γ₈; now = ys₈ }, (out .dma, tt)) tt r)))) (id⊢ 𝓤 _) $ await ! tt $ pick ! (λ r₅.
       split ! $ move ! (1 ∷ []) $ use1 W (some (λ (z₅ : Lasts store′.ended (κ₈, tt) (record { ptr = (b₈, o₈); name = γ₈; now = ys₈ }, (out .dma, tt))). ‵ (lasts store′.ended (κ₈, tt) (record { ptr = (b₈, o₈); name = γ₈; now = ys₈ }, (out .dma, tt)) z₅) ⊛ raw (fact 𝓤 (z₅ .0 ≡ stored (out .dma) ys₈)))) (id⊢ 𝓤 _) $ pick ! (λ z₅. split ! $ move ! (1 ∷ []) $ heard ! (z₅ .0 ≡ stored (out .dma) ys₈) (λ e₅.
-      fsplit ! $ fsplit ! $
-      move ! (1 ∷ []) $
-      feqL ! (λ h₈.
-      move ! (1 ∷ []) $
+      last-eq ! (λ h₈.
       drop ! $
       move ! (1 ∷ []) $
       split ! $
       move ! (1 ∷ []) $
       facts ! Nothing (Is Nothing) (shows 𝓤 H A Nothing) r₅ (v₅ ∷ []) (λ i₅. split ! $
-      land ! (from ! (stop !)) (store ! 32 refl (nothing-lawful 𝓤 H A W .typed r₅ _ i₅ .0)) $
+      land ! (from ! (stop !)) (store ! 28 refl (nothing-lawful 𝓤 H A W .typed r₅ _ i₅ .0)) $
       move ! (1 ∷ []) $
       drop ! $
-      assigns ! (of-opd ! (load ! (from ! (fld ! refl (stop !))) (look-in ! 77 (sub ! 2 refl (whole !))))) (from ! (stop !)) (init ! 111 refl (uint-lawful 𝓤 H A W w64 .typed (out .number) _ (LL.owed O.the-type O′.the-laws out (vo ∷ []) io .1 .1 .0) .0)) $
-      returns ! (look ! 111 refl) $
-      forget ! 111 refl $
-      forget ! 109 refl $
-      forget ! 107 refl $
-      forget ! 105 refl $
-      forget ! 103 refl $
-      forget ! 101 refl $
-      forget ! 99 refl $
-      forget ! 97 refl $
-      forget ! 95 refl $
-      forget ! 93 refl $
-      forget ! 91 refl $
-      forget ! 89 refl $
-      forget ! 87 refl $
-      forget ! 85 refl $
-      forget ! 83 refl $
-      forget ! 81 refl $
-      forget ! 79 refl $
-      forget ! 77 refl $
-      forget ! 75 refl $
-      forget ! 73 refl $
-      forget ! 71 refl $
-      forget ! 69 refl $
-      forget ! 67 refl $
-      forget ! 65 refl $
-      forget ! 63 refl $
-      forget ! 61 refl $
-      forget ! 59 refl $
-      forget ! 57 refl $
-      forget ! 55 refl $
-      forget ! 53 refl $
-      forget ! 51 refl $
-      forget ! 49 refl $
-      forget ! 47 refl $
-      forget ! 45 refl $
-      forget ! 43 refl $
-      forget ! 41 refl $
-      forget ! 39 refl $
-      forget ! 37 refl $
-      forget ! 35 refl $
-      forget ! 33 refl $
-      forget ! 31 refl $
-      forget ! 29 refl $
-      forget ! 27 refl $
-      forget ! 25 refl $
-      forget ! 23 refl $
-      move ! (111 ∷ 112 ∷ []) $
-      free1 ! $
-      move ! (109 ∷ 110 ∷ []) $
-      free1 ! $
-      move ! (107 ∷ 108 ∷ []) $
-      free1 ! $
-      move ! (105 ∷ 106 ∷ []) $
-      free1 ! $
-      move ! (103 ∷ 104 ∷ []) $
-      free1 ! $
-      move ! (101 ∷ 102 ∷ []) $
-      free1 ! $
-      move ! (99 ∷ 100 ∷ []) $
-      free1 ! $
-      move ! (97 ∷ 98 ∷ []) $
-      free1 ! $
-      move ! (95 ∷ 96 ∷ []) $
-      free1 ! $
-      move ! (93 ∷ 94 ∷ []) $
-      free1 ! $
-      move ! (91 ∷ 92 ∷ []) $
-      free1 ! $
-      move ! (89 ∷ 90 ∷ []) $
-      free1 ! $
-      move ! (87 ∷ 88 ∷ []) $
-      free1 ! $
-      move ! (85 ∷ 86 ∷ []) $
-      free1 ! $
-      move ! (83 ∷ 84 ∷ []) $
-      free1 ! $
-      move ! (81 ∷ 82 ∷ []) $
-      free1 ! $
-      move ! (79 ∷ 80 ∷ []) $
-      free1 ! $
-      move ! (77 ∷ 78 ∷ []) $
-      free1 ! $
-      move ! (75 ∷ 76 ∷ []) $
-      free1 ! $
-      move ! (73 ∷ 74 ∷ []) $
-      free1 ! $
-      move ! (71 ∷ 72 ∷ []) $
-      free1 ! $
-      move ! (69 ∷ 70 ∷ []) $
-      free1 ! $
-      move ! (67 ∷ 68 ∷ []) $
-      free1 ! $
-      move ! (65 ∷ 66 ∷ []) $
-      free1 ! $
-      move ! (63 ∷ 64 ∷ []) $
-      free1 ! $
-      move ! (61 ∷ 62 ∷ []) $
-      free1 ! $
-      move ! (59 ∷ 60 ∷ []) $
-      free1 ! $
-      move ! (57 ∷ 58 ∷ []) $
-      free1 ! $
-      move ! (55 ∷ 56 ∷ []) $
-      free1 ! $
-      move ! (53 ∷ 54 ∷ []) $
-      free1 ! $
-      move ! (51 ∷ 52 ∷ []) $
-      free1 ! $
-      move ! (49 ∷ 50 ∷ []) $
-      free1 ! $
-      move ! (47 ∷ 48 ∷ []) $
-      free1 ! $
-      move ! (45 ∷ 46 ∷ []) $
-      free1 ! $
-      move ! (43 ∷ 44 ∷ []) $
-      free1 ! $
-      move ! (41 ∷ 42 ∷ []) $
-      free1 ! $
-      move ! (39 ∷ 40 ∷ []) $
-      free1 ! $
-      move ! (37 ∷ 38 ∷ []) $
-      free1 ! $
-      move ! (35 ∷ 36 ∷ []) $
-      free1 ! $
-      move ! (33 ∷ 34 ∷ []) $
-      free1 ! $
-      move ! (31 ∷ 32 ∷ []) $
-      free1 ! $
-      move ! (29 ∷ 30 ∷ []) $
-      free1 ! $
-      move ! (27 ∷ 28 ∷ []) $
-      free1 ! $
-      move ! (25 ∷ 26 ∷ []) $
-      free1 ! $
-      move ! (23 ∷ 24 ∷ []) $
-      free1 ! $
-      free0 ! $
+      assigns ! (of-opd ! (load ! (from ! (fld ! refl (stop !))) (look-in ! 50 (sub ! 2 refl (whole !))))) (from ! (stop !)) (init ! 67 refl (uint-lawful 𝓤 H A W w64 .typed (out .number) _ (LL.owed O.the-type O′.the-laws out (vo ∷ []) io .1 .1 .0) .0)) $
+      returns ! (look ! 67 refl) $
+      move ! (67 ∷ 112 ∷ 66 ∷ 111 ∷ 65 ∷ 110 ∷ 64 ∷ 109 ∷ 63 ∷ 108 ∷ 62 ∷ 107 ∷ 61 ∷ 106 ∷ 60 ∷ 105 ∷ 59 ∷ 104 ∷ 58 ∷ 103 ∷ 57 ∷ 102 ∷ 56 ∷ 101 ∷ 55 ∷ 100 ∷ 54 ∷ 99 ∷ 53 ∷ 98 ∷ 52 ∷ 97 ∷ 51 ∷ 96 ∷ 50 ∷ 95 ∷ 49 ∷ 94 ∷ 48 ∷ 93 ∷ 47 ∷ 92 ∷ 46 ∷ 91 ∷ 45 ∷ 90 ∷ 44 ∷ 89 ∷ 43 ∷ 88 ∷ 42 ∷ 87 ∷ 41 ∷ 86 ∷ 40 ∷ 85 ∷ 39 ∷ 84 ∷ 38 ∷ 83 ∷ 37 ∷ 82 ∷ 36 ∷ 81 ∷ 35 ∷ 80 ∷ 34 ∷ 79 ∷ 33 ∷ 78 ∷ 32 ∷ 77 ∷ 31 ∷ 76 ∷ 30 ∷ 75 ∷ 29 ∷ 74 ∷ 28 ∷ 73 ∷ 27 ∷ 72 ∷ 26 ∷ 71 ∷ 25 ∷ 70 ∷ 24 ∷ 69 ∷ 23 ∷ 68 ∷ []) $
+      free-all W ! ((_, _, _) ∷ (_, _, _) ∷ (_, _, _) ∷ (_, _, _) ∷ (_, _, _) ∷ (_, _, _) ∷ (_, _, _) ∷ (_, _, _) ∷ (_, _, _) ∷ (_, _, _) ∷ (_, _, _) ∷ (_, _, _) ∷ (_, _, _) ∷ (_, _, _) ∷ (_, _, _) ∷ (_, _, _) ∷ (_, _, _) ∷ (_, _, _) ∷ (_, _, _) ∷ (_, _, _) ∷ (_, _, _) ∷ (_, _, _) ∷ (_, _, _) ∷ (_, _, _) ∷ (_, _, _) ∷ (_, _, _) ∷ (_, _, _) ∷ (_, _, _) ∷ (_, _, _) ∷ (_, _, _) ∷ (_, _, _) ∷ (_, _, _) ∷ (_, _, _) ∷ (_, _, _) ∷ (_, _, _) ∷ (_, _, _) ∷ (_, _, _) ∷ (_, _, _) ∷ (_, _, _) ∷ (_, _, _) ∷ (_, _, _) ∷ (_, _, _) ∷ (_, _, _) ∷ (_, _, _) ∷ (_, _, _) ∷ []) $
       suffices ! _ (ends-at 𝓤 H A entry′.ended stayed (entry′.clauses 𝓤 H A mem run) W (((κ₀, (κ₁, (κ₂, (κ₃, (κ₄, (κ₅, (κ₆, (κ₇, (κ₈, (κ₉, (κ₁₀, (κ₁₁, tt)))))))))))), (q₀, (q₁, (q₂, (q₃, (q₄, (q₅, (q₆, (q₇, (q₈, (q₉, (q₁₀, (q₁₁, tt)))))))))))), tt, (record { ptr = (b₀, o₀); name = γ₀; now = ys₀ }, (record { ptr = (b₁, o₁); name = γ₁; now = ys₁ }, (record { ptr = (b₂, o₂); name = γ₂; now = ys₂ }, (record { ptr = (b₃, o₃); name = γ₃; now = ys₃ }, (record { ptr = (b₄, o₄); name = γ₄; now = ys₄ }, (record { ptr = (b₅, o₅); name = γ₅; now = ys₅ }, (record { ptr = (b₆, o₆); name = γ₆; now = ys₆ }, (record { ptr = (b₇, o₇); name = γ₇; now = ys₇ }, (record { ptr = (b₈, o₈); name = γ₈; now = ys₈ }, (record { ptr = (b₉, o₉); name = γ₉; now = ys₉ }, (record { ptr = (b₁₀, o₁₀); name = γ₁₀; now = ys₁₀ }, (record { ptr = (b₁₁, o₁₁); name = γ₁₁; now = ys₁₁ }, tt)))))))))))), (sliceVal (b₀, o₀) (length ys₀) ∷ [], (sliceVal (b₁, o₁) (length ys₁) ∷ [], (sliceVal (b₂, o₂) (length ys₂) ∷ [], (sliceVal (b₃, o₃) (length ys₃) ∷ [], (sliceVal (b₄, o₄) (length ys₄) ∷ [], (sliceVal (b₅, o₅) (length ys₅) ∷ [], (sliceVal (b₆, o₆) (length ys₆) ∷ [], (sliceVal (b₇, o₇) (length ys₇) ∷ [], (sliceVal (b₈, o₈) (length ys₈) ∷ [], (sliceVal (b₉, o₉) (length ys₉) ∷ [], (sliceVal (b₁₀, o₁₀) (length ys₁₀) ∷ [], (sliceVal (b₁₁, o₁₁) (length ys₁₁) ∷ [], tt))))))))))))), tt) (vint w64 (out .number)) (out .number) (zc .0, (zc .1 .0, (zc .1 .1 .0, (zc .1 .1 .1 .0, (zc .1 .1 .1 .1 .0, (z₄ .0, (zc .1 .1 .1 .1 .1 .0, (zc .1 .1 .1 .1 .1 .1 .0, (z₅ .0, (zc .1 .1 .1 .1 .1 .1 .1 .0, (tt, (zc .1 .1 .1 .1 .1 .1 .1 .1 .1 .0, tt)))))))))))) (h₀, (h₁, (h₂, (h₃, (h₄, (h₅, (h₆, (h₇, (h₈, (h₉, (tt, (h₁₁, tt))))))))))))) $ says ! (sequence-slots ys₀ ys₁ ys₂ ys₃ ys₄ ys₅ ys₆ ys₇ ys₈ ys₉ c₁ c₂ e₁ e₂ (zc .0) (zc .1 .0) (zc .1 .1 .0) (zc .1 .1 .1 .0) (zc .1 .1 .1 .1 .0) (out .cpu) (zc .1 .1 .1 .1 .1 .0) (zc .1 .1 .1 .1 .1 .1 .0) (out .dma) (zc .1 .1 .1 .1 .1 .1 .1 .0) (field-row (out .cpu) (array-vals (uint-vals w64) (field-words (out .cpu))) (LL.owed O.the-type O′.the-laws out (vo ∷ []) io .0) .1 .0 .1) (field-row (out .dma) (array-vals (uint-vals w64) (field-words (out .dma))) (LL.owed O.the-type O′.the-laws out (vo ∷ []) io .1 .0) .1 .0 .1) (z₄ .0) (z₅ .0) e₄ e₅ (out .number) ys₁₁ (zc .1 .1 .1 .1 .1 .1 .1 .1 .1 .0) ys₁₀ ec) $
       nothing ! $
-      move ! (5 ∷ 0 ∷ []) $
-      join ! $
-      move ! (5 ∷ 0 ∷ []) $
-      join ! $
-      move ! (5 ∷ 0 ∷ []) $
-      join ! $
-      move ! (1 ∷ 0 ∷ []) $
-      join ! $
-      move ! (4 ∷ 0 ∷ []) $
-      join ! $
-      move ! (4 ∷ 0 ∷ []) $
-      join ! $
-      move ! (2 ∷ 0 ∷ []) $
-      join ! $
-      move ! (3 ∷ 0 ∷ []) $
-      join ! $
-      move ! (3 ∷ 0 ∷ []) $
-      join ! $
-      move ! (3 ∷ 0 ∷ []) $
-      join ! $
-      move ! (3 ∷ 0 ∷ []) $
-      join ! $
-      move ! (3 ∷ 0 ∷ []) $
-      join ! $
+      move ! (14 ∷ 13 ∷ 12 ∷ 11 ∷ 10 ∷ 3 ∷ 9 ∷ 8 ∷ 1 ∷ 7 ∷ 6 ∷ 5 ∷ 0 ∷ []) $
+      group ! 13 $
       frame ! $
       nothing ! $
-      move ! (3 ∷ 0 ∷ []) $
-      fjoin ! $
       nothing ! $
-      fjoin ! $
-      move ! (3 ∷ 0 ∷ []) $
-      fjoin ! $
-      move ! (1 ∷ 0 ∷ []) $
-      fjoin ! $
-      move ! (2 ∷ 0 ∷ []) $
-      fjoin ! $
-      move ! (2 ∷ 0 ∷ []) $
-      fjoin ! $
-      move ! (1 ∷ 0 ∷ []) $
-      fjoin ! $
-      move ! (1 ∷ 0 ∷ []) $
-      fjoin ! $
-      move ! (1 ∷ 0 ∷ []) $
-      fjoin ! $
-      move ! (1 ∷ 0 ∷ []) $
-      fjoin ! $
-      move ! (1 ∷ 0 ∷ []) $
-      fjoin ! $
-      move ! (1 ∷ 0 ∷ []) $
-      fjoin ! $
-      frame ! $ owned ! u64 (Is u64) (uint-makes 𝓤 H A W w64) (out .number) _ (LL.owed O.the-type O′.the-laws out (vo ∷ []) io .1 .1 .0) $ done !)))))))))))))))))))))))))))))))))))))))))))))))))))))))))))))))))))))))))))))))))))
+      move ! (12 ∷ 11 ∷ 10 ∷ 9 ∷ 8 ∷ 3 ∷ 7 ∷ 6 ∷ 2 ∷ 5 ∷ 0 ∷ 4 ∷ 1 ∷ []) $
+      fwhole W ! _ (_ ∷ _ ∷ _ ∷ _ ∷ _ ∷ _ ∷ _ ∷ _ ∷ _ ∷ _ ∷ _ ∷ _ ∷ []) $
+      frame ! $ owned ! u64 (Is u64) (uint-makes 𝓤 H A W w64) (out .number) _ (LL.owed O.the-type O′.the-laws out (vo ∷ []) io .1 .1 .0) $ done !)))))))))))))))))))))))))))))))))))))))
 
 module _ {M : Type 1} (𝓤 : URA M) (H : Heap 𝓤) (A : Atoms 𝓤) (W : Given 𝓤 H A) (mem : Memory → SProp 𝓤) (run : Routine → Fun 𝓤) (𝓣 : Tables 𝓤 H) (known-load : Triple 𝓤 (𝓣 .C #load) (Load 𝓤 H A mem run)) (known-store : Triple 𝓤 (𝓣 .C #store) (Store 𝓤 H A mem run)) (known-core : Triple 𝓤 (𝓣 .C #core) (Core 𝓤 H A mem run)) where
   entry-walks : Walks 𝓤 H A entry′.ended stayed (WpFn 𝓤 H (𝓣 .C) (𝓣 .Λ) code.function) (entry′.clauses 𝓤 H A mem run)
@@ -674,6 +287,6 @@ tiligormis-sequence-spec 𝓤 H 𝓜 𝓖 𝓡 =
     entered 𝓤 H (tripleOf 𝓤 H (𝓖 .A) entry′.signature (entry′.spec 𝓤 H (𝓖 .A) (𝓜 .mem) (𝓡 .run)))
     (tables 𝓤 H 𝓜 𝓡 code.env .C) (tables 𝓤 H 𝓜 𝓡 code.env .Λ) #entry code.function (code.unfolded 𝓤 H 𝓜 𝓡)
     (entry-meets 𝓤 H (𝓖 .A) (givenOf 𝓤 H 𝓜 𝓖) (𝓜 .mem) (𝓡 .run) (tablesOf 𝓤 H 𝓜 (tables 𝓤 H 𝓜 𝓡 code.env))
-    (cited 𝓤 H (Load 𝓤 H (𝓖 .A) (𝓜 .mem) (𝓡 .run)) 𝓜 𝓡 code.env #load load-def.routine code.calls-tiligormis·load (load-thm.met 𝓤 H 𝓜 𝓖 𝓡))
-    (cited 𝓤 H (Store 𝓤 H (𝓖 .A) (𝓜 .mem) (𝓡 .run)) 𝓜 𝓡 code.env #store store-def.routine code.calls-tiligormis·store (store-thm.met 𝓤 H 𝓜 𝓖 𝓡))
+    (cited 𝓤 H (Load 𝓤 H (𝓖 .A) (𝓜 .mem) (𝓡 .run)) 𝓜 𝓡 code.env #load load-def.routine code.calls-slots·load (load-thm.met 𝓤 H 𝓜 𝓖 𝓡))
+    (cited 𝓤 H (Store 𝓤 H (𝓖 .A) (𝓜 .mem) (𝓡 .run)) 𝓜 𝓡 code.env #store store-def.routine code.calls-slots·store (store-thm.met 𝓤 H 𝓜 𝓖 𝓡))
     (cited 𝓤 H (Core 𝓤 H (𝓖 .A) (𝓜 .mem) (𝓡 .run)) 𝓜 𝓡 code.env #core core-def.routine code.calls-cores·sequence (core-thm.met 𝓤 H 𝓜 𝓖 𝓡)))

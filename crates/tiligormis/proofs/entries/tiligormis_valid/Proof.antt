@@ -15,9 +15,9 @@ use ghost.Atoms.{Atoms, sem}
 use contract.Monad.{Fun, fact}
 use contract.Lifetimes.{Lfts}
 use contract.Running.{givenOf, tables, tablesOf}
-use types.Kit.{Given, ‵, raw, _⊛_, some, later, _$_, _∵_, !, qed, move, keep, drop, use1, use2, split, join, group, pick, fsplit, fjoin, suffices, frame, await, done}
+use types.Kit.{Given, ‵, raw, _⊛_, some, later, _$_, _∵_, !, qed, move, keep, drop, use1, use2, split, join, group, pick, fjoin, suffices, frame, await, done}
 use types.Part.{whole, sub, look-in}
-use types.Run.{look, init, forget, stop, fld, from, load, of-opd, and-then, no-more, assigns, land, returns, enter, alloc1, alloc0, params1, pass1, pass0, free1, free0}
+use types.Run.{look, init, stop, fld, from, load, of-opd, and-then, no-more, assigns, land, returns, enter, params1}
 use sound.WpLaws.{FmC, fmOf, WpFn-mono}
 use denote.RattleType.{RattleType, owns}
 use denote.Laws.{Is, shows}
@@ -41,18 +41,19 @@ use Rattle.numbers.specs.Decides.{Decides}
 use Rattle.cores.specs.Boxes.{box, BoxValid}
 use Rattle.cores.specs.Given.{Whole, same}
 use Rattle.tiligormis.specs.BoxLaws.{decides-slots}
-use Rattle.tiligormis.specs.Slots.{AllFit, loaded}
-use Rattle.tiligormis.specs.declared.Slot.{Slot}
-use Rattle.tiligormis.proofs.Rows.{R, Row, row-makes, row-typed}
+use Rattle.slots.specs.Slots.{AllFit, loaded}
+use Rattle.slots.specs.declared.Slot.{Slot}
+use Rattle.slots.proofs.Rows.{R, Row, row-makes, row-typed}
 use denote.Plain.{Boolean, bool-lawful, bool-makes}
-use Rattle.tiligormis.proofs.load as load′
-use Rattle.tiligormis.proofs.load.Symbol as load-def
-use Rattle.tiligormis.proofs.load.Symbol.{name as #load}
-use Rattle.tiligormis.proofs.load.Met as load-thm
+use Rattle.slots.proofs.load as load′
+use Rattle.slots.proofs.load.Symbol as load-def
+use Rattle.slots.proofs.load.Symbol.{name as #load}
+use Rattle.slots.proofs.load.Met as load-thm
 use Rattle.cores.proofs.valid as core′
 use Rattle.cores.proofs.valid.Symbol as core-def
 use Rattle.cores.proofs.valid.Symbol.{name as #core}
 use Rattle.cores.proofs.valid.Met as core-thm
+use Rattle.tiligormis.proofs.AtOnce.{alloc-all, pass-all, free-all, apart, fapart, fwhole}
 use Rattle.tiligormis.proofs.entries.tiligormis_valid.Key.{name as #entry}
 use Rattle.tiligormis.proofs.entries.tiligormis_valid as entry′
 use Rattle.tiligormis.proofs.entries.tiligormis_valid.Statement as stated
@@ -98,47 +99,15 @@ module _ {M : Type 1} (𝓤 : URA M) (H : Heap 𝓤) (A : Atoms 𝓤) (W : Given
   goes-core c₁ v₁ i₁ c₂ v₂ i₂ =
       qed W (‵ (flft κ₀ q₀) ∷ ‵ (flft κ₁ q₁) ∷ ‵ (flft κ₂ q₂) ∷ ‵ (flft κ₃ q₃) ∷ ‵ (flft κ₄ q₄) ∷ ‵ (flft κ₆ q₆) ∷ ‵ (flft κ₇ q₇) ∷ ‵ (flft κ₉ q₉) ∷ ‵ (ShrSlice (named 0) κ₀ u64 .own (record { ptr = (b₀, o₀); name = γ₀; now = ys₀ }) (sliceVal (b₀, o₀) (length ys₀) ∷ [])) ∷ ‵ (ShrSlice (named 1) κ₁ u64 .own (record { ptr = (b₁, o₁); name = γ₁; now = ys₁ }) (sliceVal (b₁, o₁) (length ys₁) ∷ [])) ∷ ‵ (ShrSlice (named 2) κ₂ u64 .own (record { ptr = (b₂, o₂); name = γ₂; now = ys₂ }) (sliceVal (b₂, o₂) (length ys₂) ∷ [])) ∷ ‵ (ShrSlice (named 3) κ₃ u64 .own (record { ptr = (b₃, o₃); name = γ₃; now = ys₃ }) (sliceVal (b₃, o₃) (length ys₃) ∷ [])) ∷ ‵ (ShrSlice (named 4) κ₄ u64 .own (record { ptr = (b₄, o₄); name = γ₄; now = ys₄ }) (sliceVal (b₄, o₄) (length ys₄) ∷ [])) ∷ ‵ (ShrSlice (named 6) κ₆ u64 .own (record { ptr = (b₆, o₆); name = γ₆; now = ys₆ }) (sliceVal (b₆, o₆) (length ys₆) ∷ [])) ∷ ‵ (ShrSlice (named 7) κ₇ u64 .own (record { ptr = (b₇, o₇); name = γ₇; now = ys₇ }) (sliceVal (b₇, o₇) (length ys₇) ∷ [])) ∷ ‵ (ShrSlice (named 9) κ₉ u64 .own (record { ptr = (b₉, o₉); name = γ₉; now = ys₉ }) (sliceVal (b₉, o₉) (length ys₉) ∷ [])) ∷ []) ∵
       nothing ! $
-      move ! (8 ∷ 0 ∷ []) $
-      join ! $
-      move ! (7 ∷ 0 ∷ []) $
-      join ! $
-      move ! (6 ∷ 0 ∷ []) $
-      join ! $
-      move ! (5 ∷ 0 ∷ []) $
-      join ! $
-      move ! (4 ∷ 0 ∷ []) $
-      join ! $
-      move ! (3 ∷ 0 ∷ []) $
-      join ! $
-      move ! (2 ∷ 0 ∷ []) $
-      join ! $
-      move ! (1 ∷ 0 ∷ []) $
-      join ! $
+      move ! (1 ∷ 2 ∷ 3 ∷ 4 ∷ 5 ∷ 6 ∷ 7 ∷ 8 ∷ 0 ∷ []) $
+      group ! 9 $
       nothing ! $
       owned ! Row (Is Row) (row-makes 𝓤 H A W) c₂ _ i₂ $
-      fjoin ! $
       owned ! Row (Is Row) (row-makes 𝓤 H A W) c₁ _ i₁ $
-      fjoin ! $
       owned ! usize (Is usize) (uint-makes 𝓤 H A W w64) (length ys₈) _ (refl, g₈ .0) $
-      fjoin ! $
       owned ! usize (Is usize) (uint-makes 𝓤 H A W w64) (length ys₅) _ (refl, g₅ .0) $
-      fjoin ! $
-      move ! (9 ∷ 0 ∷ []) $
-      fjoin ! $
-      move ! (8 ∷ 0 ∷ []) $
-      fjoin ! $
-      move ! (7 ∷ 0 ∷ []) $
-      fjoin ! $
-      move ! (6 ∷ 0 ∷ []) $
-      fjoin ! $
-      move ! (5 ∷ 0 ∷ []) $
-      fjoin ! $
-      move ! (4 ∷ 0 ∷ []) $
-      fjoin ! $
-      move ! (3 ∷ 0 ∷ []) $
-      fjoin ! $
-      move ! (2 ∷ 0 ∷ []) $
-      fjoin ! $
+      move ! (6 ∷ 7 ∷ 8 ∷ 9 ∷ 10 ∷ 11 ∷ 12 ∷ 13 ∷ 0 ∷ 1 ∷ 2 ∷ 3 ∷ 4 ∷ []) $
+      fwhole W ! _ (_ ∷ _ ∷ _ ∷ _ ∷ _ ∷ _ ∷ _ ∷ _ ∷ _ ∷ _ ∷ _ ∷ _ ∷ []) $
       move ! (1 ∷ 0 ∷ []) $
       join ! $ frame ! $ nothing ! $ done !
 
@@ -146,92 +115,30 @@ module _ {M : Type 1} (𝓤 : URA M) (H : Heap 𝓤) (A : Atoms 𝓤) (W : Given
       → ent 𝓤 (onEntry 𝓤 H A entry′.signature (κ₀, (κ₁, (κ₂, (κ₃, (κ₄, (κ₅, (κ₆, (κ₇, (κ₈, (κ₉, tt)))))))))) (q₀, (q₁, (q₂, (q₃, (q₄, (q₅, (q₆, (q₇, (q₈, (q₉, tt)))))))))) (record { ptr = (b₀, o₀); name = γ₀; now = ys₀ }, (record { ptr = (b₁, o₁); name = γ₁; now = ys₁ }, (record { ptr = (b₂, o₂); name = γ₂; now = ys₂ }, (record { ptr = (b₃, o₃); name = γ₃; now = ys₃ }, (record { ptr = (b₄, o₄); name = γ₄; now = ys₄ }, (record { ptr = (b₅, o₅); name = γ₅; now = ys₅ }, (record { ptr = (b₆, o₆); name = γ₆; now = ys₆ }, (record { ptr = (b₇, o₇); name = γ₇; now = ys₇ }, (record { ptr = (b₈, o₈); name = γ₈; now = ys₈ }, (record { ptr = (b₉, o₉); name = γ₉; now = ys₉ }, tt)))))))))) (sliceVal (b₀, o₀) (length ys₀) ∷ [], (sliceVal (b₁, o₁) (length ys₁) ∷ [], (sliceVal (b₂, o₂) (length ys₂) ∷ [], (sliceVal (b₃, o₃) (length ys₃) ∷ [], (sliceVal (b₄, o₄) (length ys₄) ∷ [], (sliceVal (b₅, o₅) (length ys₅) ∷ [], (sliceVal (b₆, o₆) (length ys₆) ∷ [], (sliceVal (b₇, o₇) (length ys₇) ∷ [], (sliceVal (b₈, o₈) (length ys₈) ∷ [], (sliceVal (b₉, o₉) (length ys₉) ∷ [], tt))))))))))) (WpFn 𝓤 H (𝓣 .C) (𝓣 .Λ) code.function (sliceVal (b₀, o₀) (length ys₀) ∷ sliceVal (b₁, o₁) (length ys₁) ∷ sliceVal (b₂, o₂) (length ys₂) ∷ sliceVal (b₃, o₃) (length ys₃) ∷ sliceVal (b₄, o₄) (length ys₄) ∷ sliceVal (b₅, o₅) (length ys₅) ∷ sliceVal (b₆, o₆) (length ys₆) ∷ sliceVal (b₇, o₇) (length ys₇) ∷ sliceVal (b₈, o₈) (length ys₈) ∷ sliceVal (b₉, o₉) (length ys₉) ∷ []) Post)
   walk 𝓣 fm known-load known-core =
       qed W ((‵ (flft κ₀ q₀) ⊛ (‵ (flft κ₁ q₁) ⊛ (‵ (flft κ₂ q₂) ⊛ (‵ (flft κ₃ q₃) ⊛ (‵ (flft κ₄ q₄) ⊛ (‵ (flft κ₅ q₅) ⊛ (‵ (flft κ₆ q₆) ⊛ (‵ (flft κ₇ q₇) ⊛ (‵ (flft κ₈ q₈) ⊛ (‵ (flft κ₉ q₉) ⊛ ‵ ftrue)))))))))) ∷ ‵ (owns (ShrSlice (named 0) κ₀ u64 ∷ ShrSlice (named 1) κ₁ u64 ∷ ShrSlice (named 2) κ₂ u64 ∷ ShrSlice (named 3) κ₃ u64 ∷ ShrSlice (named 4) κ₄ u64 ∷ ShrSlice (named 5) κ₅ R ∷ ShrSlice (named 6) κ₆ u64 ∷ ShrSlice (named 7) κ₇ u64 ∷ ShrSlice (named 8) κ₈ R ∷ ShrSlice (named 9) κ₉ u64 ∷ []) (record { ptr = (b₀, o₀); name = γ₀; now = ys₀ }, (record { ptr = (b₁, o₁); name = γ₁; now = ys₁ }, (record { ptr = (b₂, o₂); name = γ₂; now = ys₂ }, (record { ptr = (b₃, o₃); name = γ₃; now = ys₃ }, (record { ptr = (b₄, o₄); name = γ₄; now = ys₄ }, (record { ptr = (b₅, o₅); name = γ₅; now = ys₅ }, (record { ptr = (b₆, o₆); name = γ₆; now = ys₆ }, (record { ptr = (b₇, o₇); name = γ₇; now = ys₇ }, (record { ptr = (b₈, o₈); name = γ₈; now = ys₈ }, (record { ptr = (b₉, o₉); name = γ₉; now = ys₉ }, tt)))))))))) (sliceVal (b₀, o₀) (length ys₀) ∷ [], (sliceVal (b₁, o₁) (length ys₁) ∷ [], (sliceVal (b₂, o₂) (length ys₂) ∷ [], (sliceVal (b₃, o₃) (length ys₃) ∷ [], (sliceVal (b₄, o₄) (length ys₄) ∷ [], (sliceVal (b₅, o₅) (length ys₅) ∷ [], (sliceVal (b₆, o₆) (length ys₆) ∷ [], (sliceVal (b₇, o₇) (length ys₇) ∷ [], (sliceVal (b₈, o₈) (length ys₈) ∷ [], (sliceVal (b₉, o₉) (length ys₉) ∷ [], tt))))))))))) ∷ []) ∵ enter ! (𝓣 .C) (𝓣 .Λ) code.function (sliceVal (b₀, o₀) (length ys₀) ∷ sliceVal (b₁, o₁) (length ys₁) ∷ sliceVal (b₂, o₂) (length ys₂) ∷ sliceVal (b₃, o₃) (length ys₃) ∷ sliceVal (b₄, o₄) (length ys₄) ∷ sliceVal (b₅, o₅) (length ys₅) ∷ sliceVal (b₆, o₆) (length ys₆) ∷ sliceVal (b₇, o₇) (length ys₇) ∷ sliceVal (b₈, o₈) (length ys₈) ∷ sliceVal (b₉, o₉) (length ys₉) ∷ []) _ $
-      alloc1 ! (λ l₀.
-      alloc1 ! (λ l₁.
-      alloc1 ! (λ l₂.
-      alloc1 ! (λ l₃.
-      alloc1 ! (λ l₄.
-      alloc1 ! (λ l₅.
-      alloc1 ! (λ l₆.
-      alloc1 ! (λ l₇.
-      alloc1 ! (λ l₈.
-      alloc1 ! (λ l₉.
-      alloc1 ! (λ l₁₀.
-      alloc1 ! (λ l₁₁.
-      alloc1 ! (λ l₁₂.
-      alloc1 ! (λ l₁₃.
-      alloc1 ! (λ l₁₄.
-      alloc0 ! $ params1 ! $
-      pass1 ! (init ! 26 refl (tt, (tt, (record { fits = g₀ .0 }, tt)))) $
-      pass1 ! (init ! 24 refl (tt, (tt, (record { fits = g₁ .0 }, tt)))) $
-      pass1 ! (init ! 22 refl (tt, (tt, (record { fits = g₂ .0 }, tt)))) $
-      pass1 ! (init ! 20 refl (tt, (tt, (record { fits = g₃ .0 }, tt)))) $
-      pass1 ! (init ! 18 refl (tt, (tt, (record { fits = g₄ .0 }, tt)))) $
-      pass1 ! (init ! 16 refl (tt, (tt, (record { fits = g₅ .0 }, tt)))) $
-      pass1 ! (init ! 14 refl (tt, (tt, (record { fits = g₆ .0 }, tt)))) $
-      pass1 ! (init ! 12 refl (tt, (tt, (record { fits = g₇ .0 }, tt)))) $
-      pass1 ! (init ! 10 refl (tt, (tt, (record { fits = g₈ .0 }, tt)))) $
-      pass1 ! (init ! 8 refl (tt, (tt, (record { fits = g₉ .0 }, tt)))) $
-      pass0 ! $
+      alloc-all ! (λ l₀ l₁ l₂ l₃ l₄ l₅ l₆ l₇ l₈ l₉ l₁₀ l₁₁ l₁₂ l₁₃ l₁₄.
+      params1 ! $
+      pass-all ! 26 ((refl, (tt, (tt, (record { fits = g₀ .0 }, tt)))), ((refl, (tt, (tt, (record { fits = g₁ .0 }, tt)))), ((refl, (tt, (tt, (record { fits = g₂ .0 }, tt)))), ((refl, (tt, (tt, (record { fits = g₃ .0 }, tt)))), ((refl, (tt, (tt, (record { fits = g₄ .0 }, tt)))), ((refl, (tt, (tt, (record { fits = g₅ .0 }, tt)))), ((refl, (tt, (tt, (record { fits = g₆ .0 }, tt)))), ((refl, (tt, (tt, (record { fits = g₇ .0 }, tt)))), ((refl, (tt, (tt, (record { fits = g₈ .0 }, tt)))), ((refl, (tt, (tt, (record { fits = g₉ .0 }, tt)))), tt)))))))))) $
       move ! (30 ∷ []) $
-      split ! $
-      move ! (1 ∷ []) $
-      split ! $
-      move ! (1 ∷ []) $
-      split ! $
-      move ! (1 ∷ []) $
-      split ! $
-      move ! (1 ∷ []) $
-      split ! $
-      move ! (1 ∷ []) $
-      split ! $
-      move ! (1 ∷ []) $
-      split ! $
-      move ! (1 ∷ []) $
-      split ! $
-      move ! (1 ∷ []) $
-      split ! $
-      move ! (1 ∷ []) $
-      split ! $
-      move ! (1 ∷ []) $
+      apart W ! _ (_ ∷ _ ∷ _ ∷ _ ∷ _ ∷ _ ∷ _ ∷ _ ∷ _ ∷ _ ∷ []) $
       drop ! $
       move ! (40 ∷ []) $
-      fsplit ! $
-      move ! (1 ∷ []) $
-      fsplit ! $
-      move ! (1 ∷ []) $
-      fsplit ! $
-      move ! (1 ∷ []) $
-      fsplit ! $
-      move ! (1 ∷ []) $
-      fsplit ! $
-      move ! (1 ∷ []) $
-      fsplit ! $
-      move ! (1 ∷ []) $
-      fsplit ! $
-      move ! (1 ∷ []) $
-      fsplit ! $
-      move ! (1 ∷ []) $
-      fsplit ! $
-      move ! (1 ∷ []) $
-      fsplit ! $
-      move ! (1 ∷ []) $
-      keep ! (10 ∷ 20 ∷ 9 ∷ 19 ∷ 8 ∷ 18 ∷ 7 ∷ 17 ∷ 6 ∷ 16 ∷ 5 ∷ 15 ∷ 4 ∷ 14 ∷ 3 ∷ 13 ∷ 2 ∷ 12 ∷ 1 ∷ 11 ∷ 21 ∷ 22 ∷ 23 ∷ 24 ∷ 25 ∷ 26 ∷ 27 ∷ 28 ∷ 29 ∷ 30 ∷ 31 ∷ 32 ∷ 33 ∷ 34 ∷ 35 ∷ 36 ∷ 37 ∷ 38 ∷ 39 ∷ 40 ∷ 41 ∷ 42 ∷ 43 ∷ 44 ∷ 45 ∷ 46 ∷ 47 ∷ 48 ∷ 49 ∷ 50 ∷ []) $
-      assigns ! (of-opd ! (load ! (from ! (fld ! refl (stop !))) (look-in ! 36 (sub ! 1 refl (whole !))))) (from ! (stop !)) (init ! 26 refl (tt, record { fits = g₅ .0 })) $
-      assigns ! (of-opd ! (load ! (from ! (fld ! refl (stop !))) (look-in ! 30 (sub ! 1 refl (whole !))))) (from ! (stop !)) (init ! 24 refl (tt, record { fits = g₈ .0 })) $
+      fapart W ! _ (_ ∷ _ ∷ _ ∷ _ ∷ _ ∷ _ ∷ _ ∷ _ ∷ _ ∷ _ ∷ []) $
+      keep ! (10 ∷ 20 ∷ 9 ∷ 19 ∷ 8 ∷ 18 ∷ 7 ∷ 17 ∷ 6 ∷ 16 ∷ 5 ∷ 15 ∷ 4 ∷ 14 ∷ 3 ∷ 13 ∷ 2 ∷ 12 ∷ 1 ∷ 11 ∷ 21 ∷ 23 ∷ 25 ∷ 27 ∷ 29 ∷ 31 ∷ 33 ∷ 35 ∷ 37 ∷ 39 ∷ 41 ∷ 43 ∷ 45 ∷ 47 ∷ 49 ∷ 22 ∷ 24 ∷ 26 ∷ 28 ∷ 30 ∷ 32 ∷ 34 ∷ 36 ∷ 38 ∷ 40 ∷ 42 ∷ 44 ∷ 46 ∷ 48 ∷ 50 ∷ []) $
+      assigns ! (of-opd ! (load ! (from ! (fld ! refl (stop !))) (look-in ! 28 (sub ! 1 refl (whole !))))) (from ! (stop !)) (init ! 23 refl (tt, record { fits = g₅ .0 })) $
+      assigns ! (of-opd ! (load ! (from ! (fld ! refl (stop !))) (look-in ! 25 (sub ! 1 refl (whole !))))) (from ! (stop !)) (init ! 22 refl (tt, record { fits = g₈ .0 })) $
       move ! (11 ∷ 10 ∷ []) $
       use2 W (raw (Load 𝓤 H A mem run .pre to-load-1)) goes-1 $
-      calls-at ! fm (Load 𝓤 H A mem run) known-load to-load-1 (and-then ! (load ! (from ! (stop !)) (look ! 35 refl)) (no-more !)) (λ v₁.
+      calls-at ! fm (Load 𝓤 H A mem run) known-load to-load-1 (and-then ! (load ! (from ! (stop !)) (look ! 27 refl)) (no-more !)) (λ v₁.
       use1 W (later (some (λ (r : List ℕ). ((‵ (flft κ₅ q₅) ⊛ ‵ ftrue) ⊛ ‵ (Row .own r (v₁ ∷ []))) ⊛ raw (ensured 𝓤 H A load′.ended (load′.clauses 𝓤 H A mem run) (κ₅, tt) (record { ptr = (b₅, o₅); name = γ₅; now = ys₅ }, tt) tt r)))) (id⊢ 𝓤 _) $ await ! tt $ pick ! (λ c₁.
       split ! $ move ! (1 ∷ []) $ use1 W (raw (fact 𝓤 ((c₁ ≡ loaded ys₅) × AllFit ys₅))) (load-of 𝓤 H A mem run (κ₅, tt) (record { ptr = (b₅, o₅); name = γ₅; now = ys₅ }) c₁) $ heard ! ((c₁ ≡ loaded ys₅) × AllFit ys₅) (λ e₁. split ! $
       move ! (1 ∷ []) $
       facts ! Row (Is Row) (shows 𝓤 H A Row) c₁ (v₁ ∷ []) (λ i₁. split ! $
-      land ! (from ! (stop !)) (init ! 22 refl (row-typed 𝓤 H A W c₁ v₁ i₁)) $
+      land ! (from ! (stop !)) (init ! 21 refl (row-typed 𝓤 H A W c₁ v₁ i₁)) $
       move ! (1 ∷ []) $
       drop ! $
       move ! (16 ∷ 15 ∷ []) $
       use2 W (raw (Load 𝓤 H A mem run .pre to-load-2)) goes-2 $
-      calls-at ! fm (Load 𝓤 H A mem run) known-load to-load-2 (and-then ! (load ! (from ! (stop !)) (look ! 28 refl)) (no-more !)) (λ v₂.
+      calls-at ! fm (Load 𝓤 H A mem run) known-load to-load-2 (and-then ! (load ! (from ! (stop !)) (look ! 23 refl)) (no-more !)) (λ v₂.
       use1 W (later (some (λ (r : List ℕ). ((‵ (flft κ₈ q₈) ⊛ ‵ ftrue) ⊛ ‵ (Row .own r (v₂ ∷ []))) ⊛ raw (ensured 𝓤 H A load′.ended (load′.clauses 𝓤 H A mem run) (κ₈, tt) (record { ptr = (b₈, o₈); name = γ₈; now = ys₈ }, tt) tt r)))) (id⊢ 𝓤 _) $ await ! tt $ pick ! (λ c₂.
       split ! $ move ! (1 ∷ []) $ use1 W (raw (fact 𝓤 ((c₂ ≡ loaded ys₈) × AllFit ys₈))) (load-of 𝓤 H A mem run (κ₈, tt) (record { ptr = (b₈, o₈); name = γ₈; now = ys₈ }) c₂) $ heard ! ((c₂ ≡ loaded ys₈) × AllFit ys₈) (λ e₂. split ! $
       move ! (1 ∷ []) $
@@ -241,147 +148,37 @@ module _ {M : Type 1} (𝓤 : URA M) (H : Heap 𝓤) (A : Atoms 𝓤) (W : Given
       drop ! $
       move ! (3 ∷ 5 ∷ 7 ∷ 9 ∷ 11 ∷ 13 ∷ 15 ∷ 17 ∷ 2 ∷ 4 ∷ 6 ∷ 8 ∷ 10 ∷ 12 ∷ 14 ∷ 16 ∷ []) $
       group ! 16 $ use1 W (raw (Core 𝓤 H A mem run .pre (to-core c₁ v₁ i₁ c₂ v₂ i₂))) (goes-core c₁ v₁ i₁ c₂ v₂ i₂) $
-      calls-at ! fm (Core 𝓤 H A mem run) known-core (to-core c₁ v₁ i₁ c₂ v₂ i₂) (and-then ! (load ! (from ! (stop !)) (look ! 29 refl)) (and-then ! (load ! (from ! (stop !)) (look ! 27 refl)) (and-then ! (load ! (from ! (stop !)) (look ! 25 refl)) (and-then ! (load ! (from ! (stop !)) (look ! 23 refl)) (and-then ! (load ! (from ! (stop !)) (look ! 21 refl)) (and-then ! (load ! (from ! (stop !)) (look ! 17 refl)) (and-then ! (load ! (from ! (stop !)) (look ! 15 refl)) (and-then ! (load ! (from ! (stop !)) (look ! 11 refl)) (and-then ! (load ! (from ! (stop !)) (look ! 9 refl)) (and-then ! (load ! (from ! (stop !)) (look ! 7 refl)) (and-then ! (load ! (from ! (stop !)) (look ! 5 refl)) (and-then ! (load ! (from ! (stop !)) (look ! 3 refl)) (no-more !))))))))))))) (λ vo.
+      calls-at ! fm (Core 𝓤 H A mem run) known-core (to-core c₁ v₁ i₁ c₂ v₂ i₂) (and-then ! (load ! (from ! (stop !)) (look ! 16 refl)) (and-then ! (load ! (from ! (stop !)) (look ! 15 refl)) (and-then ! (load ! (from ! (stop !)) (look ! 14 refl)) (and-then ! (load ! (from ! (stop !)) (look ! 13 refl)) (and-then ! (load ! (from ! (stop !)) (look ! 12 refl)) (and-then ! (load ! (from ! (stop !)) (look ! 10 refl)) (and-then ! (load ! (from ! (stop !)) (look ! 9 refl)) (and-then ! (load ! (from ! (stop !)) (look ! 7 refl)) (and-then ! (load ! (from ! (stop !)) (look ! 6 refl)) (and-then ! (load ! (from ! (stop !)) (look ! 5 refl)) (and-then ! (load ! (from ! (stop !)) (look ! 4 refl)) (and-then ! (load ! (from ! (stop !)) (look ! 3 refl)) (no-more !))))))))))))) (λ vo.
       use1 W (later (some (λ (out : Bool). ((‵ (flft κ₀ q₀) ⊛ (‵ (flft κ₁ q₁) ⊛ (‵ (flft κ₂ q₂) ⊛ (‵ (flft κ₃ q₃) ⊛ (‵ (flft κ₄ q₄) ⊛ (‵ (flft κ₆ q₆) ⊛ (‵ (flft κ₇ q₇) ⊛ (‵ (flft κ₉ q₉) ⊛ ‵ ftrue)))))))) ⊛ ‵ (Or .own out (vo ∷ []))) ⊛ raw (ensured 𝓤 H A core′.ended (core′.clauses 𝓤 H A mem run) (κ₀, (κ₁, (κ₂, (κ₃, (κ₄, (κ₆, (κ₇, (κ₉, tt)))))))) (record { ptr = (b₀, o₀); name = γ₀; now = ys₀ }, (record { ptr = (b₁, o₁); name = γ₁; now = ys₁ }, (record { ptr = (b₂, o₂); name = γ₂; now = ys₂ }, (record { ptr = (b₃, o₃); name = γ₃; now = ys₃ }, (record { ptr = (b₄, o₄); name = γ₄; now = ys₄ }, (record { ptr = (b₆, o₆); name = γ₆; now = ys₆ }, (record { ptr = (b₇, o₇); name = γ₇; now = ys₇ }, (record { ptr = (b₉, o₉); name = γ₉; now = ys₉ }, (length ys₅, (length ys₈, (c₁, (c₂, tt)))))))))))) tt out)))) (id⊢ 𝓤 _) $ await ! tt $ pick ! (λ out.
       split ! $ move ! (1 ∷ []) $ use1 W (some (λ (zc : Lasts core′.ended (κ₀, (κ₁, (κ₂, (κ₃, (κ₄, (κ₆, (κ₇, (κ₉, tt)))))))) (record { ptr = (b₀, o₀); name = γ₀; now = ys₀ }, (record { ptr = (b₁, o₁); name = γ₁; now = ys₁ }, (record { ptr = (b₂, o₂); name = γ₂; now = ys₂ }, (record { ptr = (b₃, o₃); name = γ₃; now = ys₃ }, (record { ptr = (b₄, o₄); name = γ₄; now = ys₄ }, (record { ptr = (b₆, o₆); name = γ₆; now = ys₆ }, (record { ptr = (b₇, o₇); name = γ₇; now = ys₇ }, (record { ptr = (b₉, o₉); name = γ₉; now = ys₉ }, (length ys₅, (length ys₈, (c₁, (c₂, tt))))))))))))). ‵ (lasts core′.ended (κ₀, (κ₁, (κ₂, (κ₃, (κ₄, (κ₆, (κ₇, (κ₉, tt)))))))) (record { ptr = (b₀, o₀); name = γ₀; now = ys₀ }, (record { ptr = (b₁, o₁); name = γ₁; now = ys₁ }, (record { ptr = (b₂, o₂); name = γ₂; now = ys₂ }, (record { ptr = (b₃, o₃); name = γ₃; now = ys₃ }, (record { ptr = (b₄, o₄); name = γ₄; now = ys₄ }, (record { ptr = (b₆, o₆); name = γ₆; now = ys₆ }, (record { ptr = (b₇, o₇); name = γ₇; now = ys₇ }, (record { ptr = (b₉, o₉); name = γ₉; now = ys₉ }, (length ys₅, (length ys₈, (c₁, (c₂, tt)))))))))))) zc) ⊛ raw (fact 𝓤 (Decides out (Whole (length ys₅) (length ys₈) × BoxValid same (box ys₀ ys₁ ys₂ ys₃ ys₄ c₁ ys₆ ys₇ c₂ ys₉)))))) (id⊢ 𝓤 _) $ pick ! (λ zc. split ! $ move ! (1 ∷ []) $ heard ! (Decides out (Whole (length ys₅) (length ys₈) × BoxValid same (box ys₀ ys₁ ys₂ ys₃ ys₄ c₁ ys₆ ys₇ c₂ ys₉))) (λ ec.
-      fsplit ! $
-      drop ! $
-      fsplit ! $
-      drop ! $
-      fsplit ! $
-      drop ! $
-      fsplit ! $
-      drop ! $
-      fsplit ! $
-      drop ! $
-      fsplit ! $
-      drop ! $
-      fsplit ! $
-      drop ! $
-      fsplit ! $
-      drop ! $
-      fsplit ! $
-      drop ! $
-      fsplit ! $
-      drop ! $
-      fsplit ! $
-      drop ! $
-      fsplit ! $
-      drop ! $
       drop ! $
       split ! $
       move ! (1 ∷ []) $
       facts ! Or (Is Or) (shows 𝓤 H A Or) out (vo ∷ []) (λ io.
-      land ! (from ! (stop !)) (init ! 31 refl (bool-lawful 𝓤 H A W .typed out _ io .0)) $
-      split ! $
-      move ! (1 ∷ []) $
-      split ! $
-      move ! (1 ∷ []) $
-      split ! $
-      move ! (1 ∷ []) $
-      split ! $
-      move ! (1 ∷ []) $
-      split ! $
-      move ! (1 ∷ []) $
-      split ! $
-      move ! (1 ∷ []) $
-      split ! $
-      move ! (1 ∷ []) $
-      split ! $
-      move ! (1 ∷ []) $
+      land ! (from ! (stop !)) (init ! 17 refl (bool-lawful 𝓤 H A W .typed out _ io .0)) $
+      apart W ! _ (_ ∷ _ ∷ _ ∷ _ ∷ _ ∷ _ ∷ _ ∷ _ ∷ []) $
       drop ! $
-      returns ! (look ! 38 refl) $
-      forget ! 38 refl $
-      forget ! 36 refl $
-      forget ! 34 refl $
-      forget ! 32 refl $
-      forget ! 30 refl $
-      forget ! 28 refl $
-      forget ! 26 refl $
-      forget ! 24 refl $
-      forget ! 22 refl $
-      forget ! 20 refl $
-      forget ! 18 refl $
-      forget ! 16 refl $
-      forget ! 14 refl $
-      forget ! 12 refl $
-      forget ! 10 refl $
-      move ! (38 ∷ 39 ∷ []) $
-      free1 ! $
-      move ! (36 ∷ 37 ∷ []) $
-      free1 ! $
-      move ! (34 ∷ 35 ∷ []) $
-      free1 ! $
-      move ! (32 ∷ 33 ∷ []) $
-      free1 ! $
-      move ! (30 ∷ 31 ∷ []) $
-      free1 ! $
-      move ! (28 ∷ 29 ∷ []) $
-      free1 ! $
-      move ! (26 ∷ 27 ∷ []) $
-      free1 ! $
-      move ! (24 ∷ 25 ∷ []) $
-      free1 ! $
-      move ! (22 ∷ 23 ∷ []) $
-      free1 ! $
-      move ! (20 ∷ 21 ∷ []) $
-      free1 ! $
-      move ! (18 ∷ 19 ∷ []) $
-      free1 ! $
-      move ! (16 ∷ 17 ∷ []) $
-      free1 ! $
-      move ! (14 ∷ 15 ∷ []) $
-      free1 ! $
-      move ! (12 ∷ 13 ∷ []) $
-      free1 ! $
-      move ! (10 ∷ 11 ∷ []) $
-      free1 ! $
-      free0 ! $
+      returns ! (look ! 24 refl) $
+      move ! (24 ∷ 39 ∷ 23 ∷ 38 ∷ 22 ∷ 37 ∷ 21 ∷ 36 ∷ 20 ∷ 35 ∷ 19 ∷ 34 ∷ 18 ∷ 33 ∷ 17 ∷ 32 ∷ 16 ∷ 31 ∷ 15 ∷ 30 ∷ 14 ∷ 29 ∷ 13 ∷ 28 ∷ 12 ∷ 27 ∷ 11 ∷ 26 ∷ 10 ∷ 25 ∷ []) $
+      free-all W ! ((_, _, _) ∷ (_, _, _) ∷ (_, _, _) ∷ (_, _, _) ∷ (_, _, _) ∷ (_, _, _) ∷ (_, _, _) ∷ (_, _, _) ∷ (_, _, _) ∷ (_, _, _) ∷ (_, _, _) ∷ (_, _, _) ∷ (_, _, _) ∷ (_, _, _) ∷ (_, _, _) ∷ []) $
       suffices ! _ (ends-at 𝓤 H A entry′.ended stayed (entry′.clauses 𝓤 H A mem run) W (((κ₀, (κ₁, (κ₂, (κ₃, (κ₄, (κ₅, (κ₆, (κ₇, (κ₈, (κ₉, tt)))))))))), (q₀, (q₁, (q₂, (q₃, (q₄, (q₅, (q₆, (q₇, (q₈, (q₉, tt)))))))))), tt, (record { ptr = (b₀, o₀); name = γ₀; now = ys₀ }, (record { ptr = (b₁, o₁); name = γ₁; now = ys₁ }, (record { ptr = (b₂, o₂); name = γ₂; now = ys₂ }, (record { ptr = (b₃, o₃); name = γ₃; now = ys₃ }, (record { ptr = (b₄, o₄); name = γ₄; now = ys₄ }, (record { ptr = (b₅, o₅); name = γ₅; now = ys₅ }, (record { ptr = (b₆, o₆); name = γ₆; now = ys₆ }, (record { ptr = (b₇, o₇); name = γ₇; now = ys₇ }, (record { ptr = (b₈, o₈); name = γ₈; now = ys₈ }, (record { ptr = (b₉, o₉); name = γ₉; now = ys₉ }, tt)))))))))), (sliceVal (b₀, o₀) (length ys₀) ∷ [], (sliceVal (b₁, o₁) (length ys₁) ∷ [], (sliceVal (b₂, o₂) (length ys₂) ∷ [], (sliceVal (b₃, o₃) (length ys₃) ∷ [], (sliceVal (b₄, o₄) (length ys₄) ∷ [], (sliceVal (b₅, o₅) (length ys₅) ∷ [], (sliceVal (b₆, o₆) (length ys₆) ∷ [], (sliceVal (b₇, o₇) (length ys₇) ∷ [], (sliceVal (b₈, o₈) (length ys₈) ∷ [], (sliceVal (b₉, o₉) (length ys₉) ∷ [], tt))))))))))), tt) (vo) (out) (tt, (tt, (tt, (tt, (tt, (tt, (tt, (tt, (tt, (tt, tt)))))))))) (tt, (tt, (tt, (tt, (tt, (tt, (tt, (tt, (tt, (tt, tt))))))))))) $ says ! (decides-slots ys₀ ys₁ ys₂ ys₃ ys₄ ys₅ ys₆ ys₇ ys₈ ys₉ c₁ c₂ e₁ e₂ ec) $
       nothing ! $
-      move ! (1 ∷ 0 ∷ []) $
-      join ! $
-      move ! (8 ∷ 0 ∷ []) $
-      join ! $
-      move ! (1 ∷ 0 ∷ []) $
-      join ! $
-      move ! (1 ∷ 0 ∷ []) $
-      join ! $
-      move ! (6 ∷ 0 ∷ []) $
-      join ! $
-      move ! (1 ∷ 0 ∷ []) $
-      join ! $
-      move ! (1 ∷ 0 ∷ []) $
-      join ! $
-      move ! (1 ∷ 0 ∷ []) $
-      join ! $
-      move ! (1 ∷ 0 ∷ []) $
-      join ! $
-      move ! (1 ∷ 0 ∷ []) $
-      join ! $
+      move ! (8 ∷ 7 ∷ 6 ∷ 5 ∷ 4 ∷ 10 ∷ 3 ∷ 2 ∷ 9 ∷ 1 ∷ 0 ∷ []) $
+      group ! 11 $
       frame ! $
       nothing ! $
       nothing ! $
-      fjoin ! $
       nothing ! $
-      fjoin ! $
       nothing ! $
-      fjoin ! $
       nothing ! $
-      fjoin ! $
       nothing ! $
-      fjoin ! $
       nothing ! $
-      fjoin ! $
       nothing ! $
-      fjoin ! $
       nothing ! $
-      fjoin ! $
       nothing ! $
-      fjoin ! $
       nothing ! $
-      fjoin ! $
-      frame ! $ owned ! Or (Is Or) (bool-makes 𝓤 H A W) out _ io $ done !))))))))))))))))))))))))))))
+      fwhole W ! _ (_ ∷ _ ∷ _ ∷ _ ∷ _ ∷ _ ∷ _ ∷ _ ∷ _ ∷ _ ∷ []) $
+      frame ! $ owned ! Or (Is Or) (bool-makes 𝓤 H A W) out _ io $ done !))))))))))))))
 
 module _ {M : Type 1} (𝓤 : URA M) (H : Heap 𝓤) (A : Atoms 𝓤) (W : Given 𝓤 H A) (mem : Memory → SProp 𝓤) (run : Routine → Fun 𝓤) (𝓣 : Tables 𝓤 H) (known-load : Triple 𝓤 (𝓣 .C #load) (Load 𝓤 H A mem run)) (known-core : Triple 𝓤 (𝓣 .C #core) (Core 𝓤 H A mem run)) where
   entry-walks : Walks 𝓤 H A entry′.ended stayed (WpFn 𝓤 H (𝓣 .C) (𝓣 .Λ) code.function) (entry′.clauses 𝓤 H A mem run)
@@ -397,5 +194,5 @@ tiligormis-valid-spec 𝓤 H 𝓜 𝓖 𝓡 =
     entered 𝓤 H (tripleOf 𝓤 H (𝓖 .A) entry′.signature (entry′.spec 𝓤 H (𝓖 .A) (𝓜 .mem) (𝓡 .run)))
     (tables 𝓤 H 𝓜 𝓡 code.env .C) (tables 𝓤 H 𝓜 𝓡 code.env .Λ) #entry code.function (code.unfolded 𝓤 H 𝓜 𝓡)
     (entry-meets 𝓤 H (𝓖 .A) (givenOf 𝓤 H 𝓜 𝓖) (𝓜 .mem) (𝓡 .run) (tablesOf 𝓤 H 𝓜 (tables 𝓤 H 𝓜 𝓡 code.env))
-    (cited 𝓤 H (Load 𝓤 H (𝓖 .A) (𝓜 .mem) (𝓡 .run)) 𝓜 𝓡 code.env #load load-def.routine code.calls-tiligormis·load (load-thm.met 𝓤 H 𝓜 𝓖 𝓡))
+    (cited 𝓤 H (Load 𝓤 H (𝓖 .A) (𝓜 .mem) (𝓡 .run)) 𝓜 𝓡 code.env #load load-def.routine code.calls-slots·load (load-thm.met 𝓤 H 𝓜 𝓖 𝓡))
     (cited 𝓤 H (Core 𝓤 H (𝓖 .A) (𝓜 .mem) (𝓡 .run)) 𝓜 𝓡 code.env #core core-def.routine code.calls-cores·valid (core-thm.met 𝓤 H 𝓜 𝓖 𝓡)))
