@@ -121,16 +121,16 @@ module _ {M : Type 1} (𝓤 : URA M) (H : Heap 𝓤) (A : Atoms 𝓤) (W : Given
       → ent 𝓤 (onEntry 𝓤 H A entry′.signature (κ₀, tt) (q₀, tt) (record { ptr = (b₀, o₀); name = γ₀; now = ys₀ }, (place, tt)) (sliceVal (b₀, o₀) (length ys₀) ∷ [], (vint w64 place ∷ [], tt))) (WpFn 𝓤 H (𝓣 .C) (𝓣 .Λ) code.function (sliceVal (b₀, o₀) (length ys₀) ∷ vint w64 place ∷ []) Post)
   walk 𝓣 fm known-load known-store known-core =
       qed W ((‵ (flft κ₀ q₀) ⊛ ‵ ftrue) ∷ ‵ (owns (MutSlice (named 0) κ₀ R ∷ u64 ∷ []) (record { ptr = (b₀, o₀); name = γ₀; now = ys₀ }, (place, tt)) (sliceVal (b₀, o₀) (length ys₀) ∷ [], (vint w64 place ∷ [], tt))) ∷ []) ∵ enter ! (𝓣 .C) (𝓣 .Λ) code.function (sliceVal (b₀, o₀) (length ys₀) ∷ vint w64 place ∷ []) _ $
-      alloc-all ! (λ l₀ l₁ l₂ l₃ l₄ l₅ l₆ l₇ l₈ l₉ l₁₀.
+      alloc-all ! (λ l₀ l₁ l₂ l₃ l₄ l₅ l₆ l₇ l₈ l₉ l₁₀ Dies dies.
       params1 ! $
-      pass-all ! 18 ((refl, (tt, (tt, (record { fits = g₀ .0 }, tt)))), ((refl, (uint-lawful 𝓤 H A W w64 .typed place _ g-place .0)), tt)) $
-      move ! (22 ∷ []) $
+      pass-all ! 9 ((refl, (tt, (tt, (record { fits = g₀ .0 }, tt)))), ((refl, (uint-lawful 𝓤 H A W w64 .typed place _ g-place .0)), tt)) $
+      move ! (12 ∷ []) $
       split ! $
       move ! (1 ∷ []) $
       drop ! $
-      move ! (23 ∷ []) $
+      move ! (13 ∷ []) $
       fapart W ! _ (_ ∷ _ ∷ []) $
-      keep ! (2 ∷ 3 ∷ 4 ∷ 6 ∷ 8 ∷ 10 ∷ 12 ∷ 14 ∷ 16 ∷ 18 ∷ 20 ∷ 22 ∷ 24 ∷ 5 ∷ 7 ∷ 9 ∷ 11 ∷ 13 ∷ 15 ∷ 17 ∷ 19 ∷ 21 ∷ 23 ∷ 25 ∷ []) $
+      keep ! (2 ∷ 3 ∷ 4 ∷ 5 ∷ 6 ∷ 7 ∷ 8 ∷ 9 ∷ 10 ∷ 11 ∷ 12 ∷ 13 ∷ 14 ∷ 15 ∷ []) $
       assigns ! (of-opd ! (load ! (from ! (fld ! refl (stop !))) (look-in ! 11 (sub ! 1 refl (whole !))))) (from ! (stop !)) (init ! 9 refl (tt, record { fits = g₀ .0 })) $
       assigns ! (addr ! (from ! (fld ! refl (hop ! (look-in ! 11 (sub ! 0 refl (whole !))) (stop !))))) (from ! (stop !)) (init ! 6 refl (tt, tt)) $
       assigns ! (agg ! (and-then ! (load ! (from ! (stop !)) (look ! 6 refl)) (and-then ! (load ! (from ! (fld ! refl (stop !))) (look-in ! 11 (sub ! 1 refl (whole !)))) (no-more !)))) (from ! (stop !)) (init ! 5 refl (tt, (tt, (record { fits = g₀ .0 }, tt)))) $
@@ -178,8 +178,8 @@ module _ {M : Type 1} (𝓤 : URA M) (H : Heap 𝓤) (A : Atoms 𝓤) (W : Given
       drop ! $
       assigns ! (of-opd ! (load ! (from ! (fld ! refl (stop !))) (look-in ! 7 (sub ! 1 refl (whole !))))) (from ! (stop !)) (init ! 12 refl (uint-lawful 𝓤 H A W w64 .typed (out .number) _ (LL.owed O.the-type O′.the-laws out (vo ∷ []) io .1 .0) .0)) $
       returns ! (look ! 12 refl) $
-      move ! (12 ∷ 23 ∷ 11 ∷ 22 ∷ 10 ∷ 21 ∷ 9 ∷ 20 ∷ 8 ∷ 19 ∷ 7 ∷ 18 ∷ 6 ∷ 17 ∷ 5 ∷ 16 ∷ 4 ∷ 15 ∷ 3 ∷ 14 ∷ 2 ∷ 13 ∷ []) $
-      free-all W ! ((_, _, _) ∷ (_, _, _) ∷ (_, _, _) ∷ (_, _, _) ∷ (_, _, _) ∷ (_, _, _) ∷ (_, _, _) ∷ (_, _, _) ∷ (_, _, _) ∷ (_, _, _) ∷ (_, _, _) ∷ []) $
+      move ! (13 ∷ 12 ∷ 11 ∷ 10 ∷ 9 ∷ 8 ∷ 7 ∷ 6 ∷ 5 ∷ 4 ∷ 3 ∷ 2 ∷ []) $
+      free-all W ! ((_, _, _) ∷ (_, _, _) ∷ (_, _, _) ∷ (_, _, _) ∷ (_, _, _) ∷ (_, _, _) ∷ (_, _, _) ∷ (_, _, _) ∷ (_, _, _) ∷ (_, _, _) ∷ (_, _, _) ∷ []) Dies dies $
       suffices ! _ (ends-at 𝓤 H A entry′.ended stayed (entry′.clauses 𝓤 H A mem run) W (((κ₀, tt), (q₀, tt), tt, (record { ptr = (b₀, o₀); name = γ₀; now = ys₀ }, (place, tt)), (sliceVal (b₀, o₀) (length ys₀) ∷ [], (vint w64 place ∷ [], tt))), tt) (vint w64 (out .number)) (out .number) (z₃ .0, (tt, tt)) (h₀, (tt, tt))) $ says ! (empty-slots ys₀ c₁ e₁ (out .number) (out .words) (z₃ .0) e₃ place ec) $
       nothing ! $
       move ! (1 ∷ 0 ∷ []) $

@@ -127,16 +127,16 @@ module _ {M : Type 1} (𝓤 : URA M) (H : Heap 𝓤) (A : Atoms 𝓤) (W : Given
       → ent 𝓤 (onEntry 𝓤 H A entry′.signature (κ₀, tt) (q₀, tt) (record { ptr = (b₀, o₀); name = γ₀; now = ys₀ }, (place, (port, (vm, (guest, (page, (access, (generation, tt)))))))) (sliceVal (b₀, o₀) (length ys₀) ∷ [], (vint w64 place ∷ [], (vint w64 port ∷ [], (vint w64 vm ∷ [], (vint w64 guest ∷ [], (vint w64 page ∷ [], (vint w64 access ∷ [], (vint w64 generation ∷ [], tt))))))))) (WpFn 𝓤 H (𝓣 .C) (𝓣 .Λ) code.function (sliceVal (b₀, o₀) (length ys₀) ∷ vint w64 place ∷ vint w64 port ∷ vint w64 vm ∷ vint w64 guest ∷ vint w64 page ∷ vint w64 access ∷ vint w64 generation ∷ []) Post)
   walk 𝓣 fm known-load known-store known-core =
       qed W ((‵ (flft κ₀ q₀) ⊛ ‵ ftrue) ∷ ‵ (owns (MutSlice (named 0) κ₀ R ∷ u64 ∷ u64 ∷ u64 ∷ u64 ∷ u64 ∷ u64 ∷ u64 ∷ []) (record { ptr = (b₀, o₀); name = γ₀; now = ys₀ }, (place, (port, (vm, (guest, (page, (access, (generation, tt)))))))) (sliceVal (b₀, o₀) (length ys₀) ∷ [], (vint w64 place ∷ [], (vint w64 port ∷ [], (vint w64 vm ∷ [], (vint w64 guest ∷ [], (vint w64 page ∷ [], (vint w64 access ∷ [], (vint w64 generation ∷ [], tt))))))))) ∷ []) ∵ enter ! (𝓣 .C) (𝓣 .Λ) code.function (sliceVal (b₀, o₀) (length ys₀) ∷ vint w64 place ∷ vint w64 port ∷ vint w64 vm ∷ vint w64 guest ∷ vint w64 page ∷ vint w64 access ∷ vint w64 generation ∷ []) _ $
-      alloc-all ! (λ l₀ l₁ l₂ l₃ l₄ l₅ l₆ l₇ l₈ l₉ l₁₀ l₁₁ l₁₂ l₁₃ l₁₄ l₁₅ l₁₆.
+      alloc-all ! (λ l₀ l₁ l₂ l₃ l₄ l₅ l₆ l₇ l₈ l₉ l₁₀ l₁₁ l₁₂ l₁₃ l₁₄ l₁₅ l₁₆ Dies dies.
       params1 ! $
-      pass-all ! 30 ((refl, (tt, (tt, (record { fits = g₀ .0 }, tt)))), ((refl, (uint-lawful 𝓤 H A W w64 .typed place _ g-place .0)), ((refl, (uint-lawful 𝓤 H A W w64 .typed port _ g-port .0)), ((refl, (uint-lawful 𝓤 H A W w64 .typed vm _ g-vm .0)), ((refl, (uint-lawful 𝓤 H A W w64 .typed guest _ g-guest .0)), ((refl, (uint-lawful 𝓤 H A W w64 .typed page _ g-page .0)), ((refl, (uint-lawful 𝓤 H A W w64 .typed access _ g-access .0)), ((refl, (uint-lawful 𝓤 H A W w64 .typed generation _ g-generation .0)), tt)))))))) $
-      move ! (34 ∷ []) $
+      pass-all ! 15 ((refl, (tt, (tt, (record { fits = g₀ .0 }, tt)))), ((refl, (uint-lawful 𝓤 H A W w64 .typed place _ g-place .0)), ((refl, (uint-lawful 𝓤 H A W w64 .typed port _ g-port .0)), ((refl, (uint-lawful 𝓤 H A W w64 .typed vm _ g-vm .0)), ((refl, (uint-lawful 𝓤 H A W w64 .typed guest _ g-guest .0)), ((refl, (uint-lawful 𝓤 H A W w64 .typed page _ g-page .0)), ((refl, (uint-lawful 𝓤 H A W w64 .typed access _ g-access .0)), ((refl, (uint-lawful 𝓤 H A W w64 .typed generation _ g-generation .0)), tt)))))))) $
+      move ! (18 ∷ []) $
       split ! $
       move ! (1 ∷ []) $
       drop ! $
-      move ! (35 ∷ []) $
+      move ! (19 ∷ []) $
       fapart W ! _ (_ ∷ _ ∷ _ ∷ _ ∷ _ ∷ _ ∷ _ ∷ _ ∷ []) $
-      keep ! (8 ∷ 9 ∷ 10 ∷ 12 ∷ 14 ∷ 16 ∷ 18 ∷ 20 ∷ 22 ∷ 24 ∷ 26 ∷ 28 ∷ 30 ∷ 32 ∷ 34 ∷ 36 ∷ 38 ∷ 40 ∷ 42 ∷ 11 ∷ 13 ∷ 15 ∷ 17 ∷ 19 ∷ 21 ∷ 23 ∷ 25 ∷ 27 ∷ 29 ∷ 31 ∷ 33 ∷ 35 ∷ 37 ∷ 39 ∷ 41 ∷ 43 ∷ []) $
+      keep ! (8 ∷ 9 ∷ 10 ∷ 11 ∷ 12 ∷ 13 ∷ 14 ∷ 15 ∷ 16 ∷ 17 ∷ 18 ∷ 19 ∷ 20 ∷ 21 ∷ 22 ∷ 23 ∷ 24 ∷ 25 ∷ 26 ∷ 27 ∷ []) $
       assigns ! (of-opd ! (load ! (from ! (fld ! refl (stop !))) (look-in ! 17 (sub ! 1 refl (whole !))))) (from ! (stop !)) (init ! 9 refl (tt, record { fits = g₀ .0 })) $
       assigns ! (addr ! (from ! (fld ! refl (hop ! (look-in ! 17 (sub ! 0 refl (whole !))) (stop !))))) (from ! (stop !)) (init ! 6 refl (tt, tt)) $
       assigns ! (agg ! (and-then ! (load ! (from ! (stop !)) (look ! 6 refl)) (and-then ! (load ! (from ! (fld ! refl (stop !))) (look-in ! 17 (sub ! 1 refl (whole !)))) (no-more !)))) (from ! (stop !)) (init ! 5 refl (tt, (tt, (record { fits = g₀ .0 }, tt)))) $
@@ -184,8 +184,8 @@ module _ {M : Type 1} (𝓤 : URA M) (H : Heap 𝓤) (A : Atoms 𝓤) (W : Given
       drop ! $
       assigns ! (of-opd ! (load ! (from ! (fld ! refl (stop !))) (look-in ! 7 (sub ! 1 refl (whole !))))) (from ! (stop !)) (init ! 18 refl (uint-lawful 𝓤 H A W w64 .typed (out .number) _ (LL.owed O.the-type O′.the-laws out (vo ∷ []) io .1 .0) .0)) $
       returns ! (look ! 18 refl) $
-      move ! (18 ∷ 35 ∷ 17 ∷ 34 ∷ 16 ∷ 33 ∷ 15 ∷ 32 ∷ 14 ∷ 31 ∷ 13 ∷ 30 ∷ 12 ∷ 29 ∷ 11 ∷ 28 ∷ 10 ∷ 27 ∷ 9 ∷ 26 ∷ 8 ∷ 25 ∷ 7 ∷ 24 ∷ 6 ∷ 23 ∷ 5 ∷ 22 ∷ 4 ∷ 21 ∷ 3 ∷ 20 ∷ 2 ∷ 19 ∷ []) $
-      free-all W ! ((_, _, _) ∷ (_, _, _) ∷ (_, _, _) ∷ (_, _, _) ∷ (_, _, _) ∷ (_, _, _) ∷ (_, _, _) ∷ (_, _, _) ∷ (_, _, _) ∷ (_, _, _) ∷ (_, _, _) ∷ (_, _, _) ∷ (_, _, _) ∷ (_, _, _) ∷ (_, _, _) ∷ (_, _, _) ∷ (_, _, _) ∷ []) $
+      move ! (19 ∷ 18 ∷ 17 ∷ 16 ∷ 15 ∷ 14 ∷ 13 ∷ 12 ∷ 11 ∷ 10 ∷ 9 ∷ 8 ∷ 7 ∷ 6 ∷ 5 ∷ 4 ∷ 3 ∷ 2 ∷ []) $
+      free-all W ! ((_, _, _) ∷ (_, _, _) ∷ (_, _, _) ∷ (_, _, _) ∷ (_, _, _) ∷ (_, _, _) ∷ (_, _, _) ∷ (_, _, _) ∷ (_, _, _) ∷ (_, _, _) ∷ (_, _, _) ∷ (_, _, _) ∷ (_, _, _) ∷ (_, _, _) ∷ (_, _, _) ∷ (_, _, _) ∷ (_, _, _) ∷ []) Dies dies $
       suffices ! _ (ends-at 𝓤 H A entry′.ended stayed (entry′.clauses 𝓤 H A mem run) W (((κ₀, tt), (q₀, tt), tt, (record { ptr = (b₀, o₀); name = γ₀; now = ys₀ }, (place, (port, (vm, (guest, (page, (access, (generation, tt)))))))), (sliceVal (b₀, o₀) (length ys₀) ∷ [], (vint w64 place ∷ [], (vint w64 port ∷ [], (vint w64 vm ∷ [], (vint w64 guest ∷ [], (vint w64 page ∷ [], (vint w64 access ∷ [], (vint w64 generation ∷ [], tt))))))))), tt) (vint w64 (out .number)) (out .number) (z₃ .0, (tt, (tt, (tt, (tt, (tt, (tt, (tt, tt)))))))) (h₀, (tt, (tt, (tt, (tt, (tt, (tt, (tt, tt))))))))) $ says ! (fill-slots ys₀ c₁ e₁ (out .number) (out .words) (z₃ .0) e₃ place port vm guest page access generation ec) $
       nothing ! $
       move ! (1 ∷ 0 ∷ []) $

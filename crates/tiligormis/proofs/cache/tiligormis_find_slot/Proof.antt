@@ -100,16 +100,16 @@ module _ {M : Type 1} (𝓤 : URA M) (H : Heap 𝓤) (A : Atoms 𝓤) (W : Given
       → ent 𝓤 (onEntry 𝓤 H A entry′.signature (κ₀, tt) (q₀, tt) (record { ptr = (b₀, o₀); name = γ₀; now = ys₀ }, (port, (vm, (guest, tt)))) (sliceVal (b₀, o₀) (length ys₀) ∷ [], (vint w64 port ∷ [], (vint w64 vm ∷ [], (vint w64 guest ∷ [], tt))))) (WpFn 𝓤 H (𝓣 .C) (𝓣 .Λ) code.function (sliceVal (b₀, o₀) (length ys₀) ∷ vint w64 port ∷ vint w64 vm ∷ vint w64 guest ∷ []) Post)
   walk 𝓣 fm known-load known-core =
       qed W ((‵ (flft κ₀ q₀) ⊛ ‵ ftrue) ∷ ‵ (owns (ShrSlice (named 0) κ₀ R ∷ u64 ∷ u64 ∷ u64 ∷ []) (record { ptr = (b₀, o₀); name = γ₀; now = ys₀ }, (port, (vm, (guest, tt)))) (sliceVal (b₀, o₀) (length ys₀) ∷ [], (vint w64 port ∷ [], (vint w64 vm ∷ [], (vint w64 guest ∷ [], tt))))) ∷ []) ∵ enter ! (𝓣 .C) (𝓣 .Λ) code.function (sliceVal (b₀, o₀) (length ys₀) ∷ vint w64 port ∷ vint w64 vm ∷ vint w64 guest ∷ []) _ $
-      alloc-all ! (λ l₀ l₁ l₂ l₃ l₄ l₅.
+      alloc-all ! (λ l₀ l₁ l₂ l₃ l₄ l₅ Dies dies.
       params1 ! $
-      pass-all ! 8 ((refl, (tt, (tt, (record { fits = g₀ .0 }, tt)))), ((refl, (uint-lawful 𝓤 H A W w64 .typed port _ g-port .0)), ((refl, (uint-lawful 𝓤 H A W w64 .typed vm _ g-vm .0)), ((refl, (uint-lawful 𝓤 H A W w64 .typed guest _ g-guest .0)), tt)))) $
-      move ! (12 ∷ []) $
+      pass-all ! 4 ((refl, (tt, (tt, (record { fits = g₀ .0 }, tt)))), ((refl, (uint-lawful 𝓤 H A W w64 .typed port _ g-port .0)), ((refl, (uint-lawful 𝓤 H A W w64 .typed vm _ g-vm .0)), ((refl, (uint-lawful 𝓤 H A W w64 .typed guest _ g-guest .0)), tt)))) $
+      move ! (7 ∷ []) $
       split ! $
       move ! (1 ∷ []) $
       drop ! $
-      move ! (13 ∷ []) $
+      move ! (8 ∷ []) $
       fapart W ! _ (_ ∷ _ ∷ _ ∷ _ ∷ []) $
-      keep ! (4 ∷ 5 ∷ 6 ∷ 8 ∷ 10 ∷ 12 ∷ 14 ∷ 16 ∷ 7 ∷ 9 ∷ 11 ∷ 13 ∷ 15 ∷ 17 ∷ []) $
+      keep ! (4 ∷ 5 ∷ 6 ∷ 7 ∷ 8 ∷ 9 ∷ 10 ∷ 11 ∷ 12 ∷ []) $
       move ! (1 ∷ 0 ∷ []) $
       use2 W (raw (Load 𝓤 H A mem run .pre to-load-1)) goes-1 $
       calls-at ! fm (Load 𝓤 H A mem run) known-load to-load-1 (and-then ! (load ! (from ! (stop !)) (look ! 5 refl)) (no-more !)) (λ v₁.
@@ -131,8 +131,8 @@ module _ {M : Type 1} (𝓤 : URA M) (H : Heap 𝓤) (A : Atoms 𝓤) (W : Given
       land ! (from ! (stop !)) (init ! 7 refl (uint-lawful 𝓤 H A W w64 .typed out _ io .0)) $
       drop ! $
       returns ! (look ! 6 refl) $
-      move ! (6 ∷ 12 ∷ 5 ∷ 11 ∷ 4 ∷ 10 ∷ 3 ∷ 9 ∷ 2 ∷ 8 ∷ 1 ∷ 7 ∷ []) $
-      free-all W ! ((_, _, _) ∷ (_, _, _) ∷ (_, _, _) ∷ (_, _, _) ∷ (_, _, _) ∷ (_, _, _) ∷ []) $
+      move ! (7 ∷ 6 ∷ 5 ∷ 4 ∷ 3 ∷ 2 ∷ 1 ∷ []) $
+      free-all W ! ((_, _, _) ∷ (_, _, _) ∷ (_, _, _) ∷ (_, _, _) ∷ (_, _, _) ∷ (_, _, _) ∷ []) Dies dies $
       suffices ! _ (ends-at 𝓤 H A entry′.ended stayed (entry′.clauses 𝓤 H A mem run) W (((κ₀, tt), (q₀, tt), tt, (record { ptr = (b₀, o₀); name = γ₀; now = ys₀ }, (port, (vm, (guest, tt)))), (sliceVal (b₀, o₀) (length ys₀) ∷ [], (vint w64 port ∷ [], (vint w64 vm ∷ [], (vint w64 guest ∷ [], tt))))), tt) (vo) (out) (tt, (tt, (tt, (tt, tt)))) (tt, (tt, (tt, (tt, tt))))) $ says ! (ec ∙ find-loaded ys₀ (e₁ .1) c₁ (e₁ .0) port vm guest) $
       nothing ! $
       move ! (1 ∷ 0 ∷ []) $

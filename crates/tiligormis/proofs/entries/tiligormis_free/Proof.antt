@@ -113,15 +113,15 @@ module _ {M : Type 1} (𝓤 : URA M) (H : Heap 𝓤) (A : Atoms 𝓤) (W : Given
       → ent 𝓤 (onEntry 𝓤 H A entry′.signature (κ₀, (κ₁, (κ₂, (κ₃, (κ₄, (κ₅, (κ₆, (κ₇, (κ₈, (κ₉, (κ₁₀, tt))))))))))) (q₀, (q₁, (q₂, (q₃, (q₄, (q₅, (q₆, (q₇, (q₈, (q₉, (q₁₀, tt))))))))))) (record { ptr = (b₀, o₀); name = γ₀; now = ys₀ }, (record { ptr = (b₁, o₁); name = γ₁; now = ys₁ }, (record { ptr = (b₂, o₂); name = γ₂; now = ys₂ }, (record { ptr = (b₃, o₃); name = γ₃; now = ys₃ }, (record { ptr = (b₄, o₄); name = γ₄; now = ys₄ }, (record { ptr = (b₅, o₅); name = γ₅; now = ys₅ }, (record { ptr = (b₆, o₆); name = γ₆; now = ys₆ }, (record { ptr = (b₇, o₇); name = γ₇; now = ys₇ }, (record { ptr = (b₈, o₈); name = γ₈; now = ys₈ }, (record { ptr = (b₉, o₉); name = γ₉; now = ys₉ }, (record { ptr = (b₁₀, o₁₀); name = γ₁₀; now = ys₁₀ }, tt))))))))))) (sliceVal (b₀, o₀) (length ys₀) ∷ [], (sliceVal (b₁, o₁) (length ys₁) ∷ [], (sliceVal (b₂, o₂) (length ys₂) ∷ [], (sliceVal (b₃, o₃) (length ys₃) ∷ [], (sliceVal (b₄, o₄) (length ys₄) ∷ [], (sliceVal (b₅, o₅) (length ys₅) ∷ [], (sliceVal (b₆, o₆) (length ys₆) ∷ [], (sliceVal (b₇, o₇) (length ys₇) ∷ [], (sliceVal (b₈, o₈) (length ys₈) ∷ [], (sliceVal (b₉, o₉) (length ys₉) ∷ [], (sliceVal (b₁₀, o₁₀) (length ys₁₀) ∷ [], tt)))))))))))) (WpFn 𝓤 H (𝓣 .C) (𝓣 .Λ) code.function (sliceVal (b₀, o₀) (length ys₀) ∷ sliceVal (b₁, o₁) (length ys₁) ∷ sliceVal (b₂, o₂) (length ys₂) ∷ sliceVal (b₃, o₃) (length ys₃) ∷ sliceVal (b₄, o₄) (length ys₄) ∷ sliceVal (b₅, o₅) (length ys₅) ∷ sliceVal (b₆, o₆) (length ys₆) ∷ sliceVal (b₇, o₇) (length ys₇) ∷ sliceVal (b₈, o₈) (length ys₈) ∷ sliceVal (b₉, o₉) (length ys₉) ∷ sliceVal (b₁₀, o₁₀) (length ys₁₀) ∷ []) Post)
   walk 𝓣 fm known-load known-core =
       qed W ((‵ (flft κ₀ q₀) ⊛ (‵ (flft κ₁ q₁) ⊛ (‵ (flft κ₂ q₂) ⊛ (‵ (flft κ₃ q₃) ⊛ (‵ (flft κ₄ q₄) ⊛ (‵ (flft κ₅ q₅) ⊛ (‵ (flft κ₆ q₆) ⊛ (‵ (flft κ₇ q₇) ⊛ (‵ (flft κ₈ q₈) ⊛ (‵ (flft κ₉ q₉) ⊛ (‵ (flft κ₁₀ q₁₀) ⊛ ‵ ftrue))))))))))) ∷ ‵ (owns (ShrSlice (named 0) κ₀ u64 ∷ ShrSlice (named 1) κ₁ u64 ∷ ShrSlice (named 2) κ₂ u64 ∷ ShrSlice (named 3) κ₃ u64 ∷ ShrSlice (named 4) κ₄ u64 ∷ ShrSlice (named 5) κ₅ R ∷ ShrSlice (named 6) κ₆ u64 ∷ ShrSlice (named 7) κ₇ u64 ∷ ShrSlice (named 8) κ₈ R ∷ ShrSlice (named 9) κ₉ u64 ∷ MutSlice (named 10) κ₁₀ u64 ∷ []) (record { ptr = (b₀, o₀); name = γ₀; now = ys₀ }, (record { ptr = (b₁, o₁); name = γ₁; now = ys₁ }, (record { ptr = (b₂, o₂); name = γ₂; now = ys₂ }, (record { ptr = (b₃, o₃); name = γ₃; now = ys₃ }, (record { ptr = (b₄, o₄); name = γ₄; now = ys₄ }, (record { ptr = (b₅, o₅); name = γ₅; now = ys₅ }, (record { ptr = (b₆, o₆); name = γ₆; now = ys₆ }, (record { ptr = (b₇, o₇); name = γ₇; now = ys₇ }, (record { ptr = (b₈, o₈); name = γ₈; now = ys₈ }, (record { ptr = (b₉, o₉); name = γ₉; now = ys₉ }, (record { ptr = (b₁₀, o₁₀); name = γ₁₀; now = ys₁₀ }, tt))))))))))) (sliceVal (b₀, o₀) (length ys₀) ∷ [], (sliceVal (b₁, o₁) (length ys₁) ∷ [], (sliceVal (b₂, o₂) (length ys₂) ∷ [], (sliceVal (b₃, o₃) (length ys₃) ∷ [], (sliceVal (b₄, o₄) (length ys₄) ∷ [], (sliceVal (b₅, o₅) (length ys₅) ∷ [], (sliceVal (b₆, o₆) (length ys₆) ∷ [], (sliceVal (b₇, o₇) (length ys₇) ∷ [], (sliceVal (b₈, o₈) (length ys₈) ∷ [], (sliceVal (b₉, o₉) (length ys₉) ∷ [], (sliceVal (b₁₀, o₁₀) (length ys₁₀) ∷ [], tt)))))))))))) ∷ []) ∵ enter ! (𝓣 .C) (𝓣 .Λ) code.function (sliceVal (b₀, o₀) (length ys₀) ∷ sliceVal (b₁, o₁) (length ys₁) ∷ sliceVal (b₂, o₂) (length ys₂) ∷ sliceVal (b₃, o₃) (length ys₃) ∷ sliceVal (b₄, o₄) (length ys₄) ∷ sliceVal (b₅, o₅) (length ys₅) ∷ sliceVal (b₆, o₆) (length ys₆) ∷ sliceVal (b₇, o₇) (length ys₇) ∷ sliceVal (b₈, o₈) (length ys₈) ∷ sliceVal (b₉, o₉) (length ys₉) ∷ sliceVal (b₁₀, o₁₀) (length ys₁₀) ∷ []) _ $
-      alloc-all ! (λ l₀ l₁ l₂ l₃ l₄ l₅ l₆ l₇ l₈ l₉ l₁₀ l₁₁ l₁₂ l₁₃ l₁₄ l₁₅ l₁₆ l₁₇.
+      alloc-all ! (λ l₀ l₁ l₂ l₃ l₄ l₅ l₆ l₇ l₈ l₉ l₁₀ l₁₁ l₁₂ l₁₃ l₁₄ l₁₅ l₁₆ l₁₇ Dies dies.
       params1 ! $
-      pass-all ! 32 ((refl, (tt, (tt, (record { fits = g₀ .0 }, tt)))), ((refl, (tt, (tt, (record { fits = g₁ .0 }, tt)))), ((refl, (tt, (tt, (record { fits = g₂ .0 }, tt)))), ((refl, (tt, (tt, (record { fits = g₃ .0 }, tt)))), ((refl, (tt, (tt, (record { fits = g₄ .0 }, tt)))), ((refl, (tt, (tt, (record { fits = g₅ .0 }, tt)))), ((refl, (tt, (tt, (record { fits = g₆ .0 }, tt)))), ((refl, (tt, (tt, (record { fits = g₇ .0 }, tt)))), ((refl, (tt, (tt, (record { fits = g₈ .0 }, tt)))), ((refl, (tt, (tt, (record { fits = g₉ .0 }, tt)))), ((refl, (tt, (tt, (record { fits = g₁₀ .0 }, tt)))), tt))))))))))) $
-      move ! (36 ∷ []) $
+      pass-all ! 16 ((refl, (tt, (tt, (record { fits = g₀ .0 }, tt)))), ((refl, (tt, (tt, (record { fits = g₁ .0 }, tt)))), ((refl, (tt, (tt, (record { fits = g₂ .0 }, tt)))), ((refl, (tt, (tt, (record { fits = g₃ .0 }, tt)))), ((refl, (tt, (tt, (record { fits = g₄ .0 }, tt)))), ((refl, (tt, (tt, (record { fits = g₅ .0 }, tt)))), ((refl, (tt, (tt, (record { fits = g₆ .0 }, tt)))), ((refl, (tt, (tt, (record { fits = g₇ .0 }, tt)))), ((refl, (tt, (tt, (record { fits = g₈ .0 }, tt)))), ((refl, (tt, (tt, (record { fits = g₉ .0 }, tt)))), ((refl, (tt, (tt, (record { fits = g₁₀ .0 }, tt)))), tt))))))))))) $
+      move ! (19 ∷ []) $
       apart W ! _ (_ ∷ _ ∷ _ ∷ _ ∷ _ ∷ _ ∷ _ ∷ _ ∷ _ ∷ _ ∷ _ ∷ []) $
       drop ! $
-      move ! (47 ∷ []) $
+      move ! (30 ∷ []) $
       fapart W ! _ (_ ∷ _ ∷ _ ∷ _ ∷ _ ∷ _ ∷ _ ∷ _ ∷ _ ∷ _ ∷ _ ∷ []) $
-      keep ! (11 ∷ 22 ∷ 10 ∷ 21 ∷ 9 ∷ 20 ∷ 8 ∷ 19 ∷ 7 ∷ 18 ∷ 6 ∷ 17 ∷ 5 ∷ 16 ∷ 4 ∷ 15 ∷ 3 ∷ 14 ∷ 2 ∷ 13 ∷ 1 ∷ 12 ∷ 23 ∷ 25 ∷ 27 ∷ 29 ∷ 31 ∷ 33 ∷ 35 ∷ 37 ∷ 39 ∷ 41 ∷ 43 ∷ 45 ∷ 47 ∷ 49 ∷ 51 ∷ 53 ∷ 55 ∷ 57 ∷ 24 ∷ 26 ∷ 28 ∷ 30 ∷ 32 ∷ 34 ∷ 36 ∷ 38 ∷ 40 ∷ 42 ∷ 44 ∷ 46 ∷ 48 ∷ 50 ∷ 52 ∷ 54 ∷ 56 ∷ 58 ∷ []) $
+      keep ! (11 ∷ 22 ∷ 10 ∷ 21 ∷ 9 ∷ 20 ∷ 8 ∷ 19 ∷ 7 ∷ 18 ∷ 6 ∷ 17 ∷ 5 ∷ 16 ∷ 4 ∷ 15 ∷ 3 ∷ 14 ∷ 2 ∷ 13 ∷ 1 ∷ 12 ∷ 23 ∷ 24 ∷ 25 ∷ 26 ∷ 27 ∷ 28 ∷ 29 ∷ 30 ∷ 31 ∷ 32 ∷ 33 ∷ 34 ∷ 35 ∷ 36 ∷ 37 ∷ 38 ∷ 39 ∷ 40 ∷ 41 ∷ []) $
       assigns ! (of-opd ! (load ! (from ! (fld ! refl (stop !))) (look-in ! 33 (sub ! 1 refl (whole !))))) (from ! (stop !)) (init ! 27 refl (tt, record { fits = g₅ .0 })) $
       assigns ! (of-opd ! (load ! (from ! (fld ! refl (stop !))) (look-in ! 30 (sub ! 1 refl (whole !))))) (from ! (stop !)) (init ! 26 refl (tt, record { fits = g₈ .0 })) $
       move ! (11 ∷ 10 ∷ []) $
@@ -177,8 +177,8 @@ module _ {M : Type 1} (𝓤 : URA M) (H : Heap 𝓤) (A : Atoms 𝓤) (W : Given
       apart W ! _ (_ ∷ _ ∷ _ ∷ _ ∷ _ ∷ _ ∷ _ ∷ _ ∷ _ ∷ []) $
       drop ! $
       returns ! (look ! 29 refl) $
-      move ! (29 ∷ 47 ∷ 28 ∷ 46 ∷ 27 ∷ 45 ∷ 26 ∷ 44 ∷ 25 ∷ 43 ∷ 24 ∷ 42 ∷ 23 ∷ 41 ∷ 22 ∷ 40 ∷ 21 ∷ 39 ∷ 20 ∷ 38 ∷ 19 ∷ 37 ∷ 18 ∷ 36 ∷ 17 ∷ 35 ∷ 16 ∷ 34 ∷ 15 ∷ 33 ∷ 14 ∷ 32 ∷ 13 ∷ 31 ∷ 12 ∷ 30 ∷ []) $
-      free-all W ! ((_, _, _) ∷ (_, _, _) ∷ (_, _, _) ∷ (_, _, _) ∷ (_, _, _) ∷ (_, _, _) ∷ (_, _, _) ∷ (_, _, _) ∷ (_, _, _) ∷ (_, _, _) ∷ (_, _, _) ∷ (_, _, _) ∷ (_, _, _) ∷ (_, _, _) ∷ (_, _, _) ∷ (_, _, _) ∷ (_, _, _) ∷ (_, _, _) ∷ []) $
+      move ! (30 ∷ 29 ∷ 28 ∷ 27 ∷ 26 ∷ 25 ∷ 24 ∷ 23 ∷ 22 ∷ 21 ∷ 20 ∷ 19 ∷ 18 ∷ 17 ∷ 16 ∷ 15 ∷ 14 ∷ 13 ∷ 12 ∷ []) $
+      free-all W ! ((_, _, _) ∷ (_, _, _) ∷ (_, _, _) ∷ (_, _, _) ∷ (_, _, _) ∷ (_, _, _) ∷ (_, _, _) ∷ (_, _, _) ∷ (_, _, _) ∷ (_, _, _) ∷ (_, _, _) ∷ (_, _, _) ∷ (_, _, _) ∷ (_, _, _) ∷ (_, _, _) ∷ (_, _, _) ∷ (_, _, _) ∷ (_, _, _) ∷ []) Dies dies $
       suffices ! _ (ends-at 𝓤 H A entry′.ended stayed (entry′.clauses 𝓤 H A mem run) W (((κ₀, (κ₁, (κ₂, (κ₃, (κ₄, (κ₅, (κ₆, (κ₇, (κ₈, (κ₉, (κ₁₀, tt))))))))))), (q₀, (q₁, (q₂, (q₃, (q₄, (q₅, (q₆, (q₇, (q₈, (q₉, (q₁₀, tt))))))))))), tt, (record { ptr = (b₀, o₀); name = γ₀; now = ys₀ }, (record { ptr = (b₁, o₁); name = γ₁; now = ys₁ }, (record { ptr = (b₂, o₂); name = γ₂; now = ys₂ }, (record { ptr = (b₃, o₃); name = γ₃; now = ys₃ }, (record { ptr = (b₄, o₄); name = γ₄; now = ys₄ }, (record { ptr = (b₅, o₅); name = γ₅; now = ys₅ }, (record { ptr = (b₆, o₆); name = γ₆; now = ys₆ }, (record { ptr = (b₇, o₇); name = γ₇; now = ys₇ }, (record { ptr = (b₈, o₈); name = γ₈; now = ys₈ }, (record { ptr = (b₉, o₉); name = γ₉; now = ys₉ }, (record { ptr = (b₁₀, o₁₀); name = γ₁₀; now = ys₁₀ }, tt))))))))))), (sliceVal (b₀, o₀) (length ys₀) ∷ [], (sliceVal (b₁, o₁) (length ys₁) ∷ [], (sliceVal (b₂, o₂) (length ys₂) ∷ [], (sliceVal (b₃, o₃) (length ys₃) ∷ [], (sliceVal (b₄, o₄) (length ys₄) ∷ [], (sliceVal (b₅, o₅) (length ys₅) ∷ [], (sliceVal (b₆, o₆) (length ys₆) ∷ [], (sliceVal (b₇, o₇) (length ys₇) ∷ [], (sliceVal (b₈, o₈) (length ys₈) ∷ [], (sliceVal (b₉, o₉) (length ys₉) ∷ [], (sliceVal (b₁₀, o₁₀) (length ys₁₀) ∷ [], tt)))))))))))), tt) (vo) (out) (tt, (tt, (tt, (tt, (tt, (tt, (tt, (tt, (tt, (tt, (zc .1 .1 .1 .1 .1 .1 .1 .1 .0, tt))))))))))) (tt, (tt, (tt, (tt, (tt, (tt, (tt, (tt, (tt, (tt, (h₁₀, tt)))))))))))) $ says ! (free-slots ys₀ ys₁ ys₂ ys₃ ys₄ ys₅ ys₆ ys₇ ys₈ ys₉ c₁ c₂ e₁ e₂ ys₁₀ ec) $
       nothing ! $
       move ! (9 ∷ 8 ∷ 7 ∷ 6 ∷ 5 ∷ 12 ∷ 4 ∷ 3 ∷ 11 ∷ 2 ∷ 1 ∷ 0 ∷ []) $

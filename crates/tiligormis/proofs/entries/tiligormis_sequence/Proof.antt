@@ -138,15 +138,15 @@ module _ {M : Type 1} (𝓤 : URA M) (H : Heap 𝓤) (A : Atoms 𝓤) (W : Given
       → ent 𝓤 (onEntry 𝓤 H A entry′.signature (κ₀, (κ₁, (κ₂, (κ₃, (κ₄, (κ₅, (κ₆, (κ₇, (κ₈, (κ₉, (κ₁₀, (κ₁₁, tt)))))))))))) (q₀, (q₁, (q₂, (q₃, (q₄, (q₅, (q₆, (q₇, (q₈, (q₉, (q₁₀, (q₁₁, tt)))))))))))) (record { ptr = (b₀, o₀); name = γ₀; now = ys₀ }, (record { ptr = (b₁, o₁); name = γ₁; now = ys₁ }, (record { ptr = (b₂, o₂); name = γ₂; now = ys₂ }, (record { ptr = (b₃, o₃); name = γ₃; now = ys₃ }, (record { ptr = (b₄, o₄); name = γ₄; now = ys₄ }, (record { ptr = (b₅, o₅); name = γ₅; now = ys₅ }, (record { ptr = (b₆, o₆); name = γ₆; now = ys₆ }, (record { ptr = (b₇, o₇); name = γ₇; now = ys₇ }, (record { ptr = (b₈, o₈); name = γ₈; now = ys₈ }, (record { ptr = (b₉, o₉); name = γ₉; now = ys₉ }, (record { ptr = (b₁₀, o₁₀); name = γ₁₀; now = ys₁₀ }, (record { ptr = (b₁₁, o₁₁); name = γ₁₁; now = ys₁₁ }, tt)))))))))))) (sliceVal (b₀, o₀) (length ys₀) ∷ [], (sliceVal (b₁, o₁) (length ys₁) ∷ [], (sliceVal (b₂, o₂) (length ys₂) ∷ [], (sliceVal (b₃, o₃) (length ys₃) ∷ [], (sliceVal (b₄, o₄) (length ys₄) ∷ [], (sliceVal (b₅, o₅) (length ys₅) ∷ [], (sliceVal (b₆, o₆) (length ys₆) ∷ [], (sliceVal (b₇, o₇) (length ys₇) ∷ [], (sliceVal (b₈, o₈) (length ys₈) ∷ [], (sliceVal (b₉, o₉) (length ys₉) ∷ [], (sliceVal (b₁₀, o₁₀) (length ys₁₀) ∷ [], (sliceVal (b₁₁, o₁₁) (length ys₁₁) ∷ [], tt))))))))))))) (WpFn 𝓤 H (𝓣 .C) (𝓣 .Λ) code.function (sliceVal (b₀, o₀) (length ys₀) ∷ sliceVal (b₁, o₁) (length ys₁) ∷ sliceVal (b₂, o₂) (length ys₂) ∷ sliceVal (b₃, o₃) (length ys₃) ∷ sliceVal (b₄, o₄) (length ys₄) ∷ sliceVal (b₅, o₅) (length ys₅) ∷ sliceVal (b₆, o₆) (length ys₆) ∷ sliceVal (b₇, o₇) (length ys₇) ∷ sliceVal (b₈, o₈) (length ys₈) ∷ sliceVal (b₉, o₉) (length ys₉) ∷ sliceVal (b₁₀, o₁₀) (length ys₁₀) ∷ sliceVal (b₁₁, o₁₁) (length ys₁₁) ∷ []) Post)
   walk 𝓣 fm known-load known-store known-core =
       qed W ((‵ (flft κ₀ q₀) ⊛ (‵ (flft κ₁ q₁) ⊛ (‵ (flft κ₂ q₂) ⊛ (‵ (flft κ₃ q₃) ⊛ (‵ (flft κ₄ q₄) ⊛ (‵ (flft κ₅ q₅) ⊛ (‵ (flft κ₆ q₆) ⊛ (‵ (flft κ₇ q₇) ⊛ (‵ (flft κ₈ q₈) ⊛ (‵ (flft κ₉ q₉) ⊛ (‵ (flft κ₁₀ q₁₀) ⊛ (‵ (flft κ₁₁ q₁₁) ⊛ ‵ ftrue)))))))))))) ∷ ‵ (owns (MutSlice (named 0) κ₀ u64 ∷ MutSlice (named 1) κ₁ u64 ∷ MutSlice (named 2) κ₂ u64 ∷ MutSlice (named 3) κ₃ u64 ∷ MutSlice (named 4) κ₄ u64 ∷ MutSlice (named 5) κ₅ R ∷ MutSlice (named 6) κ₆ u64 ∷ MutSlice (named 7) κ₇ u64 ∷ MutSlice (named 8) κ₈ R ∷ MutSlice (named 9) κ₉ u64 ∷ ShrSlice (named 10) κ₁₀ u64 ∷ MutSlice (named 11) κ₁₁ u64 ∷ []) (record { ptr = (b₀, o₀); name = γ₀; now = ys₀ }, (record { ptr = (b₁, o₁); name = γ₁; now = ys₁ }, (record { ptr = (b₂, o₂); name = γ₂; now = ys₂ }, (record { ptr = (b₃, o₃); name = γ₃; now = ys₃ }, (record { ptr = (b₄, o₄); name = γ₄; now = ys₄ }, (record { ptr = (b₅, o₅); name = γ₅; now = ys₅ }, (record { ptr = (b₆, o₆); name = γ₆; now = ys₆ }, (record { ptr = (b₇, o₇); name = γ₇; now = ys₇ }, (record { ptr = (b₈, o₈); name = γ₈; now = ys₈ }, (record { ptr = (b₉, o₉); name = γ₉; now = ys₉ }, (record { ptr = (b₁₀, o₁₀); name = γ₁₀; now = ys₁₀ }, (record { ptr = (b₁₁, o₁₁); name = γ₁₁; now = ys₁₁ }, tt)))))))))))) (sliceVal (b₀, o₀) (length ys₀) ∷ [], (sliceVal (b₁, o₁) (length ys₁) ∷ [], (sliceVal (b₂, o₂) (length ys₂) ∷ [], (sliceVal (b₃, o₃) (length ys₃) ∷ [], (sliceVal (b₄, o₄) (length ys₄) ∷ [], (sliceVal (b₅, o₅) (length ys₅) ∷ [], (sliceVal (b₆, o₆) (length ys₆) ∷ [], (sliceVal (b₇, o₇) (length ys₇) ∷ [], (sliceVal (b₈, o₈) (length ys₈) ∷ [], (sliceVal (b₉, o₉) (length ys₉) ∷ [], (sliceVal (b₁₀, o₁₀) (length ys₁₀) ∷ [], (sliceVal (b₁₁, o₁₁) (length ys₁₁) ∷ [], tt))))))))))))) ∷ []) ∵ enter ! (𝓣 .C) (𝓣 .Λ) code.function (sliceVal (b₀, o₀) (length ys₀) ∷ sliceVal (b₁, o₁) (length ys₁) ∷ sliceVal (b₂, o₂) (length ys₂) ∷ sliceVal (b₃, o₃) (length ys₃) ∷ sliceVal (b₄, o₄) (length ys₄) ∷ sliceVal (b₅, o₅) (length ys₅) ∷ sliceVal (b₆, o₆) (length ys₆) ∷ sliceVal (b₇, o₇) (length ys₇) ∷ sliceVal (b₈, o₈) (length ys₈) ∷ sliceVal (b₉, o₉) (length ys₉) ∷ sliceVal (b₁₀, o₁₀) (length ys₁₀) ∷ sliceVal (b₁₁, o₁₁) (length ys₁₁) ∷ []) _ $
-      alloc-all ! (λ l₀ l₁ l₂ l₃ l₄ l₅ l₆ l₇ l₈ l₉ l₁₀ l₁₁ l₁₂ l₁₃ l₁₄ l₁₅ l₁₆ l₁₇ l₁₈ l₁₉ l₂₀ l₂₁ l₂₂ l₂₃ l₂₄ l₂₅ l₂₆ l₂₇ l₂₈ l₂₉ l₃₀ l₃₁ l₃₂ l₃₃ l₃₄ l₃₅ l₃₆ l₃₇ l₃₈ l₃₉ l₄₀ l₄₁ l₄₂ l₄₃ l₄₄.
+      alloc-all ! (λ l₀ l₁ l₂ l₃ l₄ l₅ l₆ l₇ l₈ l₉ l₁₀ l₁₁ l₁₂ l₁₃ l₁₄ l₁₅ l₁₆ l₁₇ l₁₈ l₁₉ l₂₀ l₂₁ l₂₂ l₂₃ l₂₄ l₂₅ l₂₆ l₂₇ l₂₈ l₂₉ l₃₀ l₃₁ l₃₂ l₃₃ l₃₄ l₃₅ l₃₆ l₃₇ l₃₈ l₃₉ l₄₀ l₄₁ l₄₂ l₄₃ l₄₄ Dies dies.
       params1 ! $
-      pass-all ! 86 ((refl, (tt, (tt, (record { fits = g₀ .0 }, tt)))), ((refl, (tt, (tt, (record { fits = g₁ .0 }, tt)))), ((refl, (tt, (tt, (record { fits = g₂ .0 }, tt)))), ((refl, (tt, (tt, (record { fits = g₃ .0 }, tt)))), ((refl, (tt, (tt, (record { fits = g₄ .0 }, tt)))), ((refl, (tt, (tt, (record { fits = g₅ .0 }, tt)))), ((refl, (tt, (tt, (record { fits = g₆ .0 }, tt)))), ((refl, (tt, (tt, (record { fits = g₇ .0 }, tt)))), ((refl, (tt, (tt, (record { fits = g₈ .0 }, tt)))), ((refl, (tt, (tt, (record { fits = g₉ .0 }, tt)))), ((refl, (tt, (tt, (record { fits = g₁₀ .0 }, tt)))), ((refl, (tt, (tt, (record { fits = g₁₁ .0 }, tt)))), tt)))))))))))) $
-      move ! (90 ∷ []) $
+      pass-all ! 43 ((refl, (tt, (tt, (record { fits = g₀ .0 }, tt)))), ((refl, (tt, (tt, (record { fits = g₁ .0 }, tt)))), ((refl, (tt, (tt, (record { fits = g₂ .0 }, tt)))), ((refl, (tt, (tt, (record { fits = g₃ .0 }, tt)))), ((refl, (tt, (tt, (record { fits = g₄ .0 }, tt)))), ((refl, (tt, (tt, (record { fits = g₅ .0 }, tt)))), ((refl, (tt, (tt, (record { fits = g₆ .0 }, tt)))), ((refl, (tt, (tt, (record { fits = g₇ .0 }, tt)))), ((refl, (tt, (tt, (record { fits = g₈ .0 }, tt)))), ((refl, (tt, (tt, (record { fits = g₉ .0 }, tt)))), ((refl, (tt, (tt, (record { fits = g₁₀ .0 }, tt)))), ((refl, (tt, (tt, (record { fits = g₁₁ .0 }, tt)))), tt)))))))))))) $
+      move ! (46 ∷ []) $
       apart W ! _ (_ ∷ _ ∷ _ ∷ _ ∷ _ ∷ _ ∷ _ ∷ _ ∷ _ ∷ _ ∷ _ ∷ _ ∷ []) $
       drop ! $
-      move ! (102 ∷ []) $
+      move ! (58 ∷ []) $
       fapart W ! _ (_ ∷ _ ∷ _ ∷ _ ∷ _ ∷ _ ∷ _ ∷ _ ∷ _ ∷ _ ∷ _ ∷ _ ∷ []) $
-      keep ! (12 ∷ 24 ∷ 11 ∷ 23 ∷ 10 ∷ 22 ∷ 9 ∷ 21 ∷ 8 ∷ 20 ∷ 7 ∷ 19 ∷ 6 ∷ 18 ∷ 5 ∷ 17 ∷ 4 ∷ 16 ∷ 3 ∷ 15 ∷ 2 ∷ 14 ∷ 1 ∷ 13 ∷ 25 ∷ 27 ∷ 29 ∷ 31 ∷ 33 ∷ 35 ∷ 37 ∷ 39 ∷ 41 ∷ 43 ∷ 45 ∷ 47 ∷ 49 ∷ 51 ∷ 53 ∷ 55 ∷ 57 ∷ 59 ∷ 61 ∷ 63 ∷ 65 ∷ 67 ∷ 69 ∷ 71 ∷ 73 ∷ 75 ∷ 77 ∷ 79 ∷ 81 ∷ 83 ∷ 85 ∷ 87 ∷ 89 ∷ 91 ∷ 93 ∷ 95 ∷ 97 ∷ 99 ∷ 101 ∷ 103 ∷ 105 ∷ 107 ∷ 109 ∷ 111 ∷ 113 ∷ 26 ∷ 28 ∷ 30 ∷ 32 ∷ 34 ∷ 36 ∷ 38 ∷ 40 ∷ 42 ∷ 44 ∷ 46 ∷ 48 ∷ 50 ∷ 52 ∷ 54 ∷ 56 ∷ 58 ∷ 60 ∷ 62 ∷ 64 ∷ 66 ∷ 68 ∷ 70 ∷ 72 ∷ 74 ∷ 76 ∷ 78 ∷ 80 ∷ 82 ∷ 84 ∷ 86 ∷ 88 ∷ 90 ∷ 92 ∷ 94 ∷ 96 ∷ 98 ∷ 100 ∷ 102 ∷ 104 ∷ 106 ∷ 108 ∷ 110 ∷ 112 ∷ 114 ∷ []) $
+      keep ! (12 ∷ 24 ∷ 11 ∷ 23 ∷ 10 ∷ 22 ∷ 9 ∷ 21 ∷ 8 ∷ 20 ∷ 7 ∷ 19 ∷ 6 ∷ 18 ∷ 5 ∷ 17 ∷ 4 ∷ 16 ∷ 3 ∷ 15 ∷ 2 ∷ 14 ∷ 1 ∷ 13 ∷ 25 ∷ 26 ∷ 27 ∷ 28 ∷ 29 ∷ 30 ∷ 31 ∷ 32 ∷ 33 ∷ 34 ∷ 35 ∷ 36 ∷ 37 ∷ 38 ∷ 39 ∷ 40 ∷ 41 ∷ 42 ∷ 43 ∷ 44 ∷ 45 ∷ 46 ∷ 47 ∷ 48 ∷ 49 ∷ 50 ∷ 51 ∷ 52 ∷ 53 ∷ 54 ∷ 55 ∷ 56 ∷ 57 ∷ 58 ∷ 59 ∷ 60 ∷ 61 ∷ 62 ∷ 63 ∷ 64 ∷ 65 ∷ 66 ∷ 67 ∷ 68 ∷ 69 ∷ 70 ∷ []) $
       assigns ! (of-opd ! (load ! (from ! (fld ! refl (stop !))) (look-in ! 62 (sub ! 1 refl (whole !))))) (from ! (stop !)) (init ! 55 refl (tt, record { fits = g₅ .0 })) $
       assigns ! (of-opd ! (load ! (from ! (fld ! refl (stop !))) (look-in ! 59 (sub ! 1 refl (whole !))))) (from ! (stop !)) (init ! 54 refl (tt, record { fits = g₈ .0 })) $
       assigns ! (addr ! (from ! (fld ! refl (hop ! (look-in ! 62 (sub ! 0 refl (whole !))) (stop !))))) (from ! (stop !)) (init ! 50 refl (tt, tt)) $
@@ -260,8 +260,8 @@ module _ {M : Type 1} (𝓤 : URA M) (H : Heap 𝓤) (A : Atoms 𝓤) (W : Given
       drop ! $
       assigns ! (of-opd ! (load ! (from ! (fld ! refl (stop !))) (look-in ! 50 (sub ! 2 refl (whole !))))) (from ! (stop !)) (init ! 67 refl (uint-lawful 𝓤 H A W w64 .typed (out .number) _ (LL.owed O.the-type O′.the-laws out (vo ∷ []) io .1 .1 .0) .0)) $
       returns ! (look ! 67 refl) $
-      move ! (67 ∷ 112 ∷ 66 ∷ 111 ∷ 65 ∷ 110 ∷ 64 ∷ 109 ∷ 63 ∷ 108 ∷ 62 ∷ 107 ∷ 61 ∷ 106 ∷ 60 ∷ 105 ∷ 59 ∷ 104 ∷ 58 ∷ 103 ∷ 57 ∷ 102 ∷ 56 ∷ 101 ∷ 55 ∷ 100 ∷ 54 ∷ 99 ∷ 53 ∷ 98 ∷ 52 ∷ 97 ∷ 51 ∷ 96 ∷ 50 ∷ 95 ∷ 49 ∷ 94 ∷ 48 ∷ 93 ∷ 47 ∷ 92 ∷ 46 ∷ 91 ∷ 45 ∷ 90 ∷ 44 ∷ 89 ∷ 43 ∷ 88 ∷ 42 ∷ 87 ∷ 41 ∷ 86 ∷ 40 ∷ 85 ∷ 39 ∷ 84 ∷ 38 ∷ 83 ∷ 37 ∷ 82 ∷ 36 ∷ 81 ∷ 35 ∷ 80 ∷ 34 ∷ 79 ∷ 33 ∷ 78 ∷ 32 ∷ 77 ∷ 31 ∷ 76 ∷ 30 ∷ 75 ∷ 29 ∷ 74 ∷ 28 ∷ 73 ∷ 27 ∷ 72 ∷ 26 ∷ 71 ∷ 25 ∷ 70 ∷ 24 ∷ 69 ∷ 23 ∷ 68 ∷ []) $
-      free-all W ! ((_, _, _) ∷ (_, _, _) ∷ (_, _, _) ∷ (_, _, _) ∷ (_, _, _) ∷ (_, _, _) ∷ (_, _, _) ∷ (_, _, _) ∷ (_, _, _) ∷ (_, _, _) ∷ (_, _, _) ∷ (_, _, _) ∷ (_, _, _) ∷ (_, _, _) ∷ (_, _, _) ∷ (_, _, _) ∷ (_, _, _) ∷ (_, _, _) ∷ (_, _, _) ∷ (_, _, _) ∷ (_, _, _) ∷ (_, _, _) ∷ (_, _, _) ∷ (_, _, _) ∷ (_, _, _) ∷ (_, _, _) ∷ (_, _, _) ∷ (_, _, _) ∷ (_, _, _) ∷ (_, _, _) ∷ (_, _, _) ∷ (_, _, _) ∷ (_, _, _) ∷ (_, _, _) ∷ (_, _, _) ∷ (_, _, _) ∷ (_, _, _) ∷ (_, _, _) ∷ (_, _, _) ∷ (_, _, _) ∷ (_, _, _) ∷ (_, _, _) ∷ (_, _, _) ∷ (_, _, _) ∷ (_, _, _) ∷ []) $
+      move ! (68 ∷ 67 ∷ 66 ∷ 65 ∷ 64 ∷ 63 ∷ 62 ∷ 61 ∷ 60 ∷ 59 ∷ 58 ∷ 57 ∷ 56 ∷ 55 ∷ 54 ∷ 53 ∷ 52 ∷ 51 ∷ 50 ∷ 49 ∷ 48 ∷ 47 ∷ 46 ∷ 45 ∷ 44 ∷ 43 ∷ 42 ∷ 41 ∷ 40 ∷ 39 ∷ 38 ∷ 37 ∷ 36 ∷ 35 ∷ 34 ∷ 33 ∷ 32 ∷ 31 ∷ 30 ∷ 29 ∷ 28 ∷ 27 ∷ 26 ∷ 25 ∷ 24 ∷ 23 ∷ []) $
+      free-all W ! ((_, _, _) ∷ (_, _, _) ∷ (_, _, _) ∷ (_, _, _) ∷ (_, _, _) ∷ (_, _, _) ∷ (_, _, _) ∷ (_, _, _) ∷ (_, _, _) ∷ (_, _, _) ∷ (_, _, _) ∷ (_, _, _) ∷ (_, _, _) ∷ (_, _, _) ∷ (_, _, _) ∷ (_, _, _) ∷ (_, _, _) ∷ (_, _, _) ∷ (_, _, _) ∷ (_, _, _) ∷ (_, _, _) ∷ (_, _, _) ∷ (_, _, _) ∷ (_, _, _) ∷ (_, _, _) ∷ (_, _, _) ∷ (_, _, _) ∷ (_, _, _) ∷ (_, _, _) ∷ (_, _, _) ∷ (_, _, _) ∷ (_, _, _) ∷ (_, _, _) ∷ (_, _, _) ∷ (_, _, _) ∷ (_, _, _) ∷ (_, _, _) ∷ (_, _, _) ∷ (_, _, _) ∷ (_, _, _) ∷ (_, _, _) ∷ (_, _, _) ∷ (_, _, _) ∷ (_, _, _) ∷ (_, _, _) ∷ []) Dies dies $
       suffices ! _ (ends-at 𝓤 H A entry′.ended stayed (entry′.clauses 𝓤 H A mem run) W (((κ₀, (κ₁, (κ₂, (κ₃, (κ₄, (κ₅, (κ₆, (κ₇, (κ₈, (κ₉, (κ₁₀, (κ₁₁, tt)))))))))))), (q₀, (q₁, (q₂, (q₃, (q₄, (q₅, (q₆, (q₇, (q₈, (q₉, (q₁₀, (q₁₁, tt)))))))))))), tt, (record { ptr = (b₀, o₀); name = γ₀; now = ys₀ }, (record { ptr = (b₁, o₁); name = γ₁; now = ys₁ }, (record { ptr = (b₂, o₂); name = γ₂; now = ys₂ }, (record { ptr = (b₃, o₃); name = γ₃; now = ys₃ }, (record { ptr = (b₄, o₄); name = γ₄; now = ys₄ }, (record { ptr = (b₅, o₅); name = γ₅; now = ys₅ }, (record { ptr = (b₆, o₆); name = γ₆; now = ys₆ }, (record { ptr = (b₇, o₇); name = γ₇; now = ys₇ }, (record { ptr = (b₈, o₈); name = γ₈; now = ys₈ }, (record { ptr = (b₉, o₉); name = γ₉; now = ys₉ }, (record { ptr = (b₁₀, o₁₀); name = γ₁₀; now = ys₁₀ }, (record { ptr = (b₁₁, o₁₁); name = γ₁₁; now = ys₁₁ }, tt)))))))))))), (sliceVal (b₀, o₀) (length ys₀) ∷ [], (sliceVal (b₁, o₁) (length ys₁) ∷ [], (sliceVal (b₂, o₂) (length ys₂) ∷ [], (sliceVal (b₃, o₃) (length ys₃) ∷ [], (sliceVal (b₄, o₄) (length ys₄) ∷ [], (sliceVal (b₅, o₅) (length ys₅) ∷ [], (sliceVal (b₆, o₆) (length ys₆) ∷ [], (sliceVal (b₇, o₇) (length ys₇) ∷ [], (sliceVal (b₈, o₈) (length ys₈) ∷ [], (sliceVal (b₉, o₉) (length ys₉) ∷ [], (sliceVal (b₁₀, o₁₀) (length ys₁₀) ∷ [], (sliceVal (b₁₁, o₁₁) (length ys₁₁) ∷ [], tt))))))))))))), tt) (vint w64 (out .number)) (out .number) (zc .0, (zc .1 .0, (zc .1 .1 .0, (zc .1 .1 .1 .0, (zc .1 .1 .1 .1 .0, (z₄ .0, (zc .1 .1 .1 .1 .1 .0, (zc .1 .1 .1 .1 .1 .1 .0, (z₅ .0, (zc .1 .1 .1 .1 .1 .1 .1 .0, (tt, (zc .1 .1 .1 .1 .1 .1 .1 .1 .1 .0, tt)))))))))))) (h₀, (h₁, (h₂, (h₃, (h₄, (h₅, (h₆, (h₇, (h₈, (h₉, (tt, (h₁₁, tt))))))))))))) $ says ! (sequence-slots ys₀ ys₁ ys₂ ys₃ ys₄ ys₅ ys₆ ys₇ ys₈ ys₉ c₁ c₂ e₁ e₂ (zc .0) (zc .1 .0) (zc .1 .1 .0) (zc .1 .1 .1 .0) (zc .1 .1 .1 .1 .0) (out .cpu) (zc .1 .1 .1 .1 .1 .0) (zc .1 .1 .1 .1 .1 .1 .0) (out .dma) (zc .1 .1 .1 .1 .1 .1 .1 .0) (field-row (out .cpu) (array-vals (uint-vals w64) (field-words (out .cpu))) (LL.owed O.the-type O′.the-laws out (vo ∷ []) io .0) .1 .0 .1) (field-row (out .dma) (array-vals (uint-vals w64) (field-words (out .dma))) (LL.owed O.the-type O′.the-laws out (vo ∷ []) io .1 .0) .1 .0 .1) (z₄ .0) (z₅ .0) e₄ e₅ (out .number) ys₁₁ (zc .1 .1 .1 .1 .1 .1 .1 .1 .1 .0) ys₁₀ ec) $
       nothing ! $
       move ! (14 ∷ 13 ∷ 12 ∷ 11 ∷ 10 ∷ 3 ∷ 9 ∷ 8 ∷ 1 ∷ 7 ∷ 6 ∷ 5 ∷ 0 ∷ []) $

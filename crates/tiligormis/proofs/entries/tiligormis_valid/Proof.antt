@@ -115,15 +115,15 @@ module _ {M : Type 1} (𝓤 : URA M) (H : Heap 𝓤) (A : Atoms 𝓤) (W : Given
       → ent 𝓤 (onEntry 𝓤 H A entry′.signature (κ₀, (κ₁, (κ₂, (κ₃, (κ₄, (κ₅, (κ₆, (κ₇, (κ₈, (κ₉, tt)))))))))) (q₀, (q₁, (q₂, (q₃, (q₄, (q₅, (q₆, (q₇, (q₈, (q₉, tt)))))))))) (record { ptr = (b₀, o₀); name = γ₀; now = ys₀ }, (record { ptr = (b₁, o₁); name = γ₁; now = ys₁ }, (record { ptr = (b₂, o₂); name = γ₂; now = ys₂ }, (record { ptr = (b₃, o₃); name = γ₃; now = ys₃ }, (record { ptr = (b₄, o₄); name = γ₄; now = ys₄ }, (record { ptr = (b₅, o₅); name = γ₅; now = ys₅ }, (record { ptr = (b₆, o₆); name = γ₆; now = ys₆ }, (record { ptr = (b₇, o₇); name = γ₇; now = ys₇ }, (record { ptr = (b₈, o₈); name = γ₈; now = ys₈ }, (record { ptr = (b₉, o₉); name = γ₉; now = ys₉ }, tt)))))))))) (sliceVal (b₀, o₀) (length ys₀) ∷ [], (sliceVal (b₁, o₁) (length ys₁) ∷ [], (sliceVal (b₂, o₂) (length ys₂) ∷ [], (sliceVal (b₃, o₃) (length ys₃) ∷ [], (sliceVal (b₄, o₄) (length ys₄) ∷ [], (sliceVal (b₅, o₅) (length ys₅) ∷ [], (sliceVal (b₆, o₆) (length ys₆) ∷ [], (sliceVal (b₇, o₇) (length ys₇) ∷ [], (sliceVal (b₈, o₈) (length ys₈) ∷ [], (sliceVal (b₉, o₉) (length ys₉) ∷ [], tt))))))))))) (WpFn 𝓤 H (𝓣 .C) (𝓣 .Λ) code.function (sliceVal (b₀, o₀) (length ys₀) ∷ sliceVal (b₁, o₁) (length ys₁) ∷ sliceVal (b₂, o₂) (length ys₂) ∷ sliceVal (b₃, o₃) (length ys₃) ∷ sliceVal (b₄, o₄) (length ys₄) ∷ sliceVal (b₅, o₅) (length ys₅) ∷ sliceVal (b₆, o₆) (length ys₆) ∷ sliceVal (b₇, o₇) (length ys₇) ∷ sliceVal (b₈, o₈) (length ys₈) ∷ sliceVal (b₉, o₉) (length ys₉) ∷ []) Post)
   walk 𝓣 fm known-load known-core =
       qed W ((‵ (flft κ₀ q₀) ⊛ (‵ (flft κ₁ q₁) ⊛ (‵ (flft κ₂ q₂) ⊛ (‵ (flft κ₃ q₃) ⊛ (‵ (flft κ₄ q₄) ⊛ (‵ (flft κ₅ q₅) ⊛ (‵ (flft κ₆ q₆) ⊛ (‵ (flft κ₇ q₇) ⊛ (‵ (flft κ₈ q₈) ⊛ (‵ (flft κ₉ q₉) ⊛ ‵ ftrue)))))))))) ∷ ‵ (owns (ShrSlice (named 0) κ₀ u64 ∷ ShrSlice (named 1) κ₁ u64 ∷ ShrSlice (named 2) κ₂ u64 ∷ ShrSlice (named 3) κ₃ u64 ∷ ShrSlice (named 4) κ₄ u64 ∷ ShrSlice (named 5) κ₅ R ∷ ShrSlice (named 6) κ₆ u64 ∷ ShrSlice (named 7) κ₇ u64 ∷ ShrSlice (named 8) κ₈ R ∷ ShrSlice (named 9) κ₉ u64 ∷ []) (record { ptr = (b₀, o₀); name = γ₀; now = ys₀ }, (record { ptr = (b₁, o₁); name = γ₁; now = ys₁ }, (record { ptr = (b₂, o₂); name = γ₂; now = ys₂ }, (record { ptr = (b₃, o₃); name = γ₃; now = ys₃ }, (record { ptr = (b₄, o₄); name = γ₄; now = ys₄ }, (record { ptr = (b₅, o₅); name = γ₅; now = ys₅ }, (record { ptr = (b₆, o₆); name = γ₆; now = ys₆ }, (record { ptr = (b₇, o₇); name = γ₇; now = ys₇ }, (record { ptr = (b₈, o₈); name = γ₈; now = ys₈ }, (record { ptr = (b₉, o₉); name = γ₉; now = ys₉ }, tt)))))))))) (sliceVal (b₀, o₀) (length ys₀) ∷ [], (sliceVal (b₁, o₁) (length ys₁) ∷ [], (sliceVal (b₂, o₂) (length ys₂) ∷ [], (sliceVal (b₃, o₃) (length ys₃) ∷ [], (sliceVal (b₄, o₄) (length ys₄) ∷ [], (sliceVal (b₅, o₅) (length ys₅) ∷ [], (sliceVal (b₆, o₆) (length ys₆) ∷ [], (sliceVal (b₇, o₇) (length ys₇) ∷ [], (sliceVal (b₈, o₈) (length ys₈) ∷ [], (sliceVal (b₉, o₉) (length ys₉) ∷ [], tt))))))))))) ∷ []) ∵ enter ! (𝓣 .C) (𝓣 .Λ) code.function (sliceVal (b₀, o₀) (length ys₀) ∷ sliceVal (b₁, o₁) (length ys₁) ∷ sliceVal (b₂, o₂) (length ys₂) ∷ sliceVal (b₃, o₃) (length ys₃) ∷ sliceVal (b₄, o₄) (length ys₄) ∷ sliceVal (b₅, o₅) (length ys₅) ∷ sliceVal (b₆, o₆) (length ys₆) ∷ sliceVal (b₇, o₇) (length ys₇) ∷ sliceVal (b₈, o₈) (length ys₈) ∷ sliceVal (b₉, o₉) (length ys₉) ∷ []) _ $
-      alloc-all ! (λ l₀ l₁ l₂ l₃ l₄ l₅ l₆ l₇ l₈ l₉ l₁₀ l₁₁ l₁₂ l₁₃ l₁₄.
+      alloc-all ! (λ l₀ l₁ l₂ l₃ l₄ l₅ l₆ l₇ l₈ l₉ l₁₀ l₁₁ l₁₂ l₁₃ l₁₄ Dies dies.
       params1 ! $
-      pass-all ! 26 ((refl, (tt, (tt, (record { fits = g₀ .0 }, tt)))), ((refl, (tt, (tt, (record { fits = g₁ .0 }, tt)))), ((refl, (tt, (tt, (record { fits = g₂ .0 }, tt)))), ((refl, (tt, (tt, (record { fits = g₃ .0 }, tt)))), ((refl, (tt, (tt, (record { fits = g₄ .0 }, tt)))), ((refl, (tt, (tt, (record { fits = g₅ .0 }, tt)))), ((refl, (tt, (tt, (record { fits = g₆ .0 }, tt)))), ((refl, (tt, (tt, (record { fits = g₇ .0 }, tt)))), ((refl, (tt, (tt, (record { fits = g₈ .0 }, tt)))), ((refl, (tt, (tt, (record { fits = g₉ .0 }, tt)))), tt)))))))))) $
-      move ! (30 ∷ []) $
+      pass-all ! 13 ((refl, (tt, (tt, (record { fits = g₀ .0 }, tt)))), ((refl, (tt, (tt, (record { fits = g₁ .0 }, tt)))), ((refl, (tt, (tt, (record { fits = g₂ .0 }, tt)))), ((refl, (tt, (tt, (record { fits = g₃ .0 }, tt)))), ((refl, (tt, (tt, (record { fits = g₄ .0 }, tt)))), ((refl, (tt, (tt, (record { fits = g₅ .0 }, tt)))), ((refl, (tt, (tt, (record { fits = g₆ .0 }, tt)))), ((refl, (tt, (tt, (record { fits = g₇ .0 }, tt)))), ((refl, (tt, (tt, (record { fits = g₈ .0 }, tt)))), ((refl, (tt, (tt, (record { fits = g₉ .0 }, tt)))), tt)))))))))) $
+      move ! (16 ∷ []) $
       apart W ! _ (_ ∷ _ ∷ _ ∷ _ ∷ _ ∷ _ ∷ _ ∷ _ ∷ _ ∷ _ ∷ []) $
       drop ! $
-      move ! (40 ∷ []) $
+      move ! (26 ∷ []) $
       fapart W ! _ (_ ∷ _ ∷ _ ∷ _ ∷ _ ∷ _ ∷ _ ∷ _ ∷ _ ∷ _ ∷ []) $
-      keep ! (10 ∷ 20 ∷ 9 ∷ 19 ∷ 8 ∷ 18 ∷ 7 ∷ 17 ∷ 6 ∷ 16 ∷ 5 ∷ 15 ∷ 4 ∷ 14 ∷ 3 ∷ 13 ∷ 2 ∷ 12 ∷ 1 ∷ 11 ∷ 21 ∷ 23 ∷ 25 ∷ 27 ∷ 29 ∷ 31 ∷ 33 ∷ 35 ∷ 37 ∷ 39 ∷ 41 ∷ 43 ∷ 45 ∷ 47 ∷ 49 ∷ 22 ∷ 24 ∷ 26 ∷ 28 ∷ 30 ∷ 32 ∷ 34 ∷ 36 ∷ 38 ∷ 40 ∷ 42 ∷ 44 ∷ 46 ∷ 48 ∷ 50 ∷ []) $
+      keep ! (10 ∷ 20 ∷ 9 ∷ 19 ∷ 8 ∷ 18 ∷ 7 ∷ 17 ∷ 6 ∷ 16 ∷ 5 ∷ 15 ∷ 4 ∷ 14 ∷ 3 ∷ 13 ∷ 2 ∷ 12 ∷ 1 ∷ 11 ∷ 21 ∷ 22 ∷ 23 ∷ 24 ∷ 25 ∷ 26 ∷ 27 ∷ 28 ∷ 29 ∷ 30 ∷ 31 ∷ 32 ∷ 33 ∷ 34 ∷ 35 ∷ 36 ∷ []) $
       assigns ! (of-opd ! (load ! (from ! (fld ! refl (stop !))) (look-in ! 28 (sub ! 1 refl (whole !))))) (from ! (stop !)) (init ! 23 refl (tt, record { fits = g₅ .0 })) $
       assigns ! (of-opd ! (load ! (from ! (fld ! refl (stop !))) (look-in ! 25 (sub ! 1 refl (whole !))))) (from ! (stop !)) (init ! 22 refl (tt, record { fits = g₈ .0 })) $
       move ! (11 ∷ 10 ∷ []) $
@@ -159,8 +159,8 @@ module _ {M : Type 1} (𝓤 : URA M) (H : Heap 𝓤) (A : Atoms 𝓤) (W : Given
       apart W ! _ (_ ∷ _ ∷ _ ∷ _ ∷ _ ∷ _ ∷ _ ∷ _ ∷ []) $
       drop ! $
       returns ! (look ! 24 refl) $
-      move ! (24 ∷ 39 ∷ 23 ∷ 38 ∷ 22 ∷ 37 ∷ 21 ∷ 36 ∷ 20 ∷ 35 ∷ 19 ∷ 34 ∷ 18 ∷ 33 ∷ 17 ∷ 32 ∷ 16 ∷ 31 ∷ 15 ∷ 30 ∷ 14 ∷ 29 ∷ 13 ∷ 28 ∷ 12 ∷ 27 ∷ 11 ∷ 26 ∷ 10 ∷ 25 ∷ []) $
-      free-all W ! ((_, _, _) ∷ (_, _, _) ∷ (_, _, _) ∷ (_, _, _) ∷ (_, _, _) ∷ (_, _, _) ∷ (_, _, _) ∷ (_, _, _) ∷ (_, _, _) ∷ (_, _, _) ∷ (_, _, _) ∷ (_, _, _) ∷ (_, _, _) ∷ (_, _, _) ∷ (_, _, _) ∷ []) $
+      move ! (25 ∷ 24 ∷ 23 ∷ 22 ∷ 21 ∷ 20 ∷ 19 ∷ 18 ∷ 17 ∷ 16 ∷ 15 ∷ 14 ∷ 13 ∷ 12 ∷ 11 ∷ 10 ∷ []) $
+      free-all W ! ((_, _, _) ∷ (_, _, _) ∷ (_, _, _) ∷ (_, _, _) ∷ (_, _, _) ∷ (_, _, _) ∷ (_, _, _) ∷ (_, _, _) ∷ (_, _, _) ∷ (_, _, _) ∷ (_, _, _) ∷ (_, _, _) ∷ (_, _, _) ∷ (_, _, _) ∷ (_, _, _) ∷ []) Dies dies $
       suffices ! _ (ends-at 𝓤 H A entry′.ended stayed (entry′.clauses 𝓤 H A mem run) W (((κ₀, (κ₁, (κ₂, (κ₃, (κ₄, (κ₅, (κ₆, (κ₇, (κ₈, (κ₉, tt)))))))))), (q₀, (q₁, (q₂, (q₃, (q₄, (q₅, (q₆, (q₇, (q₈, (q₉, tt)))))))))), tt, (record { ptr = (b₀, o₀); name = γ₀; now = ys₀ }, (record { ptr = (b₁, o₁); name = γ₁; now = ys₁ }, (record { ptr = (b₂, o₂); name = γ₂; now = ys₂ }, (record { ptr = (b₃, o₃); name = γ₃; now = ys₃ }, (record { ptr = (b₄, o₄); name = γ₄; now = ys₄ }, (record { ptr = (b₅, o₅); name = γ₅; now = ys₅ }, (record { ptr = (b₆, o₆); name = γ₆; now = ys₆ }, (record { ptr = (b₇, o₇); name = γ₇; now = ys₇ }, (record { ptr = (b₈, o₈); name = γ₈; now = ys₈ }, (record { ptr = (b₉, o₉); name = γ₉; now = ys₉ }, tt)))))))))), (sliceVal (b₀, o₀) (length ys₀) ∷ [], (sliceVal (b₁, o₁) (length ys₁) ∷ [], (sliceVal (b₂, o₂) (length ys₂) ∷ [], (sliceVal (b₃, o₃) (length ys₃) ∷ [], (sliceVal (b₄, o₄) (length ys₄) ∷ [], (sliceVal (b₅, o₅) (length ys₅) ∷ [], (sliceVal (b₆, o₆) (length ys₆) ∷ [], (sliceVal (b₇, o₇) (length ys₇) ∷ [], (sliceVal (b₈, o₈) (length ys₈) ∷ [], (sliceVal (b₉, o₉) (length ys₉) ∷ [], tt))))))))))), tt) (vo) (out) (tt, (tt, (tt, (tt, (tt, (tt, (tt, (tt, (tt, (tt, tt)))))))))) (tt, (tt, (tt, (tt, (tt, (tt, (tt, (tt, (tt, (tt, tt))))))))))) $ says ! (decides-slots ys₀ ys₁ ys₂ ys₃ ys₄ ys₅ ys₆ ys₇ ys₈ ys₉ c₁ c₂ e₁ e₂ ec) $
       nothing ! $
       move ! (8 ∷ 7 ∷ 6 ∷ 5 ∷ 4 ∷ 10 ∷ 3 ∷ 2 ∷ 9 ∷ 1 ∷ 0 ∷ []) $
