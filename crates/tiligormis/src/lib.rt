@@ -1,3 +1,2 @@
-// The public face of the machine, for C and Rust: the entries over caches of slot records, and one cache by itself.
-pub mod cache;
+// The public face of the machine, for C and Rust: the entries over caches of slot records. What works on one cache is crate `cache`.
 pub mod entries;

@@ -39,7 +39,7 @@ use denote.Exit.{yes}
 use Rattle.model.specs.Start.{freeRefused}
 use Rattle.cores.specs.Boxes.{box}
 use Rattle.cores.specs.Given.{Judgement, freeGives, freeTold, freeGiven, FreeAsked, Whole, same}
-use Rattle.tiligormis.specs.BoxLaws.{free-slots}
+use Rattle.boxes.specs.BoxLaws.{free-slots}
 use Rattle.slots.specs.Slots.{AllFit, loaded}
 use Rattle.slots.specs.declared.Slot.{Slot}
 use Rattle.slots.proofs.Rows.{R, Row, row-makes, row-typed}
@@ -51,7 +51,7 @@ use Rattle.cores.proofs.free as core′
 use Rattle.cores.proofs.free.Symbol as core-def
 use Rattle.cores.proofs.free.Symbol.{name as #core}
 use Rattle.cores.proofs.free.Met as core-thm
-use Rattle.tiligormis.proofs.AtOnce.{alloc-all, pass-all, free-all, apart, fapart, fwhole, last-eq}
+use Rattle.slots.proofs.AtOnce.{alloc-all, pass-all, free-all, apart, fapart, fwhole, last-eq}
 use Rattle.tiligormis.proofs.entries.tiligormis_free.Key.{name as #entry}
 use Rattle.tiligormis.proofs.entries.tiligormis_free as entry′
 use Rattle.tiligormis.proofs.entries.tiligormis_free.Statement as stated

@@ -43,11 +43,11 @@ use Rattle.start.specs.Begun.{told}
 use Rattle.cores.specs.Boxes.{box}
 use Rattle.cores.specs.Given.{StartOfWords, startGiven}
 use Rattle.cores.specs.declared.Finished.{Finished}
-use Rattle.tiligormis.specs.BoxLaws.{start-slots}
+use Rattle.boxes.specs.BoxLaws.{start-slots}
 use Rattle.slots.specs.Slots.{AllFit, loaded, stored}
 use Rattle.slots.specs.declared.Slot.{Slot}
-use Rattle.tiligormis.proofs.AtOnce.{alloc-all, pass-all, free-all, apart, fapart, fwhole, last-eq}
-use Rattle.tiligormis.proofs.SharedLoan.{SharedOut, lends-shared, shared-back}
+use Rattle.slots.proofs.AtOnce.{alloc-all, pass-all, free-all, apart, fapart, fwhole, last-eq}
+use Rattle.slots.proofs.SharedLoan.{SharedOut, lends-shared, shared-back}
 use Rattle.slots.proofs.Rows.{R, Row, field-words, field-row, row-makes, row-typed}
 use Rattle.cores.proofs.Finished as O
 use Rattle.cores.proofs.Finished.Laws as O′

@@ -40,7 +40,7 @@ use mathlib.Core.Bool.{Bool}
 use Rattle.numbers.specs.Decides.{Decides}
 use Rattle.cores.specs.Boxes.{box, BoxValid}
 use Rattle.cores.specs.Given.{Whole, same}
-use Rattle.tiligormis.specs.BoxLaws.{decides-slots}
+use Rattle.boxes.specs.BoxLaws.{decides-slots}
 use Rattle.slots.specs.Slots.{AllFit, loaded}
 use Rattle.slots.specs.declared.Slot.{Slot}
 use Rattle.slots.proofs.Rows.{R, Row, row-makes, row-typed}
@@ -53,7 +53,7 @@ use Rattle.cores.proofs.valid as core′
 use Rattle.cores.proofs.valid.Symbol as core-def
 use Rattle.cores.proofs.valid.Symbol.{name as #core}
 use Rattle.cores.proofs.valid.Met as core-thm
-use Rattle.tiligormis.proofs.AtOnce.{alloc-all, pass-all, free-all, apart, fapart, fwhole}
+use Rattle.slots.proofs.AtOnce.{alloc-all, pass-all, free-all, apart, fapart, fwhole}
 use Rattle.tiligormis.proofs.entries.tiligormis_valid.Key.{name as #entry}
 use Rattle.tiligormis.proofs.entries.tiligormis_valid as entry′
 use Rattle.tiligormis.proofs.entries.tiligormis_valid.Statement as stated

@@ -44,8 +44,8 @@ use Rattle.slots.specs.Calls.{change, emptyWord}
 use Rattle.slots.specs.Slots.{AllFit, loaded, stored}
 use Rattle.slots.specs.declared.Slot.{Slot}
 use Rattle.slots.specs.declared.Changed.{Changed}
-use Rattle.tiligormis.proofs.AtOnce.{alloc-all, pass-all, free-all, fapart, fwhole, last-eq}
-use Rattle.tiligormis.proofs.SharedLoan.{SharedOut, lends-shared, shared-back}
+use Rattle.slots.proofs.AtOnce.{alloc-all, pass-all, free-all, fapart, fwhole, last-eq}
+use Rattle.slots.proofs.SharedLoan.{SharedOut, lends-shared, shared-back}
 use Rattle.slots.proofs.Rows.{R, Row, field-words, field-row, row-makes, row-typed}
 use Rattle.slots.proofs.Changed as O
 use Rattle.slots.proofs.Changed.Laws as O′
@@ -61,10 +61,10 @@ use Rattle.slots.proofs.empty as core′
 use Rattle.slots.proofs.empty.Symbol as core-def
 use Rattle.slots.proofs.empty.Symbol.{name as #core}
 use Rattle.slots.proofs.empty.Met as core-thm
-use Rattle.tiligormis.proofs.cache.tiligormis_empty_slot.Key.{name as #entry}
-use Rattle.tiligormis.proofs.cache.tiligormis_empty_slot as entry′
-use Rattle.tiligormis.proofs.cache.tiligormis_empty_slot.Statement as stated
-use Rattle.tiligormis.proofs.cache.tiligormis_empty_slot.Code as code
+use Rattle.cache.proofs.tiligormis_empty_slot.Key.{name as #entry}
+use Rattle.cache.proofs.tiligormis_empty_slot as entry′
+use Rattle.cache.proofs.tiligormis_empty_slot.Statement as stated
+use Rattle.cache.proofs.tiligormis_empty_slot.Code as code
 
 abbrev Or : RattleType
 Or = O.the-row

@@ -47,11 +47,11 @@ use Rattle.slots.proofs.find as core′
 use Rattle.slots.proofs.find.Symbol as core-def
 use Rattle.slots.proofs.find.Symbol.{name as #core}
 use Rattle.slots.proofs.find.Met as core-thm
-use Rattle.tiligormis.proofs.AtOnce.{alloc-all, pass-all, free-all, fapart, fwhole}
-use Rattle.tiligormis.proofs.cache.tiligormis_find_slot.Key.{name as #entry}
-use Rattle.tiligormis.proofs.cache.tiligormis_find_slot as entry′
-use Rattle.tiligormis.proofs.cache.tiligormis_find_slot.Statement as stated
-use Rattle.tiligormis.proofs.cache.tiligormis_find_slot.Code as code
+use Rattle.slots.proofs.AtOnce.{alloc-all, pass-all, free-all, fapart, fwhole}
+use Rattle.cache.proofs.tiligormis_find_slot.Key.{name as #entry}
+use Rattle.cache.proofs.tiligormis_find_slot as entry′
+use Rattle.cache.proofs.tiligormis_find_slot.Statement as stated
+use Rattle.cache.proofs.tiligormis_find_slot.Code as code
 
 abbrev Or : RattleType
 Or = usize
