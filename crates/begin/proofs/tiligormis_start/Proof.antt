@@ -63,10 +63,10 @@ use Rattle.cores.proofs.start as core′
 use Rattle.cores.proofs.start.Symbol as core-def
 use Rattle.cores.proofs.start.Symbol.{name as #core}
 use Rattle.cores.proofs.start.Met as core-thm
-use Rattle.tiligormis.proofs.entries.tiligormis_start.Key.{name as #entry}
-use Rattle.tiligormis.proofs.entries.tiligormis_start as entry′
-use Rattle.tiligormis.proofs.entries.tiligormis_start.Statement as stated
-use Rattle.tiligormis.proofs.entries.tiligormis_start.Code as code
+use Rattle.begin.proofs.tiligormis_start.Key.{name as #entry}
+use Rattle.begin.proofs.tiligormis_start as entry′
+use Rattle.begin.proofs.tiligormis_start.Statement as stated
+use Rattle.begin.proofs.tiligormis_start.Code as code
 
 abbrev Or : RattleType
 Or = O.the-row
