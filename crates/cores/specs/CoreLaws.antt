@@ -7,7 +7,7 @@ use lib.ListN.{length}
 use Rattle.numbers.specs.Decides.{Decides}
 use Rattle.numbers.specs.DecidesLaws.{decides-as}
 use Rattle.numbers.specs.Limits.{ROW-NUMBERS, ANSWER-NUMBERS}
-use Rattle.numbers.specs.Meaning.{answerNumbers}
+use Rattle.numbers.specs.Meaning.{answerNumbers, numberOf}
 use Rattle.numbers.specs.declared.Answer.{Answer}
 use Rattle.numbers.specs.declared.Answer.the-variants.{Accepted, Refused}
 use Rattle.model.specs.Effect.{kept}
@@ -21,7 +21,7 @@ use Rattle.model.specs.declared.Machine.{Machine}
 use Rattle.model.specs.Step.{Stepped}
 use Rattle.header.specs.HeaderLaws.{changed-same}
 use Rattle.start.specs.Begun.{emptyHeader}
-use Rattle.header.specs.Numbers.{HeaderGood, machineOf, changed, begun, begunBy, numberOf, answered, freeNumbers}
+use Rattle.header.specs.Numbers.{HeaderGood, machineOf, changed, begun, begunBy, answered, freeNumbers}
 use Rattle.cores.specs.Boxes.{Box, BoxValid, stateIn, lentIn, withHeader, boxOf, leftIn, begunIn}
 use Rattle.cores.specs.Given.{Judgement, met, unmet, Given, given, answeredBy, operationGives, operationRefused, OperationAsked, ranThrough, sequenceGives, refusedWhole, FreeGiven, freeTold, FreeAsked, freeGives, freeGiven, FREE-NUMBERS, StartGiven, startGiven, startGives, startShort, StartOfWords, all-there, not-whole, no-header, notValid, Whole, same, HeaderWhole}
 use Rattle.model.specs.RefusedLaws.{row-leaves, sequence-leaves}
@@ -60,7 +60,7 @@ module _ (b : Box (List ℕ)) (h : HeaderGood (b .header)) where
         → Judgement (Whole cpuSlots dmaSlots × BoxValid same b) (sequenceGives same same b rows room) (refusedWhole b room) (runs r)
     sequence-given r w (valid v e) =
         met (w, record { header = h; state = v })
-        (ap runs e ∙ ap (given (numberOf (sequence s rows room .answer)) (sequence s rows room .progress .room)) (left-kept (sequence s rows room .answer) (sequence s rows room .progress .state) (sequence-leaves s rows room)))
+        (ap runs e ∙ ap (given (numberOf (sequence s rows room .answer)) (sequence s rows room .progress .room)) (left-kept (sequence s rows room .answer) (sequence s rows room .progress .state) (sequence-leaves s rows room .state)))
     sequence-given r w (not-valid n e) = unmet (λ a. n (a .1 .state)) (ap runs e ∙ ap (given _ _) left-same)
 
   -- ---- the free query
