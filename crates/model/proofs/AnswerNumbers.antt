@@ -9,7 +9,7 @@ use mathlib.Core.Path.{_≡_, refl, sym, _∙_}
 use native.Mathlib.Omega.{arith}
 use lib.Dec.{eqb, ltb}
 use lib.ListN.{length, getD, List·getD-eq-default}
-use borrow.Author.Tests.{ltb-true, ltb-false, eqb-true, not-false}
+use borrow.Author.Tests.{ltb-true, ltb-false, eqb-true}
 use Rattle.numbers.specs.CaseLaws.{cases}
 use Rattle.numbers.specs.Choice.{if_then_else_}
 use Rattle.numbers.specs.Meaning.{refusalNumber, answerNumbers, numberOf}
