@@ -33,6 +33,7 @@ pub mod Exactly
 pub mod Determined
 pub mod Answers
 pub mod AnswerNumbers
+pub mod RefusalsListed
 pub mod EffectLaws
 pub mod Secret
 pub mod Secrecy
