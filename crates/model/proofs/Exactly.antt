@@ -1,18 +1,15 @@
 -- In valid tables an operation is accepted exactly where its conditions hold; and so a row, alone, at the entry or in a sequence, by the
 -- number of its answer.
-use Prim.Native.Nat.{ℕ, _+_, _*_, _%_, _≤_, _<_}
-use mathlib.Core.Bool.{not}
+use Prim.Native.Nat.{ℕ, _+_, _*_, _<_}
 use mathlib.Core.List.{List}
 use mathlib.Core.Logic.{_↔_}
 use mathlib.Core.Option.{Option, none, some}
 use mathlib.Core.Path.{_≡_, refl, sym, _∙_}
 use native.Mathlib.Omega.{arith}
-use lib.Dec.{eqb, leb}
-use lib.ListN.{length, getD}
-use borrow.Author.Tests.{leb-true, not-false}
+use lib.ListN.{getD}
 use Rattle.numbers.specs.Decides.{Decides}
 use Rattle.numbers.specs.DecidesLaws.{always, says-yes, says-no}
-use Rattle.numbers.specs.Limits.{READ, WRITE, ROW-NUMBERS, ANSWER-NUMBERS}
+use Rattle.numbers.specs.Limits.{READ, WRITE, ANSWER-NUMBERS}
 use Rattle.numbers.specs.Meaning.{refusalNumber, numberOf}
 use Rattle.numbers.specs.declared.Answer.{Answer}
 use Rattle.numbers.specs.declared.Answer.the-variants.{Accepted, Refused}
@@ -91,14 +88,13 @@ use Rattle.model.specs.Step.{
   step,
 }
 use Rattle.model.specs.Sequence.{operationIn, stepKnown, stepRow, Progress, Sequenced, rowAt, rowCount, after, shapeAnswer, sequence}
-use Rattle.model.specs.EarlyLaws.{past}
 use Rattle.model.specs.Valid.{ValidTables, Valid}
 use Rattle.model.specs.Entries.{valid, not-valid, JudgedRow, JudgedSequence}
 use Rattle.model.specs.Conditions.{accepts, Conditions, RowConditions}
 use Rattle.model.proofs.ExactLedger.{add-vm-exact, remove-vm-exact, assign-exact, reclaim-exact, share-exact, unshare-exact}
 use Rattle.model.proofs.ExactMaps.{map-exact, unmap-exact, port-exact, fill-exact, empty-exact, access-exact}
 use Rattle.model.proofs.ExactRegions.{insert-exact, remove-exact}
-use Rattle.model.proofs.Answers.{answer-row}
+use Rattle.model.proofs.Answers.{roomy, answer-row}
 use Rattle.model.proofs.Kept.{after-valid}
 
 pub exactly : (t : Tables) → ValidTables t → (operation : Operation) → Decides (accepts (control t operation .answer)) (Conditions t operation)
@@ -182,12 +178,6 @@ entry-exactly s row result (valid v e) = rw e (λ z. (v, row-exactly s v row .0 
 entry-exactly s row result (not-valid n e) = rw e (λ z. absurd (omega (arith, z)), λ c. absurd (n (c .0)))
 
 -- ---- row k of a sequence that is carried out, in the state that the rows before it left
-room-enough : (rows room : List ℕ) {dropped word : ℕ} → shapeAnswer rows room ≡ Accepted dropped word → rowCount rows * ANSWER-NUMBERS ≤ length room
-unfolding shapeAnswer
-room-enough rows room e =
-    let (a, b) = past (not (eqb (length rows % ROW-NUMBERS) 0)) _ _ _ e in
-    leb-true _ _ (not-false _ (past (not (leb (rowCount rows * ANSWER-NUMBERS) (length room))) _ _ _ b .0))
-
 pub answer-row-exactly : (s : State) (rows room : List ℕ) (result : Sequenced) → JudgedSequence s rows room result → numberOf (result .answer) ≡ 0 → (k : ℕ) → k < rowCount rows →
     (getD (result .progress .room) (k * ANSWER-NUMBERS) 0 ≡ 0) ↔ RowConditions (after rows k (record { state = s; room = room }) .state .tables) (rowAt rows k)
 unfolding sequence
@@ -200,7 +190,7 @@ answer-row-exactly s rows room result (valid v e) z k h = rw e (carried (shapeAn
         (getD (kept shape p (after rows (rowCount rows) p) .room) (k * ANSWER-NUMBERS) 0 ≡ 0) ↔ RowConditions (after rows k p .state .tables) (rowAt rows k)
     carried (Accepted dropped word) e′ z′ =
         let first : k * ANSWER-NUMBERS + 0 ≡ k * ANSWER-NUMBERS = omega arith in
-        rw (rw first at (answer-row rows p (rowCount rows) k 0 h (omega arith) (room-enough rows room e′)))
+        rw (rw first at (answer-row rows p (rowCount rows) k 0 h (omega arith) (roomy rows room e′ .0)))
         (row-exactly (after rows k p .state) (after-valid rows k p v) (rowAt rows k))
     carried (Refused refusal index) e′ z′ = absurd (omega (arith, refusal-above refusal, z′))
 answer-row-exactly s rows room result (not-valid n e) z k h = absurd (let z′ = rw e at z in omega (arith, z′))
