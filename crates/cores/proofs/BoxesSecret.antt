@@ -143,8 +143,8 @@ module _ (members : ℕ → Bool) (Secret : Tables → ℕ → Type 0) (reading 
       let s = stateIn wordsOf b in
       let s′ = stateIn wordsOf b′ in
       let calls : CallsAlike members Secret s rows room room′ (sequence s rows room) (sequence s′ rows′ room′) =
-          two-calls members Secret s s′ rows rows′ room room′ (states-alike b b′ like) same roomSame _ _ (valid (v .state) refl) (valid (v′ .state) refl)
-          (λ w a. reading .rows (begun s room) (begun s′ room′) rows rows′ (rowCount rows) w (states-alike b b′ like) (asked v (ap (λ (g : Given C). g .number) e ∙ ap numberOf a))) in
+      two-calls members Secret s s′ rows rows′ room room′ (states-alike b b′ like) same roomSame _ _ (valid (v .state) refl) (valid (v′ .state) refl)
+      (λ w a. reading .rows (begun s room) (begun s′ room′) rows rows′ (rowCount rows) w (states-alike b b′ like) (asked v (ap (λ (g : Given C). g .number) e ∙ ap numberOf a))) in
       rw (e, e′)
       (record {
         number = ap numberOf (calls .answer);

@@ -4,23 +4,28 @@ use Prim.Native.Nat.{ℕ, zero, suc, _*_, _<_}
 use mathlib.Core.Bool.{Bool, true, false}
 use mathlib.Core.List.{List, [], _∷_, map}
 use mathlib.Core.Option.{Option, none, some}
-use mathlib.Core.Path.{_≡_, refl, ap}
+use mathlib.Core.Path.{_≡_, refl, sym, ap, _∙_}
 use native.Mathlib.Omega.{arith}
 use lib.Dec.{eqb, ltb, lit<}
-use lib.ListN.{set, replicate}
+use lib.ListN.{getD, set, replicate}
 use borrow.Author.Tests.{ltb-true}
 use Rattle.numbers.specs.Limits.{VMS, PAGE-WORDS, WRITE}
 use Rattle.numbers.specs.Packing.{entry, slotWord, mapWord, filledOf}
-use Rattle.numbers.specs.Meaning.{operationNumber}
+use Rattle.numbers.specs.Meaning.{operationNumber, operationArguments}
+use Rattle.numbers.specs.declared.Answer.{Answer}
+use Rattle.numbers.specs.declared.Answer.the-variants.{Refused}
+use Rattle.numbers.specs.declared.Refusal.the-variants.{VmUnknown}
 use Rattle.numbers.specs.declared.Operation.{Operation}
 use Rattle.numbers.specs.declared.Side.{Side}
 use Rattle.numbers.specs.declared.Side.the-variants.{Cpu, Dma}
 use Rattle.table.specs.Table.{Has}
 use Rattle.model.specs.State.{Tables, State, route, withRoute, withCache}
 use Rattle.model.specs.Views.{edgeOn}
-use Rattle.model.specs.Effect.{decided, accepted, memoryIndex, wordIn}
+use Rattle.model.specs.Effect.{decided, accepted, memoryIndex, wordIn, stored, apply}
+use Rattle.model.specs.EarlyLaws.{never-both}
+use Rattle.model.specs.MemoryLaws.{store-elsewhere}
 use Rattle.model.specs.Ports.{vmOn}
-use Rattle.model.specs.Step.{writeControl, control}
+use Rattle.model.specs.Step.{writeControl, control, step}
 use Rattle.model.specs.Sequence.{operationIn, stepRow, Progress, after}
 use Rattle.model.specs.Valid.{Valid}
 use Rattle.model.specs.Good.{holdsPage}
@@ -284,6 +289,13 @@ pub record MayWrite (members : ℕ → Bool) (side : Side) (t : Tables) (port gu
   pub writer : members (vmOn (route side t .ports) port) ≡ true
   pub reached : accessPlace (route side t .ports) (route side t .cache) (route side t .walker) port guest word .page ≡ page
 
+-- it changes no word of another page
+write-leaves : (members : ℕ → Bool) (side : Side) (s : State) (port guest word page value : ℕ) → MayWrite members side (s .tables) port guest word page → (page′ word′ : ℕ) →
+    word < PAGE-WORDS → word′ < PAGE-WORDS → (page ≡ page′ → ⊥) → wordIn (stepRow s (writeRow side port guest word value) .state .memory) page′ word′ ≡ wordIn (s .memory) page′ word′
+unfolding stepRow operationIn step control writeControl decided apply stored
+write-leaves members Cpu s port guest word page value w page′ word′ h h′ n = rw (w .allowed) (store-elsewhere (s .memory) _ _ value page′ word′ h h′ (λ e. n (sym (w .reached) ∙ e)))
+write-leaves members Dma s port guest word page value w page′ word′ h h′ n = rw (w .allowed) (store-elsewhere (s .memory) _ _ value page′ word′ h h′ (λ e. n (sym (w .reached) ∙ e)))
+
 -- a state is alike to itself
 pub itself : (members : ℕ → Bool) (Secret : Tables → ℕ → Type 0) (s : State) → Alike members Secret s s
 itself members Secret s = record { tables = refl; size = refl; words = λ page word h n. refl }
@@ -385,6 +397,73 @@ asked a b (suc (suc (suc (suc (suc k))))) h = absurd (omega arith)
 -- so it holds of them, whichever two values VM 1 writes
 pub secrecy-holds : (a b : ℕ) → StayAlike (eqb 1) (PrivateTo 1) begun begun (rows a) (rows b) 5
 secrecy-holds a b = secrecy-one 1 begun begun (rows a) (rows b) 5 begun-valid (itself (eqb 1) (PrivateTo 1) (begun .state)) (asked a b)
+
+-- ---- not more is asked of a share than that it is accepted and that the page's own words are equal: VM 1 writes page 1, shares page 0,
+-- and is refused a share of page 1 with VM 3, which is not known
+abbrev pub lateRows : ℕ → List ℕ
+lateRows value =
+    23 ∷ 0 ∷ 17 ∷ 0 ∷ value ∷ 0 ∷ 0 ∷ 0 ∷
+    5 ∷ 1 ∷ 2 ∷ 0 ∷ 0 ∷ 0 ∷ 0 ∷ 0 ∷
+    5 ∷ 1 ∷ 3 ∷ 1 ∷ 0 ∷ 0 ∷ 0 ∷ 0 ∷
+    []
+
+may-write-late : MayWrite (eqb 1) Cpu (begun .state .tables) 0 17 0 1
+unfolding computes
+may-write-late = record { allowed = refl; writer = refl; reached = refl }
+
+alone-late : Alone 1 1 (begun .state .tables)
+unfolding computes
+alone-late = record { vm-ok = refl; page-ok = refl; held = refl; unshared = refl }
+
+private-late : PrivateTo 1 (begun .state .tables) 1
+private-late = private-to 1 1 (begun .state .tables) (λ w l. begun-valid .tables .pairs .each w l .filled) alone-late
+
+-- what a row of an operation is answered from these tables; the page that a share is of
+abbrev answerIn : Tables → Option Operation → Answer
+answerIn t none = accepted
+answerIn t (some operation) = control t operation .answer
+
+abbrev pageIn : Option Operation → ℕ
+pageIn none = 0
+pageIn (some operation) = getD (operationArguments operation) 2 0
+
+-- of page 0 the write changes no word
+stays-late : (value word : ℕ) → word < PAGE-WORDS → wordIn (stepRow (begun .state) (writeRow Cpu 0 17 0 value) .state .memory) 0 word ≡ wordIn (begun .state .memory) 0 word
+stays-late value word h = write-leaves (eqb 1) Cpu (begun .state) 0 17 0 1 value may-write-late 0 word (lit< tt) h (λ e. omega arith)
+
+asked-early : (a b : ℕ) → Premise (eqb 1) (PrivateTo 1) begun begun (lateRows a) (lateRows b) 2
+unfolding after operationIn
+asked-early a b zero h = asked-write (eqb 1) (PrivateTo 1) Cpu (begun .state) (begun .state) 0 17 0 1 a b may-write-late private-late
+asked-early a b (suc zero) h =
+    record {
+      differ = record { shape = equal; near = alike };
+      shares-equal = λ left right page word e m o l. let z : 0 ≡ page = ap pageIn (e .share) in rw (← z) (stays-late a word l ∙ sym (stays-late b word l));
+    }
+asked-early a b (suc (suc k)) h = absurd (omega arith)
+
+-- the tables then are the same whatever was written, by the theorem up to here
+late-tables : (value : ℕ) → after (lateRows value) 2 begun .state .tables ≡ after (lateRows 0) 2 begun .state .tables
+late-tables value =
+    secrecy-one 1 begun begun (lateRows value) (lateRows 0) 2 begun-valid (itself (eqb 1) (PrivateTo 1) (begun .state)) (asked-early value 0) .states 2 (omega arith) .tables
+
+refused-late : answerIn (after (lateRows 0) 2 begun .state .tables) (operationIn (5 ∷ 1 ∷ 3 ∷ 1 ∷ 0 ∷ 0 ∷ 0 ∷ 0 ∷ [])) ≡ Refused VmUnknown 0
+unfolding computes
+refused-late = refl
+
+pub asked-late : (a b : ℕ) → Premise (eqb 1) (PrivateTo 1) begun begun (lateRows a) (lateRows b) 3
+unfolding after
+asked-late a b zero h = asked-early a b 0 (omega arith)
+asked-late a b (suc zero) h = asked-early a b 1 (omega arith)
+asked-late a b (suc (suc zero)) h =
+    record {
+      differ = record { shape = equal; near = alike };
+      shares-equal = λ left right page word e m o l.
+          never-both (sym refused-late ∙ ap (λ (t : Tables). answerIn t (operationIn (5 ∷ 1 ∷ 3 ∷ 1 ∷ 0 ∷ 0 ∷ 0 ∷ 0 ∷ []))) (sym (late-tables a)) ∙ ap (answerIn (after (lateRows a) 2 begun .state .tables)) (e .share) ∙ e .agreed);
+    }
+asked-late a b (suc (suc (suc k))) h = absurd (omega arith)
+
+pub secrecy-holds-late : (a b : ℕ) → StayAlike (eqb 1) (PrivateTo 1) begun begun (lateRows a) (lateRows b) 3
+secrecy-holds-late a b = secrecy-one 1 begun begun (lateRows a) (lateRows b) 3 begun-valid (itself (eqb 1) (PrivateTo 1) (begun .state)) (asked-late a b)
 
 -- ---- by DMA: VM 1 has pages 0 to 2 on both sides, CPU 0 and device 0; VM 2 has CPU 1
 abbrev pub preparedDma : List (List ℕ)
