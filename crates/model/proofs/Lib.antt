@@ -51,3 +51,5 @@ pub mod UpstreamRegionSets
 pub mod UpstreamRegions
 pub mod UpstreamSteps
 pub mod SecrecyWorked
+pub mod SecrecyNeeded
+pub mod SecrecySetWorked
