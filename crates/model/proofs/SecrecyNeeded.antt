@@ -196,7 +196,9 @@ shape-needed all =
     let stay = all started started (at-start, itself (eqb 1) (PrivateTo 1) started) barrierRows addRows 2 given in
     never-both (sym (stay .answers 1 (lit< tt) .but-word))
   where
-    given : (k : ℕ) → k < 2 → NearBy (eqb 1) (after barrierRows k (from started) .state) (rowAt barrierRows k) (rowAt addRows k) × SharesEqual (eqb 1) (after barrierRows k (from started) .state) (after addRows k (from started) .state) (rowAt barrierRows k)
+    given : (k : ℕ) → k < 2 →
+        NearBy (eqb 1) (after barrierRows k (from started) .state) (rowAt barrierRows k) (rowAt addRows k) ×
+        SharesEqual (eqb 1) (after barrierRows k (from started) .state) (after addRows k (from started) .state) (rowAt barrierRows k)
     given zero h = (barrier-near (eqb 1) (PrivateTo 1) (started .tables), no-share (eqb 1) started started barrier (λ e. omega arith))
     given (suc zero) h = (alike, no-share (eqb 1) (after barrierRows 1 (from started) .state) (after addRows 1 (from started) .state) addThird (λ e. omega arith))
     given (suc (suc k)) h = absurd (omega arith)

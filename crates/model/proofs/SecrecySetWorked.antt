@@ -78,6 +78,7 @@ kept-in-set = refl
 abbrev pub sharedOutside : ℕ → List Line
 sharedOutside value =
     (row (1 ∷ 1 ∷ []) ⟼ 0 ∷ 0 ∷ 0 ∷ 0 ∷ [])
+    ∷ (row (1 ∷ 2 ∷ []) ⟼ 0 ∷ 0 ∷ 0 ∷ 0 ∷ [])
     ∷ (row (1 ∷ 3 ∷ []) ⟼ 0 ∷ 0 ∷ 0 ∷ 0 ∷ [])
     ∷ (row (11 ∷ 1 ∷ 16 ∷ 0 ∷ 3 ∷ 3 ∷ []) ⟼ 0 ∷ 0 ∷ 0 ∷ 0 ∷ [])
     ∷ (row (15 ∷ 0 ∷ 1 ∷ []) ⟼ 0 ∷ 0 ∷ 0 ∷ 0 ∷ [])
@@ -100,14 +101,15 @@ outside-counts = refl
 abbrev pub leadsOut : ℕ → ℕ → Bool
 leadsOut page w = onPage page w && not (oneOrTwo (leftOf w) && oneOrTwo (rightOf w))
 
-pub record Inside (holder page : ℕ) (t : Tables) : Type 0 where
+-- a member holds the page and no edge on it leads out
+pub record Within (holder page : ℕ) (t : Tables) : Type 0 where
   pub member : oneOrTwo holder ≡ true
   pub holder-ok : ltb holder VMS ≡ true
   pub page-ok : ltb page (t .setup .pages) ≡ true
   pub held : holdsPage (t .sets) holder page ≡ true
   pub none-out : any (leadsOut page) (t .pairs) ≡ false
 
-private-in : (holder page : ℕ) (t : Tables) → ((w : ℕ) → Has (t .pairs) w → filledOf w ≡ 1) → Inside holder page t → Private oneOrTwo t page
+private-in : (holder page : ℕ) (t : Tables) → ((w : ℕ) → Has (t .pairs) w → filledOf w ≡ 1) → Within holder page t → Private oneOrTwo t page
 private-in holder page t filled i =
     record {
       holder = holder;
@@ -147,12 +149,12 @@ may-write-first : MayWrite oneOrTwo Cpu (begunSet .state .tables) 0 16 0 0
 unfolding computes
 may-write-first = record { allowed = refl; writer = refl; reached = refl }
 
-inside-first : Inside 1 0 (begunSet .state .tables)
+within-first : Within 1 0 (begunSet .state .tables)
 unfolding computes
-inside-first = record { member = refl; holder-ok = refl; page-ok = refl; held = refl; none-out = refl }
+within-first = record { member = refl; holder-ok = refl; page-ok = refl; held = refl; none-out = refl }
 
 private-first : Private oneOrTwo (begunSet .state .tables) 0
-private-first = private-in 1 0 (begunSet .state .tables) (λ w h. begun-set-valid .tables .pairs .each w h .filled) inside-first
+private-first = private-in 1 0 (begunSet .state .tables) (λ w h. begun-set-valid .tables .pairs .each w h .filled) within-first
 
 -- the VM that a share is with
 abbrev rightIn : Option Operation → ℕ
@@ -187,14 +189,14 @@ may-write-joined : MayWrite oneOrTwo Cpu (joined 0 .tables) 1 40 1 0
 unfolding computes
 may-write-joined = record { allowed = refl; writer = refl; reached = refl }
 
-inside-joined : Inside 1 0 (joined 0 .tables)
+within-joined : Within 1 0 (joined 0 .tables)
 unfolding computes
-inside-joined = record { member = refl; holder-ok = refl; page-ok = refl; held = refl; none-out = refl }
+within-joined = record { member = refl; holder-ok = refl; page-ok = refl; held = refl; none-out = refl }
 
 -- the page is still private to the set, since its edge joins two members
 pub joined-private : (value : ℕ) → Private oneOrTwo (joined value .tables) 0
 joined-private value =
-    rw (joined-tables value) (private-in 1 0 (joined 0 .tables) (λ w h. after-valid (rowsSet 0) 3 begunSet begun-set-valid .tables .pairs .each w h .filled) inside-joined)
+    rw (joined-tables value) (private-in 1 0 (joined 0 .tables) (λ w h. after-valid (rowsSet 0) 3 begunSet begun-set-valid .tables .pairs .each w h .filled) within-joined)
 
 -- to VM 1 alone it is not
 not-alone : PrivateTo 1 (joined 0 .tables) 0 → ⊥

@@ -277,7 +277,8 @@ writeRow Dma port guest word value = 24 ∷ port ∷ guest ∷ word ∷ value �
 -- a page that a member shares with a VM outside holds equal words
 abbrev pub SharesEqual : (ℕ → Bool) → State → State → List ℕ → Type 0
 SharesEqual members a b ns =
-    (left right page word : ℕ) → Shared (a .tables) (operationIn ns) left right page → members left ≡ true → members right ≡ false → word < PAGE-WORDS → wordIn (a .memory) page word ≡ wordIn (b .memory) page word
+    (left right page word : ℕ) → Shared (a .tables) (operationIn ns) left right page → members left ≡ true → members right ≡ false → word < PAGE-WORDS →
+    wordIn (a .memory) page word ≡ wordIn (b .memory) page word
 
 -- a row that shares nothing
 pub no-share : (members : ℕ → Bool) (a b : State) (ns : List ℕ) → (numberIn (operationIn ns) ≡ 5 → ⊥) → SharesEqual members a b ns
