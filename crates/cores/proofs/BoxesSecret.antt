@@ -19,7 +19,7 @@ use Rattle.model.specs.Entries.{valid}
 use Rattle.model.specs.Good.{Wrote}
 use Rattle.model.specs.Secrecy.{PrivateTo, Private, effectIn, withoutWord, Alike, Asked, Premise, StayAlike}
 use Rattle.model.specs.Sequence.{Progress, Sequenced, operationIn, rowAt, rowCount, stepRow, after, shapeAnswer, sequence}
-use Rattle.model.specs.Start.{free, freeRefused}
+use Rattle.model.specs.Start.{Free, free, freeRefused}
 use Rattle.model.specs.State.{Tables, State}
 use Rattle.model.specs.Valid.{Valid}
 use Rattle.model.specs.WriteLaws.{written-here}
@@ -29,7 +29,7 @@ use Rattle.model.proofs.SecrecyCalls.{begun, valid-as, numbers-alike, CallsAlik
 use Rattle.header.specs.Numbers.{HeaderGood, changed, answered, freeNumbers}
 use Rattle.cores.specs.BoxSecrecy.{WORD-AT, withMemory, BoxesAlike, OperationsAlike, SequencesAlike, FreesAlike, OperationSecret, SequenceSecret, FreeSecret, WordKept, WrittenBy, OperationOwnWrite, SequenceOwnWrite}
 use Rattle.cores.specs.Boxes.{Box, box, BoxValid, stateIn, boxOf, leftIn}
-use Rattle.cores.specs.Given.{Judgement, met, unmet, Given, OperationAsked, operationGives, operationRefused, sequenceGives, refusedWhole, FreeGiven, FREE-NUMBERS, FreeAsked, freeGives, freeTold}
+use Rattle.cores.specs.Given.{Judgement, met, unmet, Given, notValid, OperationAsked, operationGives, operationRefused, sequenceGives, refusedWhole, FreeGiven, FREE-NUMBERS, FreeAsked, freeGives, freeTold}
 use Rattle.cores.proofs.BoxesKept.{operation-state, sequence-state}
 
 -- ---- what is proved of a reading of "private": two runs of a row and of rows, and a member's own write in one row and in rows
@@ -61,6 +61,16 @@ answered-here room ns l i h = let z : 0 + i ≡ i = omega arith in rw (eq-eqb (l
 
 answered-other : (room ns : List ℕ) → (length room ≡ length ns → ⊥) → answered room ns ≡ room
 answered-other room ns n = rw (ne-eqb (length room) (length ns) n)
+
+-- ---- what the free query says of the same state, in two rooms
+told-alike : (room room′ : List ℕ) → length room ≡ length room′ → (f : Free) → FreesAlike room room′ (freeTold room f) (freeTold room′ f)
+told-alike room room′ same f =
+    let ns = freeNumbers (f .count) (f .lowest) in
+    record {
+      number = refl;
+      numbers = λ l i h. answered-here room ns l i h ∙ sym (answered-here room′ ns (sym same ∙ l) i h);
+      other-room = λ o. (answered-other room ns o, answered-other room′ ns (λ l. o (same ∙ l)));
+    }
 
 module _ (members : ℕ → Bool) (Secret : Tables → ℕ → Type 0) (reading : Reading members Secret) {C : Type 0} (wordsOf : C → List ℕ) (cacheOf : List ℕ → C) (back : (ws : List ℕ) → wordsOf (cacheOf ws) ≡ ws) where
   -- ---- two boxes that are alike
@@ -117,7 +127,7 @@ module _ (members : ℕ → Bool) (Secret : Tables → ℕ → Type 0) (reading 
         number = numbers-alike x y 0 same (omega arith);
         boxes =
             boxes-of _ _ _ _ (operation-state wordsOf cacheOf back b (a .box) row room) (operation-state wordsOf cacheOf back b′ (a′ .box) row′ room′) (both .states)
-            (kept-rest b b′ like x y same _ _ (both .states .tables));
+            (kept-rest b b′ like x y same (stepRow (stateIn wordsOf b) row .state) (stepRow (stateIn wordsOf b′) row′ .state) (both .states .tables));
         numbers = λ l i h. here i (omega (arith, four x)) ∙ numbers-alike x y i same h ∙ sym (here′ i (omega (arith, four y)));
         word = λ l n. here WORD-AT (omega (arith, four x)) ∙ ap (λ (z : Answer). getD (answerNumbers z) WORD-AT 0) (both .answers .whole n) ∙ sym (here′ WORD-AT (omega (arith, four y)));
         other-room = λ n. absurd (n (a .whole-room));
@@ -131,9 +141,9 @@ module _ (members : ℕ → Bool) (Secret : Tables → ℕ → Type 0) (reading 
       (record {
         number = refl;
         boxes = like;
-        numbers = λ l i h. answered-here room _ l i (omega arith) ∙ sym (answered-here room′ _ (sym roomSame ∙ l) i (omega arith));
-        word = λ l s. answered-here room _ l WORD-AT (omega arith) ∙ sym (answered-here room′ _ (sym roomSame ∙ l) WORD-AT (omega arith));
-        other-room = λ o. (answered-other room _ o, answered-other room′ _ (λ l. o (roomSame ∙ l)));
+        numbers = λ l i h. answered-here room (answerNumbers notValid) l i (omega arith) ∙ sym (answered-here room′ (answerNumbers notValid) (sym roomSame ∙ l) i (omega arith));
+        word = λ l s. answered-here room (answerNumbers notValid) l WORD-AT (omega arith) ∙ sym (answered-here room′ (answerNumbers notValid) (sym roomSame ∙ l) WORD-AT (omega arith));
+        other-room = λ o. (answered-other room (answerNumbers notValid) o, answered-other room′ (answerNumbers notValid) (λ l. o (roomSame ∙ l)));
       })
 
   -- ---- the sequence
@@ -142,15 +152,17 @@ module _ (members : ℕ → Bool) (Secret : Tables → ℕ → Type 0) (reading 
   sequence-secret b b′ rows rows′ room room′ r r′ (met v e) (met v′ e′) like same roomSame asked =
       let s = stateIn wordsOf b in
       let s′ = stateIn wordsOf b′ in
-      let calls : CallsAlike members Secret s rows room room′ (sequence s rows room) (sequence s′ rows′ room′) =
-      two-calls members Secret s s′ rows rows′ room room′ (states-alike b b′ like) same roomSame _ _ (valid (v .state) refl) (valid (v′ .state) refl)
+      let ran = sequence s rows room in
+      let ran′ = sequence s′ rows′ room′ in
+      let calls : CallsAlike members Secret s rows room room′ ran ran′ =
+      two-calls members Secret s s′ rows rows′ room room′ (states-alike b b′ like) same roomSame ran ran′ (valid (v .state) refl) (valid (v′ .state) refl)
       (λ w a. reading .rows (begun s room) (begun s′ room′) rows rows′ (rowCount rows) w (states-alike b b′ like) (asked v (ap (λ (g : Given C). g .number) e ∙ ap numberOf a))) in
       rw (e, e′)
       (record {
         number = ap numberOf (calls .answer);
         boxes =
             boxes-of _ _ _ _ (sequence-state wordsOf cacheOf back b v rows room) (sequence-state wordsOf cacheOf back b′ v′ rows′ room′) (calls .states)
-            (kept-rest b b′ like _ _ (ap withoutWord (calls .answer)) _ _ (calls .states .tables));
+            (kept-rest b b′ like (ran .answer) (ran′ .answer) (ap withoutWord (calls .answer)) (ran .progress .state) (ran′ .progress .state) (calls .states .tables));
         numbers = λ zero k i h l. calls .numbers (shape-accepted rows room zero) k i h l;
         word = λ zero k h n. calls .words (shape-accepted rows room zero) k WORD-AT h (omega arith) n;
         other-room = λ j h was. calls .rest j (λ a. h (ap numberOf a)) was;
@@ -163,21 +175,12 @@ module _ (members : ℕ → Bool) (Secret : Tables → ℕ → Type 0) (reading 
   -- ---- the free query
   pub free-secret : FreeSecret members Secret wordsOf cacheOf
   free-secret b b′ room room′ r r′ (met a e) (met a′ e′) like roomSame =
-      rw (e, e′, ← tables-same b b′ like)
-      (record {
-        number = refl;
-        numbers = λ l i h. answered-here room _ l i h ∙ sym (answered-here room′ _ (sym roomSame ∙ l) i h);
-        other-room = λ o. (answered-other room _ o, answered-other room′ _ (λ l. o (roomSame ∙ l)));
-      })
+      rw (e, e′)
+      (subst (λ (t : Tables). FreesAlike room room′ (freeTold room (free (stateIn wordsOf b .tables))) (freeTold room′ (free t))) (tables-same b b′ like)
+      (told-alike room room′ roomSame (free (stateIn wordsOf b .tables))))
   free-secret b b′ room room′ r r′ (met a e) (unmet n′ e′) like roomSame = absurd (n′ (record { box = valid-there b b′ like (a .box); whole-room = sym roomSame ∙ a .whole-room }))
   free-secret b b′ room room′ r r′ (unmet n e) (met a′ e′) like roomSame = absurd (n (record { box = valid-back b b′ like (a′ .box); whole-room = roomSame ∙ a′ .whole-room }))
-  free-secret b b′ room room′ r r′ (unmet n e) (unmet n′ e′) like roomSame =
-      rw (e, e′)
-      (record {
-        number = refl;
-        numbers = λ l i h. answered-here room _ l i h ∙ sym (answered-here room′ _ (sym roomSame ∙ l) i h);
-        other-room = λ o. (answered-other room _ o, answered-other room′ _ (λ l. o (roomSame ∙ l)));
-      })
+  free-secret b b′ room room′ r r′ (unmet n e) (unmet n′ e′) like roomSame = rw (e, e′) (told-alike room room′ roomSame freeRefused)
 
   -- ---- a member's own write
   pub operation-own-write : OperationOwnWrite members Secret wordsOf cacheOf

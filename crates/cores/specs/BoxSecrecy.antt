@@ -24,6 +24,12 @@ abbrev pub withMemory : {C : Type 0} → Box C → List ℕ → Box C
 withMemory b memory = box (b .header) (b .sets) (b .pairs) (b .cpuMap) (b .cpuWalker) (b .cpuCache) (b .dmaMap) (b .dmaWalker) (b .dmaCache) memory
 
 -- ---- two calls
+-- the free query: number, and the two numbers in a room of two
+pub record FreesAlike (room room′ : List ℕ) (r r′ : FreeGiven) : Type 0 where
+  pub number : r .number ≡ r′ .number
+  pub numbers : length room ≡ FREE-NUMBERS → (i : ℕ) → i < FREE-NUMBERS → getD (r .room) i 0 ≡ getD (r′ .room) i 0
+  pub other-room : (length room ≡ FREE-NUMBERS → ⊥) → (r .room ≡ room) × (r′ .room ≡ room′)
+
 module _ (members : ℕ → Bool) (Secret : Tables → ℕ → Type 0) {C : Type 0} (wordsOf : C → List ℕ) where
   -- two boxes equal but for words of memory in private pages
   pub record BoxesAlike (b b′ : Box C) : Type 0 where
@@ -55,12 +61,6 @@ module _ (members : ℕ → Bool) (Secret : Tables → ℕ → Type 0) {C : Type
     pub word : r .number ≡ 0 → (k : ℕ) → k < rowCount rows → (SeenIn (after rows k (rowsFrom b room) .state .tables) (rowAt rows k) → ⊥) →
         getD (r .room) (k * ANSWER-NUMBERS + WORD-AT) 0 ≡ getD (r′ .room) (k * ANSWER-NUMBERS + WORD-AT) 0
     pub other-room : (j : ℕ) → (r .number ≡ 0 → rowCount rows * ANSWER-NUMBERS ≤ j) → getD room j 0 ≡ getD room′ j 0 → getD (r .room) j 0 ≡ getD (r′ .room) j 0
-
-  -- the free query: number, and the two numbers in a room of two
-  pub record FreesAlike (room room′ : List ℕ) (r r′ : FreeGiven) : Type 0 where
-    pub number : r .number ≡ r′ .number
-    pub numbers : length room ≡ FREE-NUMBERS → (i : ℕ) → i < FREE-NUMBERS → getD (r .room) i 0 ≡ getD (r′ .room) i 0
-    pub other-room : (length room ≡ FREE-NUMBERS → ⊥) → (r .room ≡ room) × (r′ .room ≡ room′)
 
   -- ---- the statements, of whatever the entries' contracts allow; of rows something is asked only where they are carried out
   module _ (cacheOf : List ℕ → C) where
