@@ -17,11 +17,11 @@ use Rattle.model.specs.Secrecy.{PrivateTo, Private}
 use Rattle.model.specs.Sequence.{rowAt, rowCount, stepRow, after, sequence}
 use Rattle.model.specs.Start.{Told, startAnswer, start}
 use Rattle.cores.specs.Boxes.{Box, BoxValid, stateIn, lentIn}
-use Rattle.cores.specs.BoxSecrecy.{OperationSecret, SequenceSecret, FreeSecret, OperationOwnWrite, SequenceOwnWrite}
+use Rattle.cores.specs.BoxSecrecy.{BoxesAlike, Calls, AllAlike, OperationSecret, SequenceSecret, FreeSecret, OperationOwnWrite, SequenceOwnWrite}
 use Rattle.cores.specs.Given.{Judgement, Given, OperationAsked, operationGives, operationRefused, sequenceGives, refusedWhole, startGives, HeaderWhole}
 use Rattle.cores.proofs.BoxesExact.{NumberListed, operation-exactly, operation-listed, sequence-exactly}
 use Rattle.cores.proofs.BoxesKept.{operation-state, operation-box-valid, sequence-state, sequence-box-valid, start-state, start-box-valid, refused-box-not-valid}
-use Rattle.cores.proofs.BoxesSecret.{of-set, of-one, operation-secret, sequence-secret, free-secret, operation-own-write, sequence-own-write}
+use Rattle.cores.proofs.BoxesSecret.{of-set, of-one, operation-secret, calls-secret, sequence-secret, free-secret, operation-own-write, sequence-own-write}
 use Rattle.slots.specs.SlotLaws.{word-of-slot}
 use Rattle.slots.specs.Slots.{words, slotsOf}
 use Rattle.slots.specs.declared.Slot.{Slot}
@@ -72,6 +72,10 @@ module _ (members : ℕ → Bool) where
   pub operation-slots-secret : OperationSecret members (Private members) words slotsOf
   operation-slots-secret = operation-secret members (Private members) (of-set members) words slotsOf words-again
 
+  pub calls-slots-secret : {b b′ : Box (List Slot)} → BoxesAlike members (Private members) words b b′ → (calls : Calls members (Private members) words slotsOf b b′) →
+      AllAlike members (Private members) words slotsOf calls
+  calls-slots-secret = calls-secret members (Private members) (of-set members) words slotsOf words-again
+
   pub sequence-slots-secret : SequenceSecret members (Private members) words slotsOf
   sequence-slots-secret = sequence-secret members (Private members) (of-set members) words slotsOf words-again
 
@@ -88,6 +92,10 @@ module _ (members : ℕ → Bool) where
 module _ (vm : ℕ) where
   pub operation-slots-secret-one : OperationSecret (eqb vm) (PrivateTo vm) words slotsOf
   operation-slots-secret-one = operation-secret (eqb vm) (PrivateTo vm) (of-one vm) words slotsOf words-again
+
+  pub calls-slots-secret-one : {b b′ : Box (List Slot)} → BoxesAlike (eqb vm) (PrivateTo vm) words b b′ → (calls : Calls (eqb vm) (PrivateTo vm) words slotsOf b b′) →
+      AllAlike (eqb vm) (PrivateTo vm) words slotsOf calls
+  calls-slots-secret-one = calls-secret (eqb vm) (PrivateTo vm) (of-one vm) words slotsOf words-again
 
   pub sequence-slots-secret-one : SequenceSecret (eqb vm) (PrivateTo vm) words slotsOf
   sequence-slots-secret-one = sequence-secret (eqb vm) (PrivateTo vm) (of-one vm) words slotsOf words-again

@@ -1,6 +1,6 @@
 -- Demand 3 of boxes: two calls of the one-operation entry, of the sequence and of the free query, and what one call does to a private
 -- word; for a set of VMs and for one. Said for caches of any form whose words can be read again.
-use Prim.Native.Nat.{ℕ, _+_, _≤_, _<_}
+use Prim.Native.Nat.{ℕ, _+_, _*_, _≤_, _<_}
 use mathlib.Core.Bool.{Bool, true}
 use mathlib.Core.List.{List, []}
 use mathlib.Core.Logic.{_⊎_, inl, inr, ⊎-elim}
@@ -9,6 +9,7 @@ use native.Mathlib.Omega.{arith}
 use lib.Dec.{eqb}
 use lib.ListN.{length, getD}
 use borrow.Author.Tests.{eq-eqb, ne-eqb}
+use Rattle.numbers.specs.CaseLaws.{equal}
 use Rattle.numbers.specs.Limits.{PAGE-WORDS, ANSWER-NUMBERS}
 use Rattle.numbers.specs.Meaning.{answerNumbers, numberOf}
 use Rattle.numbers.specs.declared.Answer.{Answer}
@@ -27,7 +28,7 @@ use Rattle.model.proofs.Answers.{four, shape-accepted}
 use Rattle.model.proofs.Secrecy.{Unchanged, StepAlike, WrittenIn, secret-step, secrecy, own-write, own-writes, secret-step-one, secrecy-one, own-write-one, own-writes-one}
 use Rattle.model.proofs.SecrecyCalls.{begun, valid-as, numbers-alike, CallsAlike, two-calls}
 use Rattle.header.specs.Numbers.{HeaderGood, changed, answered, freeNumbers}
-use Rattle.cores.specs.BoxSecrecy.{WORD-AT, withMemory, BoxesAlike, OperationsAlike, SequencesAlike, FreesAlike, OperationSecret, SequenceSecret, FreeSecret, WordKept, WrittenBy, OperationOwnWrite, SequenceOwnWrite}
+use Rattle.cores.specs.BoxSecrecy.{WORD-AT, withMemory, BoxesAlike, rowsFrom, SeenIn, Calls, done, call, AllAlike, OperationsAlike, SequencesAlike, FreesAlike, OperationSecret, SequenceSecret, FreeSecret, WordKept, WrittenBy, OperationOwnWrite, SequenceOwnWrite}
 use Rattle.cores.specs.Boxes.{Box, box, BoxValid, stateIn, boxOf, leftIn}
 use Rattle.cores.specs.Given.{Judgement, met, unmet, Given, notValid, OperationAsked, operationGives, operationRefused, sequenceGives, refusedWhole, FreeGiven, FREE-NUMBERS, FreeAsked, freeGives, freeTold}
 use Rattle.cores.proofs.BoxesKept.{operation-state, sequence-state}
@@ -146,6 +147,18 @@ module _ (members : ℕ → Bool) (Secret : Tables → ℕ → Type 0) (reading 
         other-room = λ o. (answered-other room (answerNumbers notValid) o, answered-other room′ (answerNumbers notValid) (λ l. o (roomSame ∙ l)));
       })
 
+  -- where no member saw a private page, all four numbers
+  pub operation-whole : (b : Box C) (row room room′ : List ℕ) (r r′ : Given C) → OperationsAlike members Secret wordsOf b row room room′ r r′ → length room ≡ ANSWER-NUMBERS →
+      (SeenIn members Secret wordsOf (stateIn wordsOf b .tables) row → ⊥) → (i : ℕ) → i < ANSWER-NUMBERS → getD (r .room) i 0 ≡ getD (r′ .room) i 0
+  operation-whole b row room room′ r r′ a l n i h = ⊎-elim (λ e. rw e (a .word l n)) (λ d. a .numbers l i (omega (arith, d))) (equal i WORD-AT)
+
+  -- ---- call after call
+  pub calls-secret : {b b′ : Box C} → BoxesAlike members Secret wordsOf b b′ → (calls : Calls members Secret wordsOf cacheOf b b′) → AllAlike members Secret wordsOf cacheOf calls
+  calls-secret like done = like
+  calls-secret {b} {b′} like (call row row′ room room′ r r′ given given′ rows rooms asked rest) =
+      let both = operation-secret b b′ row row′ room room′ r r′ given given′ like rows rooms asked in
+      (both, calls-secret (both .boxes) rest)
+
   -- ---- the sequence
   pub sequence-secret : SequenceSecret members Secret wordsOf cacheOf
   unfolding sequence
@@ -171,6 +184,11 @@ module _ (members : ℕ → Bool) (Secret : Tables → ℕ → Type 0) (reading 
   sequence-secret b b′ rows rows′ room room′ r r′ (unmet n e) (met v′ e′) like same roomSame asked = absurd (n (valid-back b b′ like v′))
   sequence-secret b b′ rows rows′ room room′ r r′ (unmet n e) (unmet n′ e′) like same roomSame asked =
       rw (e, e′) (record { number = refl; boxes = like; numbers = λ z. absurd (omega arith); word = λ z. absurd (omega arith); other-room = λ j h was. was })
+
+  pub sequence-whole : (b : Box C) (rows room room′ : List ℕ) (r r′ : Given C) → SequencesAlike members Secret wordsOf b rows room room′ r r′ → r .number ≡ 0 → (k : ℕ) → k < rowCount rows →
+      (SeenIn members Secret wordsOf (after rows k (rowsFrom members Secret wordsOf b room) .state .tables) (rowAt rows k) → ⊥) → (i : ℕ) → i < ANSWER-NUMBERS →
+      getD (r .room) (k * ANSWER-NUMBERS + i) 0 ≡ getD (r′ .room) (k * ANSWER-NUMBERS + i) 0
+  sequence-whole b rows room room′ r r′ a z k h n i l = ⊎-elim (λ e. rw e (a .word z k h n)) (λ d. a .numbers z k i h (omega (arith, d))) (equal i WORD-AT)
 
   -- ---- the free query
   pub free-secret : FreeSecret members Secret wordsOf cacheOf

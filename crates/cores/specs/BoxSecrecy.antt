@@ -87,6 +87,19 @@ module _ (members : ℕ → Bool) (Secret : Tables → ℕ → Type 0) {C : Type
         Judgement (FreeAsked wordsOf b′ room′) (freeGives wordsOf b′ room′) (freeTold room′ freeRefused) r′ →
         BoxesAlike b b′ → length room ≡ length room′ → FreesAlike room room′ r r′
 
+    -- ---- call after call: two runs of the one-operation entry, with all that is asked of each two calls; and what they have in common
+    pub data Calls : Box C → Box C → Type 0 where
+      done : {b b′ : Box C} → Calls b b′
+      call : {b b′ : Box C} (row row′ room room′ : List ℕ) (r r′ : Given C) →
+          Judgement (OperationAsked wordsOf b row room) (operationGives wordsOf cacheOf b row room) (operationRefused b room) r →
+          Judgement (OperationAsked wordsOf b′ row′ room′) (operationGives wordsOf cacheOf b′ row′ room′) (operationRefused b′ room′) r′ →
+          length row ≡ length row′ → length room ≡ length room′ → (OperationAsked wordsOf b row room → Asked members Secret (stateIn wordsOf b) (stateIn wordsOf b′) row row′) →
+          Calls (r .box) (r′ .box) → Calls b b′
+
+    abbrev pub AllAlike : {b b′ : Box C} → Calls b b′ → Type 0
+    AllAlike {b} {b′} done = BoxesAlike b b′
+    AllAlike {b} (call row row′ room room′ r r′ given given′ rows rooms asked rest) = OperationsAlike b row room room′ r r′ × AllAlike rest
+
     -- ---- one call: a word of a page that is private all along is as it was, or a member wrote just that word
     abbrev pub WordKept : Box C → Box C → ℕ → ℕ → Type 0
     WordKept b b′ page word = wordIn (b′ .memory) page word ≡ wordIn (b .memory) page word
