@@ -17,7 +17,7 @@ use Rattle.numbers.specs.declared.Side.{Side}
 use Rattle.numbers.specs.declared.Side.the-variants.{Cpu, Dma}
 use Rattle.numbers.specs.declared.Operation.{Operation}
 use Rattle.model.specs.State.{Tables, State}
-use Rattle.model.specs.Effect.{wordIn, Place, Store, Effect, reads, writes, clears, apply, quiet, decided, Control}
+use Rattle.model.specs.Effect.{wordIn, Place, Store, Effect, reads, writes, clears, clearedPages, apply, decided, Control}
 use Rattle.model.specs.Step.{Stepped, answerWith, step, writeControl, control}
 use Rattle.model.specs.Sequence.{operationIn, stepKnown, stepRow, rowAt, Progress, after}
 use Rattle.model.specs.Valid.{ValidTables, Valid}
@@ -67,6 +67,16 @@ after-none rows p = refl
 -- ---- a word that stays
 abbrev pub Unchanged : State → State → ℕ → ℕ → Type 0
 Unchanged s s′ page word = wordIn (s′ .memory) page word ≡ wordIn (s .memory) page word
+
+-- ---- what the statements say of effects they say of memory: a row leaves what its effect leaves
+known-effect : (s : State) (found : Option Operation) → stepKnown s found .state .memory ≡ apply (effectIn (s .tables) found) (s .memory)
+unfolding step apply clearedPages
+known-effect s none = refl
+known-effect s (some x) = refl
+
+pub row-effect : (s : State) (row : List ℕ) → stepRow s row .state .memory ≡ apply (effectIn (s .tables) (operationIn row)) (s .memory)
+unfolding stepRow
+row-effect s row = known-effect s (operationIn row)
 
 -- ---- a word that a VM wrote is what was stored, whatever stood there
 over : (effect : Effect) (vm page word : ℕ) → word < PAGE-WORDS → Wrote effect vm page word → (a b : List ℕ) → length a ≡ length b → wordIn (apply effect a) page word ≡ wordIn (apply effect b) page word
