@@ -7,7 +7,7 @@ use mathlib.Core.List.{List, [], _∷_}
 use mathlib.Core.Logic.{_↔_}
 use mathlib.Core.Path.{_≡_, refl}
 use lib.Dec.{eqb}
-use lib.ListN.{getD}
+use lib.ListN.{length, getD}
 use Rattle.numbers.specs.Limits.{ANSWER-NUMBERS}
 use Rattle.numbers.specs.declared.Answer.the-variants.{Refused}
 use Rattle.numbers.specs.declared.Refusal.{Refusal}
@@ -19,7 +19,7 @@ use Rattle.model.specs.Start.{Told, startAnswer, start}
 use Rattle.cores.specs.Boxes.{Box, BoxValid, stateIn, lentIn}
 use Rattle.cores.specs.BoxSecrecy.{BoxesAlike, Calls, AllAlike, OperationSecret, SequenceSecret, FreeSecret, OperationOwnWrite, SequenceOwnWrite}
 use Rattle.cores.specs.Given.{Judgement, Given, OperationAsked, operationGives, operationRefused, sequenceGives, refusedWhole, startGives, HeaderWhole}
-use Rattle.cores.proofs.BoxesExact.{NumberListed, operation-exactly, operation-listed, sequence-exactly}
+use Rattle.cores.proofs.BoxesExact.{NumberListed, Answered, operation-exactly, operation-listed, operation-answered, sequence-exactly, sequence-answered}
 use Rattle.cores.proofs.BoxesKept.{operation-state, operation-box-valid, sequence-state, sequence-box-valid, start-state, start-box-valid, refused-box-not-valid}
 use Rattle.cores.proofs.BoxesSecret.{of-set, of-one, operation-secret, calls-secret, sequence-secret, free-secret, operation-own-write, sequence-own-write}
 use Rattle.slots.specs.SlotLaws.{word-of-slot}
@@ -63,9 +63,16 @@ module _ (b : Box (List Slot)) where
     pub operation-slots-listed : NumberListed words slotsOf b row room r
     operation-slots-listed = operation-listed words slotsOf b row room r j
 
+    pub operation-slots-answered : length room ≡ ANSWER-NUMBERS → Answered row (r .room) 0 × (r .number ≡ getD (r .room) 0 0)
+    operation-slots-answered = operation-answered words slotsOf b row room r j
+
   pub sequence-slots-exactly : (rows room : List ℕ) (r : Given (List Slot)) → Judgement (BoxValid words b) (sequenceGives words slotsOf b rows room) (refusedWhole b room) r → r .number ≡ 0 →
       (k : ℕ) → k < rowCount rows → (getD (r .room) (k * ANSWER-NUMBERS) 0 ≡ 0) ↔ RowConditions (after rows k (record { state = stateIn words b; room = room }) .state .tables) (rowAt rows k)
   sequence-slots-exactly = sequence-exactly words slotsOf b
+
+  pub sequence-slots-answered : (rows room : List ℕ) (r : Given (List Slot)) → Judgement (BoxValid words b) (sequenceGives words slotsOf b rows room) (refusedWhole b room) r → r .number ≡ 0 →
+      (k : ℕ) → k < rowCount rows → Answered (rowAt rows k) (r .room) (k * ANSWER-NUMBERS)
+  sequence-slots-answered = sequence-answered words slotsOf b
 
 -- ---- demand 3 for a set of VMs
 module _ (members : ℕ → Bool) where

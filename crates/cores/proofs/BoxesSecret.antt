@@ -8,7 +8,7 @@ use mathlib.Core.Path.{_≡_, refl, sym, ap, subst, _∙_}
 use native.Mathlib.Omega.{arith}
 use lib.Dec.{eqb}
 use lib.ListN.{length, getD}
-use borrow.Author.Tests.{eq-eqb, ne-eqb}
+use borrow.Author.Tests.{eq-eqb}
 use Rattle.numbers.specs.CaseLaws.{equal}
 use Rattle.numbers.specs.Limits.{PAGE-WORDS, ANSWER-NUMBERS}
 use Rattle.numbers.specs.Meaning.{answerNumbers, numberOf}
@@ -23,12 +23,12 @@ use Rattle.model.specs.Sequence.{Progress, Sequenced, operationIn, rowAt, rowCo
 use Rattle.model.specs.Start.{Free, free, freeRefused}
 use Rattle.model.specs.State.{Tables, State}
 use Rattle.model.specs.Valid.{Valid}
-use Rattle.model.specs.WriteLaws.{written-here}
 use Rattle.model.proofs.Answers.{four, shape-accepted}
 use Rattle.model.proofs.Secrecy.{Unchanged, StepAlike, WrittenIn, secret-step, secrecy, own-write, own-writes, secret-step-one, secrecy-one, own-write-one, own-writes-one}
 use Rattle.model.proofs.SecrecyCalls.{begun, valid-as, numbers-alike, CallsAlike, two-calls}
-use Rattle.header.specs.Numbers.{HeaderGood, changed, answered, freeNumbers}
+use Rattle.header.specs.Numbers.{HeaderGood, changed, freeNumbers}
 use Rattle.cores.specs.BoxSecrecy.{WORD-AT, withMemory, BoxesAlike, rowsFrom, SeenIn, Calls, done, call, AllAlike, OperationsAlike, SequencesAlike, FreesAlike, OperationSecret, SequenceSecret, FreeSecret, WordKept, WrittenBy, OperationOwnWrite, SequenceOwnWrite}
+use Rattle.cores.specs.CoreLaws.{answered-here, answered-other}
 use Rattle.cores.specs.Boxes.{Box, box, BoxValid, stateIn, boxOf, leftIn}
 use Rattle.cores.specs.Given.{Judgement, met, unmet, Given, notValid, OperationAsked, operationGives, operationRefused, sequenceGives, refusedWhole, FreeGiven, FREE-NUMBERS, FreeAsked, freeGives, freeTold}
 use Rattle.cores.proofs.BoxesKept.{operation-state, sequence-state}
@@ -55,13 +55,6 @@ of-one vm =
       write = λ s v row page word h p p′. ⊎-elim inl (λ w. inr (vm, eq-eqb vm vm refl, w)) (own-write-one vm s v row page word h p p′);
       writes = own-writes-one vm;
     }
-
--- ---- a room that is written whole, or left
-answered-here : (room ns : List ℕ) → length room ≡ length ns → (i : ℕ) → i < length ns → getD (answered room ns) i 0 ≡ getD ns i 0
-answered-here room ns l i h = let z : 0 + i ≡ i = omega arith in rw (eq-eqb (length room) (length ns) l) (rw z at (written-here room 0 ns i h (omega arith)))
-
-answered-other : (room ns : List ℕ) → (length room ≡ length ns → ⊥) → answered room ns ≡ room
-answered-other room ns n = rw (ne-eqb (length room) (length ns) n)
 
 -- ---- what the free query says of the same state, in two rooms
 told-alike : (room room′ : List ℕ) → length room ≡ length room′ → (f : Free) → FreesAlike room room′ (freeTold room f) (freeTold room′ f)

@@ -227,7 +227,7 @@ every-number s n a b c d e = search (numbered, unknown, told, check, early, unse
 
 -- ---- the four numbers
 -- a refusal without an index, whichever it is
-plain-good : (row : List ℕ) (refusal : Refusal) → AnswerGood row (refused refusal)
+pub plain-good : (row : List ℕ) (refusal : Refusal) → AnswerGood row (refused refusal)
 plain-good row refusal =
     record {
       refused-dropped = λ e. refl;
