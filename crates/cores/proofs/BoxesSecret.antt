@@ -142,7 +142,7 @@ module _ (members : ℕ → Bool) (Secret : Tables → ℕ → Type 0) (reading 
 
   -- where no member saw a private page, all four numbers
   pub operation-whole : (b : Box C) (row room room′ : List ℕ) (r r′ : Given C) → OperationsAlike members Secret wordsOf b row room room′ r r′ → length room ≡ ANSWER-NUMBERS →
-      (SeenIn members Secret wordsOf (stateIn wordsOf b .tables) row → ⊥) → (i : ℕ) → i < ANSWER-NUMBERS → getD (r .room) i 0 ≡ getD (r′ .room) i 0
+      (SeenIn members Secret (stateIn wordsOf b .tables) row → ⊥) → (i : ℕ) → i < ANSWER-NUMBERS → getD (r .room) i 0 ≡ getD (r′ .room) i 0
   operation-whole b row room room′ r r′ a l n i h = ⊎-elim (λ e. rw e (a .word l n)) (λ d. a .numbers l i (omega (arith, d))) (equal i WORD-AT)
 
   -- ---- call after call
@@ -179,7 +179,7 @@ module _ (members : ℕ → Bool) (Secret : Tables → ℕ → Type 0) (reading 
       rw (e, e′) (record { number = refl; boxes = like; numbers = λ z. absurd (omega arith); word = λ z. absurd (omega arith); other-room = λ j h was. was })
 
   pub sequence-whole : (b : Box C) (rows room room′ : List ℕ) (r r′ : Given C) → SequencesAlike members Secret wordsOf b rows room room′ r r′ → r .number ≡ 0 → (k : ℕ) → k < rowCount rows →
-      (SeenIn members Secret wordsOf (after rows k (rowsFrom members Secret wordsOf b room) .state .tables) (rowAt rows k) → ⊥) → (i : ℕ) → i < ANSWER-NUMBERS →
+      (SeenIn members Secret (after rows k (rowsFrom wordsOf b room) .state .tables) (rowAt rows k) → ⊥) → (i : ℕ) → i < ANSWER-NUMBERS →
       getD (r .room) (k * ANSWER-NUMBERS + i) 0 ≡ getD (r′ .room) (k * ANSWER-NUMBERS + i) 0
   sequence-whole b rows room room′ r r′ a z k h n i l = ⊎-elim (λ e. rw e (a .word z k h n)) (λ d. a .numbers z k i h (omega (arith, d))) (equal i WORD-AT)
 

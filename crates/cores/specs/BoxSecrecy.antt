@@ -23,6 +23,23 @@ WORD-AT = 3
 abbrev pub withMemory : {C : Type 0} → Box C → List ℕ → Box C
 withMemory b memory = box (b .header) (b .sets) (b .pairs) (b .cpuMap) (b .cpuWalker) (b .cpuCache) (b .dmaMap) (b .dmaWalker) (b .dmaCache) memory
 
+-- where rows begin to be carried out in a box
+abbrev pub rowsFrom : {C : Type 0} → (C → List ℕ) → Box C → List ℕ → Progress
+rowsFrom wordsOf b room = record { state = stateIn wordsOf b; room = room }
+
+-- the row, in these tables, is a member's read of a private page; a member's write of the word
+abbrev pub SeenIn : (ℕ → Bool) → (Tables → ℕ → Type 0) → Tables → List ℕ → Type 0
+SeenIn members Secret t row = Seen members Secret t (effectIn t (operationIn row))
+
+pub record WrittenBy (members : ℕ → Bool) (t : Tables) (row : List ℕ) (page word : ℕ) : Type 0 where
+  pub vm : ℕ
+  pub member : members vm ≡ true
+  pub wrote : Wrote (effectIn t (operationIn row)) vm page word
+
+-- the word is in the second box as it is in the first
+abbrev pub WordKept : {C : Type 0} → Box C → Box C → ℕ → ℕ → Type 0
+WordKept b b′ page word = wordIn (b′ .memory) page word ≡ wordIn (b .memory) page word
+
 -- ---- two calls
 -- the free query: number, and the two numbers in a room of two
 pub record FreesAlike (room room′ : List ℕ) (r r′ : FreeGiven) : Type 0 where
@@ -37,20 +54,12 @@ module _ (members : ℕ → Bool) (Secret : Tables → ℕ → Type 0) {C : Type
     pub size : length (b .memory) ≡ length (b′ .memory)
     pub words : (page word : ℕ) → word < PAGE-WORDS → (Secret (stateIn wordsOf b .tables) page → ⊥) → wordIn (b .memory) page word ≡ wordIn (b′ .memory) page word
 
-  -- where the rows are carried out in a box, row by row
-  abbrev pub rowsFrom : Box C → List ℕ → Progress
-  rowsFrom b room = record { state = stateIn wordsOf b; room = room }
-
-  -- the row, in these tables, is a member's read of a private page
-  abbrev pub SeenIn : Tables → List ℕ → Type 0
-  SeenIn t row = Seen members Secret t (effectIn t (operationIn row))
-
   -- the one-operation entry: number and box; in a room of four every number but the word, and that too unless a member saw it
   pub record OperationsAlike (b : Box C) (row room room′ : List ℕ) (r r′ : Given C) : Type 0 where
     pub number : r .number ≡ r′ .number
     pub boxes : BoxesAlike (r .box) (r′ .box)
     pub numbers : length room ≡ ANSWER-NUMBERS → (i : ℕ) → i < WORD-AT → getD (r .room) i 0 ≡ getD (r′ .room) i 0
-    pub word : length room ≡ ANSWER-NUMBERS → (SeenIn (stateIn wordsOf b .tables) row → ⊥) → getD (r .room) WORD-AT 0 ≡ getD (r′ .room) WORD-AT 0
+    pub word : length room ≡ ANSWER-NUMBERS → (SeenIn members Secret (stateIn wordsOf b .tables) row → ⊥) → getD (r .room) WORD-AT 0 ≡ getD (r′ .room) WORD-AT 0
     pub other-room : (length room ≡ ANSWER-NUMBERS → ⊥) → (r .room ≡ room) × (r′ .room ≡ room′)
 
   -- the sequence: the same of every answer row, and any other number of the room is equal where it was
@@ -58,7 +67,7 @@ module _ (members : ℕ → Bool) (Secret : Tables → ℕ → Type 0) {C : Type
     pub number : r .number ≡ r′ .number
     pub boxes : BoxesAlike (r .box) (r′ .box)
     pub numbers : r .number ≡ 0 → (k i : ℕ) → k < rowCount rows → i < WORD-AT → getD (r .room) (k * ANSWER-NUMBERS + i) 0 ≡ getD (r′ .room) (k * ANSWER-NUMBERS + i) 0
-    pub word : r .number ≡ 0 → (k : ℕ) → k < rowCount rows → (SeenIn (after rows k (rowsFrom b room) .state .tables) (rowAt rows k) → ⊥) →
+    pub word : r .number ≡ 0 → (k : ℕ) → k < rowCount rows → (SeenIn members Secret (after rows k (rowsFrom wordsOf b room) .state .tables) (rowAt rows k) → ⊥) →
         getD (r .room) (k * ANSWER-NUMBERS + WORD-AT) 0 ≡ getD (r′ .room) (k * ANSWER-NUMBERS + WORD-AT) 0
     pub other-room : (j : ℕ) → (r .number ≡ 0 → rowCount rows * ANSWER-NUMBERS ≤ j) → getD room j 0 ≡ getD room′ j 0 → getD (r .room) j 0 ≡ getD (r′ .room) j 0
 
@@ -78,7 +87,7 @@ module _ (members : ℕ → Bool) (Secret : Tables → ℕ → Type 0) {C : Type
         Judgement (BoxValid wordsOf b) (sequenceGives wordsOf cacheOf b rows room) (refusedWhole b room) r →
         Judgement (BoxValid wordsOf b′) (sequenceGives wordsOf cacheOf b′ rows′ room′) (refusedWhole b′ room′) r′ →
         BoxesAlike b b′ → length rows ≡ length rows′ → length room ≡ length room′ →
-        (BoxValid wordsOf b → r .number ≡ 0 → Premise members Secret (rowsFrom b room) (rowsFrom b′ room′) rows rows′ (rowCount rows)) → SequencesAlike b rows room room′ r r′
+        (BoxValid wordsOf b → r .number ≡ 0 → Premise members Secret (rowsFrom wordsOf b room) (rowsFrom wordsOf b′ room′) rows rows′ (rowCount rows)) → SequencesAlike b rows room room′ r r′
 
     abbrev pub FreeSecret : Type 0
     FreeSecret =
@@ -101,25 +110,16 @@ module _ (members : ℕ → Bool) (Secret : Tables → ℕ → Type 0) {C : Type
     AllAlike {b} (call row row′ room room′ r r′ given given′ rows rooms asked rest) = OperationsAlike b row room room′ r r′ × AllAlike rest
 
     -- ---- one call: a word of a page that is private all along is as it was, or a member wrote just that word
-    abbrev pub WordKept : Box C → Box C → ℕ → ℕ → Type 0
-    WordKept b b′ page word = wordIn (b′ .memory) page word ≡ wordIn (b .memory) page word
-
-    -- the row, in these tables, is a member's write of the word
-    pub record WrittenBy (t : Tables) (row : List ℕ) (page word : ℕ) : Type 0 where
-      pub vm : ℕ
-      pub member : members vm ≡ true
-      pub wrote : Wrote (effectIn t (operationIn row)) vm page word
-
     abbrev pub OperationOwnWrite : Type 0
     OperationOwnWrite =
         (b : Box C) (row room : List ℕ) (r : Given C) →
         Judgement (OperationAsked wordsOf b row room) (operationGives wordsOf cacheOf b row room) (operationRefused b room) r →
         (page word : ℕ) → word < PAGE-WORDS → Secret (stateIn wordsOf b .tables) page → Secret (stateIn wordsOf (r .box) .tables) page →
-        WordKept b (r .box) page word ⊎ WrittenBy (stateIn wordsOf b .tables) row page word
+        WordKept b (r .box) page word ⊎ WrittenBy members (stateIn wordsOf b .tables) row page word
 
     abbrev pub SequenceOwnWrite : Type 0
     SequenceOwnWrite =
         (b : Box C) (rows room : List ℕ) (r : Given C) →
         Judgement (BoxValid wordsOf b) (sequenceGives wordsOf cacheOf b rows room) (refusedWhole b room) r →
-        (page word : ℕ) → word < PAGE-WORDS → ((k : ℕ) → k ≤ rowCount rows → Secret (after rows k (rowsFrom b room) .state .tables) page) →
-        WordKept b (r .box) page word ⊎ ((k : ℕ) × (k < rowCount rows) × WrittenBy (after rows k (rowsFrom b room) .state .tables) (rowAt rows k) page word)
+        (page word : ℕ) → word < PAGE-WORDS → ((k : ℕ) → k ≤ rowCount rows → Secret (after rows k (rowsFrom wordsOf b room) .state .tables) page) →
+        WordKept b (r .box) page word ⊎ ((k : ℕ) × (k < rowCount rows) × WrittenBy members (after rows k (rowsFrom wordsOf b room) .state .tables) (rowAt rows k) page word)
