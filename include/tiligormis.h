@@ -6,10 +6,10 @@
  * works on what it is handed and gives it back when it returns. Each array crosses as a pointer and a number of elements.
  *
  * What is promised, and proved, for every content and every length of what is lent: the call ends, does nothing undefined, and
- * touches no byte outside. Every entry but start judges the box first. One that is not valid is refused with
- * TILIGORMIS_STATE_NOT_VALID and left as it was: a length that is not the one named below (a null pointer with length 0 among
- * them), a mark that is none of the three, a count of units above TILIGORMIS_UNITS, any number out of range, any rule of
- * validity broken.
+ * touches no byte outside. Every entry but start judges the box first (the three functions over one cache, at the end, are no
+ * entries). One that is not valid is refused with TILIGORMIS_STATE_NOT_VALID and left as it was: a length that is not the one
+ * named below (a null pointer with length 0 among them), a mark that is none of the three, a count of units above
+ * TILIGORMIS_UNITS, any number out of range, any rule of validity broken.
  *
  * What C must see to, since no library can: a pointer with a length other than 0 points to that many elements, aligned as C
  * aligns them; no two arrays of a call overlap, header, answers and rows included, except that two which are both const may;
@@ -80,7 +80,7 @@ enum tiligormis_refusal {
     TILIGORMIS_MAPPING_PRESENT = 10,
     TILIGORMIS_STILL_IN_USE = 11,   /* a page is still mapped or shared */
     TILIGORMIS_PAIR_WRONG = 12,     /* a VM with itself, or no such pair */
-    TILIGORMIS_VM_BUSY = 13,        /* the VM still has pages, mappings, edges, a CPU or a device */
+    TILIGORMIS_VM_BUSY = 13,        /* the VM has pages, mappings or edges, or is on a CPU or a device */
     TILIGORMIS_NO_ROOM = 14,        /* not enough free entries */
     TILIGORMIS_PORT_IDLE = 15,
     TILIGORMIS_ACCESS_LACKING = 16  /* the mapping's access lacks the needed bit */
@@ -215,9 +215,11 @@ typedef struct tiligormis_box {
 
 /*
  * Starts a machine of `pages` pages. The shared span may have count 0. `units` has six numbers for each unit, in the order of
- * tiligormis_unit. Accepted, it writes the whole box: every table empty, every page outside the shared span in the pool, every
- * port idle, memory 0. Refused, it leaves all that is lent as it was and writes the header of an empty machine, of 0 pages,
- * which every other entry refuses; a header that is not of 215 numbers is left as well. Returns 0, or in this order
+ * tiligormis_unit. The header `machine` is a place that the caller provides, in which start gives its machine; to every other
+ * entry it is lent, and a refusal leaves it. Accepted, start writes the whole box: every table empty, a page in the pool unless
+ * it is of the shared span, every port idle, memory 0. Refused, it writes the header, with the empty machine of 0 pages, which
+ * every other entry refuses with 1, and nothing else; a header that is not of 215 numbers is left as well. Returns 0, or in
+ * this order
  *   1  pages, a length of what is lent, or units that are no multiple of six numbers
  *   2  more units than 32, or a unit's VM, access or mark out of range
  *   3  a unit's span, or the shared span
@@ -276,7 +278,13 @@ uint64_t tiligormis_free(const tiligormis_machine *machine, size_t machine_numbe
                          size_t dma_cache_length, const uint64_t *memory, size_t memory_length,
                          tiligormis_free_pages *free_pages, size_t free_numbers);
 
-/* ---- Slots. These look at one cache alone, judge no box, and may make one that is not valid. ------------------------------ */
+/* ---- Slots. ------------------------------------------------------------------------------------------------------------- */
+
+/*
+ * These look at one cache alone and are handed no box, so they judge none: they are no entries of the machine. The first reads
+ * only. The other two are an exception to the rule that what changes a box judges it first; they may make a box that is not
+ * valid, and the entries then refuse it.
+ */
 
 /* The lowest filled slot, of the first 64, that holds this port, VM and guest page; TILIGORMIS_SLOTS where there is none. */
 size_t tiligormis_find_slot(const tiligormis_slot *slots, size_t slots_length, uint64_t port, uint64_t vm, uint64_t guest);

@@ -8,6 +8,7 @@ use lib.ListN.{length, length-map}
 use Rattle.numbers.specs.Decides.{Decides}
 use Rattle.numbers.specs.DecidesLaws.{decides-as}
 use Rattle.numbers.specs.Limits.{SLOTS}
+use Rattle.numbers.specs.Meaning.{numberOf}
 use Rattle.numbers.specs.declared.Answer.{Answer}
 use Rattle.numbers.specs.declared.Answer.the-variants.{Accepted, Refused}
 use Rattle.numbers.specs.CaseLaws.{cases}
@@ -16,7 +17,7 @@ use Rattle.model.specs.Sequence.{stepRow, sequence}
 use Rattle.model.specs.Start.{Told, Lent, lengthsGood, startAnswer, emptyState, start, free, freeRefused}
 use Rattle.model.specs.State.{State}
 use Rattle.model.specs.ToldLaws.{LengthsPassed, lengths-passed}
-use Rattle.header.specs.Numbers.{numberOf, changed, begun}
+use Rattle.header.specs.Numbers.{changed, begun}
 use Rattle.cores.specs.Boxes.{Box, box, stateIn, lentIn, BoxValid, withHeader, boxOf}
 use Rattle.cores.specs.Given.{Judgement, met, unmet, Given, given, answeredBy, operationGives, operationRefused, OperationAsked, ranThrough, sequenceGives, refusedWhole, FreeGiven, freeTold, FreeAsked, freeGives, StartGiven, startGiven, startedBy, startGives, startRefused, notValid, StartOfWords, all-there, not-whole, no-header, Whole, same, HeaderWhole}
 use Rattle.slots.specs.Slots.{wordOf, words, slotsOf, AllFit, loaded, stored}

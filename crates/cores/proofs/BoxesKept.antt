@@ -100,7 +100,7 @@ module _ {C : Type 0} (wordsOf : C → List ℕ) (cacheOf : List ℕ → C) (bac
     pub sequence-state : (rows room : List ℕ) → stateIn wordsOf (sequenceGives wordsOf cacheOf b rows room .box) ≡ sequence (stateIn wordsOf b) rows room .progress .state
     sequence-state rows room =
         let r = sequence (stateIn wordsOf b) rows room in
-        kept-state (r .answer) (r .progress .state) (sequence-leaves (stateIn wordsOf b) rows room) (sequence-valid (stateIn wordsOf b) (v .state) rows room) (sequence-setup (stateIn wordsOf b) rows room)
+        kept-state (r .answer) (r .progress .state) (sequence-leaves (stateIn wordsOf b) rows room .state) (sequence-valid (stateIn wordsOf b) (v .state) rows room) (sequence-setup (stateIn wordsOf b) rows room)
 
     pub sequence-box-valid : (rows room : List ℕ) → BoxValid wordsOf (sequenceGives wordsOf cacheOf b rows room .box)
     sequence-box-valid rows room =

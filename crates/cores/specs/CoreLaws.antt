@@ -1,13 +1,15 @@
 -- From what the machine's entries leave to what a core gives.
-use Prim.Native.Nat.{ℕ}
+use Prim.Native.Nat.{ℕ, _+_, _<_}
 use mathlib.Core.Bool.{Bool}
 use mathlib.Core.List.{List}
 use mathlib.Core.Path.{_≡_, refl, ap, _∙_, subst}
-use lib.ListN.{length}
+use native.Mathlib.Omega.{arith}
+use lib.ListN.{length, getD}
+use borrow.Author.Tests.{eq-eqb, ne-eqb}
 use Rattle.numbers.specs.Decides.{Decides}
 use Rattle.numbers.specs.DecidesLaws.{decides-as}
 use Rattle.numbers.specs.Limits.{ROW-NUMBERS, ANSWER-NUMBERS}
-use Rattle.numbers.specs.Meaning.{answerNumbers}
+use Rattle.numbers.specs.Meaning.{answerNumbers, numberOf}
 use Rattle.numbers.specs.declared.Answer.{Answer}
 use Rattle.numbers.specs.declared.Answer.the-variants.{Accepted, Refused}
 use Rattle.model.specs.Effect.{kept}
@@ -19,12 +21,20 @@ use Rattle.model.specs.State.{State}
 use Rattle.model.specs.Valid.{Valid}
 use Rattle.model.specs.declared.Machine.{Machine}
 use Rattle.model.specs.Step.{Stepped}
+use Rattle.model.specs.WriteLaws.{written-here}
 use Rattle.header.specs.HeaderLaws.{changed-same}
 use Rattle.start.specs.Begun.{emptyHeader}
-use Rattle.header.specs.Numbers.{HeaderGood, machineOf, changed, begun, begunBy, numberOf, answered, freeNumbers}
+use Rattle.header.specs.Numbers.{HeaderGood, machineOf, changed, begun, begunBy, answered, freeNumbers}
 use Rattle.cores.specs.Boxes.{Box, BoxValid, stateIn, lentIn, withHeader, boxOf, leftIn, begunIn}
 use Rattle.cores.specs.Given.{Judgement, met, unmet, Given, given, answeredBy, operationGives, operationRefused, OperationAsked, ranThrough, sequenceGives, refusedWhole, FreeGiven, freeTold, FreeAsked, freeGives, freeGiven, FREE-NUMBERS, StartGiven, startGiven, startGives, startShort, StartOfWords, all-there, not-whole, no-header, notValid, Whole, same, HeaderWhole}
 use Rattle.model.specs.RefusedLaws.{row-leaves, sequence-leaves}
+
+-- ---- a room that is written whole, or left
+pub answered-here : (room ns : List ℕ) → length room ≡ length ns → (i : ℕ) → i < length ns → getD (answered room ns) i 0 ≡ getD ns i 0
+answered-here room ns l i h = let z : 0 + i ≡ i = omega arith in rw (eq-eqb (length room) (length ns) l) (rw z at (written-here room 0 ns i h (omega arith)))
+
+pub answered-other : (room ns : List ℕ) → (length room ≡ length ns → ⊥) → answered room ns ≡ room
+answered-other room ns n = rw (ne-eqb (length room) (length ns) n)
 
 module _ (b : Box (List ℕ)) (h : HeaderGood (b .header)) where
   abbrev s : State
@@ -60,7 +70,7 @@ module _ (b : Box (List ℕ)) (h : HeaderGood (b .header)) where
         → Judgement (Whole cpuSlots dmaSlots × BoxValid same b) (sequenceGives same same b rows room) (refusedWhole b room) (runs r)
     sequence-given r w (valid v e) =
         met (w, record { header = h; state = v })
-        (ap runs e ∙ ap (given (numberOf (sequence s rows room .answer)) (sequence s rows room .progress .room)) (left-kept (sequence s rows room .answer) (sequence s rows room .progress .state) (sequence-leaves s rows room)))
+        (ap runs e ∙ ap (given (numberOf (sequence s rows room .answer)) (sequence s rows room .progress .room)) (left-kept (sequence s rows room .answer) (sequence s rows room .progress .state) (sequence-leaves s rows room .state)))
     sequence-given r w (not-valid n e) = unmet (λ a. n (a .1 .state)) (ap runs e ∙ ap (given _ _) left-same)
 
   -- ---- the free query

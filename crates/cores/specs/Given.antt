@@ -4,14 +4,14 @@ use mathlib.Core.List.{List}
 use mathlib.Core.Path.{_≡_}
 use lib.ListN.{length}
 use Rattle.numbers.specs.Limits.{SLOTS, ROW-NUMBERS, ANSWER-NUMBERS}
-use Rattle.numbers.specs.Meaning.{answerNumbers}
+use Rattle.numbers.specs.Meaning.{answerNumbers, numberOf}
 use Rattle.numbers.specs.declared.Answer.{Answer}
 use Rattle.numbers.specs.declared.Refusal.the-variants.{StateNotValid}
 use Rattle.model.specs.Effect.{refused, kept}
 use Rattle.model.specs.Sequence.{Sequenced, stepRow, sequence}
 use Rattle.model.specs.Start.{Told, Started, Free, emptyState, start, free, freeRefused}
 use Rattle.model.specs.Step.{Stepped}
-use Rattle.header.specs.Numbers.{MACHINE-NUMBERS, numberOf, answered, freeNumbers, begun}
+use Rattle.header.specs.Numbers.{MACHINE-NUMBERS, answered, freeNumbers, begun}
 use Rattle.cores.specs.Boxes.{Box, BoxValid, stateIn, lentIn, withHeader, leftIn, begunIn}
 
 -- the one result where what is asked holds, the other where it does not

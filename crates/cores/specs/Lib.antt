@@ -1,4 +1,5 @@
 -- Boxes, and what the entries give for them.
+pub mod BoxSecrecy
 pub mod Boxes
 pub mod CoreLaws
 pub mod Given

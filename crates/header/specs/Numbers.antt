@@ -7,9 +7,7 @@ use lib.Dec.{eqb, ltb}
 use lib.ListN.{length, getD, take, drop}
 use Rattle.numbers.specs.Choice.{if_then_else_}
 use Rattle.numbers.specs.Limits.{PORTS, UNITS}
-use Rattle.numbers.specs.Meaning.{refusalNumber, lowestNumbers}
-use Rattle.numbers.specs.declared.Answer.{Answer}
-use Rattle.numbers.specs.declared.Answer.the-variants.{Accepted, Refused}
+use Rattle.numbers.specs.Meaning.{lowestNumbers}
 use Rattle.numbers.specs.declared.Lowest.{Lowest}
 use Rattle.table.specs.Scan.{repeat}
 use Rattle.units.specs.Units.{markNumber, isMark, noUnit}
@@ -102,10 +100,6 @@ abbrev pub begunBy : List ℕ → Machine → List ℕ
 begunBy numbers m = begun numbers (tablesOf m [] [] [] [] [] [] [] [])
 
 -- ---- answers as numbers
-abbrev pub numberOf : Answer → ℕ
-numberOf (Accepted dropped word) = 0
-numberOf (Refused refusal index) = refusalNumber refusal
-
 -- numbers written over a room that has just as many places, and no other
 abbrev pub answered : List ℕ → List ℕ → List ℕ
 answered room numbers = if eqb (length room) (length numbers) then writeAt room 0 numbers else room

@@ -342,7 +342,7 @@ pub fn same_maps(map: &[u64], walker: &[u64]) -> bool
     agreed(map, &map_head, &map_next, walker, &head, &next, &mut place)
 }
 
-// Rule 7, of the keys: each slot holds the walker's entry for its VM and guest page, and no key is twice in the cache.
+// Rule 7, of the keys: each slot holds what the walker has for the slot's VM and guest page, and no key is twice in the cache.
 pub fn slots_held(walker: &[u64], cache: &[u64]) -> bool
     requires { ⌜ (length (now walker) ≡ ENTRIES) × (length (now cache) ≡ SLOTS) × (Packed (now walker)) × (Distinct keyOf (now walker)) × (Filled (now cache)) ⌝ }
     ensures { λ r. ⌜ Decides r (SlotsHeld (now (walker .entry)) (now (cache .entry))) ⌝ }

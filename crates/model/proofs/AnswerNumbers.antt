@@ -1,22 +1,25 @@
 -- What the four numbers of an answer may be (docs/MACHINE.md, 2): for every row, and from any state, valid or not.
 use Prim.{Unit, tt}
 use Prim.Native.Nat.{ℕ, _<_}
-use mathlib.Core.Bool.{Bool, true, false, true≢false}
+use mathlib.Core.Bool.{Bool, true, false, not, _&&_, true≢false}
 use mathlib.Core.List.{List, [], _∷_}
+use mathlib.Core.Logic.{⊎-elim}
 use mathlib.Core.Option.{Option, none, some}
 use mathlib.Core.Path.{_≡_, refl, sym, _∙_}
 use native.Mathlib.Omega.{arith}
 use lib.Dec.{eqb, ltb}
-use lib.ListN.{getD}
-use borrow.Author.Tests.{ltb-true, eqb-true}
+use lib.ListN.{length, getD, List·getD-eq-default}
+use borrow.Author.Tests.{ltb-true, ltb-false, eqb-true}
+use Rattle.numbers.specs.CaseLaws.{cases}
 use Rattle.numbers.specs.Choice.{if_then_else_}
-use Rattle.numbers.specs.Meaning.{refusalNumber, answerNumbers}
+use Rattle.numbers.specs.Meaning.{refusalNumber, answerNumbers, numberOf}
 use Rattle.numbers.specs.declared.Answer.{Answer}
 use Rattle.numbers.specs.declared.Answer.the-variants.{Accepted, Refused}
 use Rattle.numbers.specs.declared.Refusal.{Refusal}
 use Rattle.numbers.specs.declared.Refusal.the-variants.{StateNotValid}
 use Rattle.numbers.specs.declared.Operation.{Operation}
-use Rattle.table.specs.Scan.{any}
+use Rattle.table.specs.Scan.{any, anyBelow, lowest}
+use Rattle.table.specs.ScanLaws.{any-below-false, lowest-found}
 use Rattle.model.specs.State.{Tables, State}
 use Rattle.model.specs.Effect.{Effect, reads, writes, clears, Control, decided, refused, accepted, acceptedDropping, andThen}
 use Rattle.model.specs.Ledger.{addVmAnswer, removeVmAnswer, assignAnswer, reclaimAnswer, shareAnswer, unshareAnswer}
@@ -47,18 +50,58 @@ gives = 21 ∷ 22 ∷ []
 abbrev pub isIn : List ℕ → ℕ → Bool
 isIn ns n = any (eqb n) ns
 
--- an answer's number, region index, dropped slots, word
-abbrev pub number : List ℕ → ℕ
-number answer = getD answer 0 0
+-- each operation's refusals, first match first (docs/MACHINE.md, 7), at the place of its number; 2 comes before those of its row
+unfoldable pub refusalLists : List (List ℕ)
+refusalLists =
+    -- no operation
+    (2 ∷ [])
+    -- 1 to 6: VMs, ownership and sharing
+    ∷ (2 ∷ 5 ∷ [])
+    ∷ (2 ∷ 4 ∷ 13 ∷ [])
+    ∷ (2 ∷ 4 ∷ 6 ∷ 7 ∷ [])
+    ∷ (2 ∷ 4 ∷ 6 ∷ 11 ∷ [])
+    ∷ (2 ∷ 4 ∷ 12 ∷ 6 ∷ 14 ∷ [])
+    ∷ (2 ∷ 4 ∷ 12 ∷ 11 ∷ [])
+    -- 7 to 10: map and unmap
+    ∷ (2 ∷ 4 ∷ 6 ∷ 14 ∷ [])
+    ∷ (2 ∷ 4 ∷ 6 ∷ 14 ∷ [])
+    ∷ (2 ∷ 4 ∷ 9 ∷ [])
+    ∷ (2 ∷ 4 ∷ 9 ∷ [])
+    -- 11 to 14: regions
+    ∷ (2 ∷ 3 ∷ 4 ∷ 8 ∷ 6 ∷ 10 ∷ 7 ∷ 14 ∷ [])
+    ∷ (2 ∷ 3 ∷ 4 ∷ 8 ∷ 6 ∷ 9 ∷ 11 ∷ [])
+    ∷ (2 ∷ 3 ∷ 4 ∷ 8 ∷ 10 ∷ 7 ∷ 14 ∷ [])
+    ∷ (2 ∷ 3 ∷ 4 ∷ 8 ∷ 6 ∷ 9 ∷ 11 ∷ [])
+    -- 15 to 20: ports, fills, emptied slots
+    ∷ (2 ∷ 4 ∷ [])
+    ∷ (2 ∷ 4 ∷ [])
+    ∷ (2 ∷ 15 ∷ 9 ∷ [])
+    ∷ (2 ∷ 15 ∷ 9 ∷ [])
+    ∷ (2 ∷ [])
+    ∷ (2 ∷ [])
+    -- 21 to 24: reads and writes
+    ∷ (2 ∷ 15 ∷ 9 ∷ 16 ∷ [])
+    ∷ (2 ∷ 15 ∷ 9 ∷ 16 ∷ [])
+    ∷ (2 ∷ 15 ∷ 9 ∷ 16 ∷ [])
+    ∷ (2 ∷ 15 ∷ 9 ∷ 16 ∷ [])
+    -- 25, 26: barriers, which have no argument
+    ∷ []
+    ∷ []
+    ∷ []
 
-abbrev pub index : List ℕ → ℕ
-index answer = getD answer 1 0
+-- those that the manual lists for an operation's number; a number that is no operation's is refused by 2
+abbrev pub listed : ℕ → List ℕ
+listed operation = getD refusalLists operation (2 ∷ [])
 
-abbrev pub dropped : List ℕ → ℕ
-dropped answer = getD answer 2 0
+-- an answer's numbers after the first: region index, dropped slots, word
+abbrev pub index : Answer → ℕ
+index answer = getD (answerNumbers answer) 1 0
 
-abbrev pub word : List ℕ → ℕ
-word answer = getD answer 3 0
+abbrev pub dropped : Answer → ℕ
+dropped answer = getD (answerNumbers answer) 2 0
+
+abbrev pub word : Answer → ℕ
+word answer = getD (answerNumbers answer) 3 0
 
 -- a row's operation; of a region operation, its count
 abbrev pub operationAt : List ℕ → ℕ
@@ -68,22 +111,41 @@ abbrev pub countAt : List ℕ → ℕ
 countAt row = getD row 4 0
 
 -- ---- the statement
-pub record AnswerGood (row answer : List ℕ) : Type 0 where
-  pub refused-dropped : 0 < number answer → dropped answer ≡ 0
-  pub refused-word : 0 < number answer → word answer ≡ 0
-  pub accepted-index : number answer ≡ 0 → index answer ≡ 0
+pub record AnswerGood (row : List ℕ) (answer : Answer) : Type 0 where
+  pub refused-dropped : 0 < numberOf answer → dropped answer ≡ 0
+  pub refused-word : 0 < numberOf answer → word answer ≡ 0
+  pub accepted-index : numberOf answer ≡ 0 → index answer ≡ 0
   pub dropped-of-drop : isIn drops (operationAt row) ≡ false → dropped answer ≡ 0
   pub word-of-read : isIn gives (operationAt row) ≡ false → word answer ≡ 0
   -- an index is of a region's search, and of one of the region's pages
   pub index-of-region : isIn regions (operationAt row) ≡ false → index answer ≡ 0
-  pub index-of-search : isIn searches (number answer) ≡ false → index answer ≡ 0
+  pub index-of-search : isIn searches (numberOf answer) ≡ false → index answer ≡ 0
   pub index-inside : 0 < index answer → index answer < countAt row
 
--- ---- the same of an answer before it is written as numbers
-data Fits (operation count : ℕ) : Answer → Type 0 where
+-- ---- laws of the lists
+-- what fails for no list at its place, and for 2 alone at no place, fails for no number
+pub each-listed : (fails : ℕ → List ℕ → Bool) → anyBelow (λ n. fails n (listed n)) (length refusalLists) ≡ false → ((n : ℕ) → fails n (2 ∷ []) ≡ false) → (n : ℕ) → fails n (listed n) ≡ false
+each-listed fails here past n =
+    ⊎-elim (λ t. any-below-false (λ k. fails k (listed k)) (length refusalLists) n here (ltb-true n (length refusalLists) t))
+    (λ f. rw (List·getD-eq-default refusalLists (2 ∷ []) (ltb-false n (length refusalLists) f)) (past n)) (cases (ltb n (length refusalLists)))
+
+-- 2 is listed for all but the barriers
+abbrev lacksTwo : ℕ → List ℕ → Bool
+lacksTwo n ns = not (isIn ns 2) && not (eqb n 25) && not (eqb n 26)
+
+none-lacks : anyBelow (λ n. lacksTwo n (listed n)) (length refusalLists) ≡ false
+unfolding refusalLists
+none-lacks = refl
+
+two-listed : (n : ℕ) → eqb n 25 ≡ false → eqb n 26 ≡ false → isIn (listed n) 2 ≡ true
+two-listed n d i = ⊎-elim (λ t. t) (λ (f : isIn (listed n) 2 ≡ false). absurd (true≢false (rw (f, d, i) at (each-listed lacksTwo none-lacks (λ k. refl) n)))) (cases (isIn (listed n) 2))
+
+-- ---- the same of an answer before it is written as numbers, and that a refusal is listed
+pub data Fits (operation count : ℕ) : Answer → Type 0 where
   taken : {d w : ℕ} → (isIn drops operation ≡ false → d ≡ 0) → (isIn gives operation ≡ false → w ≡ 0) → Fits operation count (Accepted d w)
-  plain : {refusal : Refusal} → Fits operation count (Refused refusal 0)
-  found : {refusal : Refusal} {k : ℕ} → isIn regions operation ≡ true → isIn searches (refusalNumber refusal) ≡ true → k < count → Fits operation count (Refused refusal k)
+  plain : {refusal : Refusal} → isIn (listed operation) (refusalNumber refusal) ≡ true → Fits operation count (Refused refusal 0)
+  found : {refusal : Refusal} {k : ℕ} → isIn (listed operation) (refusalNumber refusal) ≡ true → isIn regions operation ≡ true → isIn searches (refusalNumber refusal) ≡ true → k < count →
+      Fits operation count (Refused refusal k)
 
 -- an effect that reads is of an operation that gives a word
 abbrev ReadsOnly : ℕ → Effect → Type 0
@@ -99,16 +161,25 @@ module _ {operation count : ℕ} where
   dropping : isIn drops operation ≡ true → (d : ℕ) → Fits operation count (acceptedDropping d)
   dropping may d = taken (λ e. absurd (true≢false (sym may ∙ e))) (λ e. refl)
 
-  check : (t : Bool) (refusal : Refusal) (rest : Answer) → Fits operation count rest → Fits operation count (if t then refused refusal else rest)
-  check true refusal rest h = plain
-  check false refusal rest h = h
+  check : (t : Bool) (refusal : Refusal) (rest : Answer) → isIn (listed operation) (refusalNumber refusal) ≡ true → Fits operation count rest →
+      Fits operation count (if t then refused refusal else rest)
+  check true refusal rest may h = plain may
+  check false refusal rest may h = h
 
-  searched : isIn regions operation ≡ true → (k : ℕ) (refusal : Refusal) (rest : Answer) → isIn searches (refusalNumber refusal) ≡ true → Fits operation count rest →
-      Fits operation count (clashAt k count refusal rest)
-  searched region k refusal rest may h = which (ltb k count) refl
+  searched : isIn regions operation ≡ true → (k : ℕ) (refusal : Refusal) (rest : Answer) → isIn (listed operation) (refusalNumber refusal) ≡ true → isIn searches (refusalNumber refusal) ≡ true →
+      Fits operation count rest → Fits operation count (clashAt k count refusal rest)
+  searched region k refusal rest may searching h = which (ltb k count) refl
     where
       which : (t : Bool) → ltb k count ≡ t → Fits operation count (if t then Refused refusal k else rest)
-      which true e = found region may (ltb-true k count e)
+      which true e = found may region searching (ltb-true k count e)
+      which false e = h
+
+  -- a search that no page fails refuses nothing: a DMA insert's for pages that are not free
+  unsearched : (refusal : Refusal) (rest : Answer) → Fits operation count rest → Fits operation count (clashAt (lowest (λ k. false) count) count refusal rest)
+  unsearched refusal rest h = which (ltb (lowest (λ k. false) count) count) refl
+    where
+      which : (t : Bool) → ltb (lowest (λ k. false) count) count ≡ t → Fits operation count (if t then Refused refusal (lowest (λ k. false) count) else rest)
+      which true e = absurd (true≢false (sym (lowest-found (λ k. false) count (ltb-true _ count e) .0)))
       which false e = h
 
   early : (first rest : Answer) → Fits operation count first → Fits operation count rest → Fits operation count (andThen first rest)
@@ -136,26 +207,40 @@ record Known (n count : ℕ) (s : State) (o : Option Operation) : Type 0 where
   fits : Fits n count (stepKnown s o .answer)
 
 module _ {n count : ℕ} {s : State} where
-  unknown : Known n count s none
-  unknown = record { fits = plain }
+  unknown : eqb n 25 ≡ false → eqb n 26 ≡ false → Known n count s none
+  unknown d i = record { fits = plain (two-listed n d i) }
 
   -- the operation of a number, else the operations of those that follow
-  numbered : (k : ℕ) (operation : Operation) (rest : Option Operation) → Told k count (control (s .tables) operation) → Known n count s rest →
+  numbered : (k : ℕ) (operation : Operation) (rest : Option Operation) → Told k count (control (s .tables) operation) → (eqb n k ≡ false → Known n count s rest) →
       Known n count s (if eqb n k then some operation else rest)
   unfolding step
   numbered k operation rest h others = which (eqb n k) refl
     where
       which : (t : Bool) → eqb n k ≡ t → Known n count s (if t then some operation else rest)
       which true e = record { fits = rw (eqb-true n k e) (h .fits (s .memory)) }
-      which false e = others
+      which false e = others e
 
 -- all of them: every answer is made of the parts above
 every-number : (s : State) (n a b c d e : ℕ) → Known n d s (operationOf n a b c d e)
-unfolding control addVmControl removeVmControl assignControl reclaimControl shareControl unshareControl mapControl unmapControl insertControl removeControl portControl fillControl emptyControl readControl writeControl addVmAnswer removeVmAnswer assignAnswer reclaimAnswer shareAnswer unshareAnswer mapAnswer unmapAnswer insertAnswer removeAnswer portAnswer fillAnswer emptyAnswer accessAnswer
-every-number s n a b c d e = search (numbered, unknown, told, check, early, searched, dropping, done, tt {0}) depth 60 fits 5000
+unfolding refusalLists control addVmControl removeVmControl assignControl reclaimControl shareControl unshareControl mapControl unmapControl insertControl removeControl portControl fillControl emptyControl readControl writeControl addVmAnswer removeVmAnswer assignAnswer reclaimAnswer shareAnswer unshareAnswer mapAnswer unmapAnswer insertAnswer removeAnswer portAnswer fillAnswer emptyAnswer accessAnswer
+every-number s n a b c d e = search (numbered, unknown, told, check, early, unsearched, searched, dropping, done, tt {0}) depth 60 fits 5000
 
 -- ---- the four numbers
-good-of : (row : List ℕ) (answer : Answer) → Fits (operationAt row) (countAt row) answer → AnswerGood row (answerNumbers answer)
+-- a refusal without an index, whichever it is
+pub plain-good : (row : List ℕ) (refusal : Refusal) → AnswerGood row (refused refusal)
+plain-good row refusal =
+    record {
+      refused-dropped = λ e. refl;
+      refused-word = λ e. refl;
+      accepted-index = λ e. refl;
+      dropped-of-drop = λ e. refl;
+      word-of-read = λ e. refl;
+      index-of-region = λ e. refl;
+      index-of-search = λ e. refl;
+      index-inside = λ e. absurd (omega arith);
+    }
+
+good-of : (row : List ℕ) (answer : Answer) → Fits (operationAt row) (countAt row) answer → AnswerGood row answer
 good-of row (Accepted d w) (taken h f) =
     record {
       refused-dropped = λ e. absurd (omega arith);
@@ -167,34 +252,27 @@ good-of row (Accepted d w) (taken h f) =
       index-of-search = λ e. refl;
       index-inside = λ e. absurd (omega arith);
     }
-good-of row (Refused refusal k) plain =
+good-of row (Refused refusal k) (plain may) = plain-good row refusal
+good-of row (Refused refusal k) (found may region searching inside) =
     record {
       refused-dropped = λ e. refl;
       refused-word = λ e. refl;
-      accepted-index = λ e. refl;
-      dropped-of-drop = λ e. refl;
-      word-of-read = λ e. refl;
-      index-of-region = λ e. refl;
-      index-of-search = λ e. refl;
-      index-inside = λ e. absurd (omega arith);
-    }
-good-of row (Refused refusal k) (found region may inside) =
-    record {
-      refused-dropped = λ e. refl;
-      refused-word = λ e. refl;
-      accepted-index = λ e. absurd (true≢false (sym (rw e at may)));
+      accepted-index = λ e. absurd (true≢false (sym (rw e at searching)));
       dropped-of-drop = λ e. refl;
       word-of-read = λ e. refl;
       index-of-region = λ e. absurd (true≢false (sym region ∙ e));
-      index-of-search = λ e. absurd (true≢false (sym may ∙ e));
+      index-of-search = λ e. absurd (true≢false (sym searching ∙ e));
       index-inside = λ e. inside;
     }
 
-pub answer-good : (s : State) (row : List ℕ) → AnswerGood row (answerNumbers (stepRow s row .answer))
+pub answer-fits : (s : State) (row : List ℕ) → Fits (operationAt row) (countAt row) (stepRow s row .answer)
 unfolding stepRow operationIn
-answer-good s row = good-of row (stepRow s row .answer) (every-number s (getD row 0 0) (getD row 1 0) (getD row 2 0) (getD row 3 0) (getD row 4 0) (getD row 5 0) .fits)
+answer-fits s row = every-number s (getD row 0 0) (getD row 1 0) (getD row 2 0) (getD row 3 0) (getD row 4 0) (getD row 5 0) .fits
+
+pub answer-good : (s : State) (row : List ℕ) → AnswerGood row (stepRow s row .answer)
+answer-good s row = good-of row (stepRow s row .answer) (answer-fits s row)
 
 -- of the one-operation entry too, where the state is not valid
-pub entry-good : (s : State) (row : List ℕ) (result : Stepped) → JudgedRow s row result → AnswerGood row (answerNumbers (result .answer))
+pub entry-good : (s : State) (row : List ℕ) (result : Stepped) → JudgedRow s row result → AnswerGood row (result .answer)
 entry-good s row result (valid v e) = rw e (answer-good s row)
-entry-good s row result (not-valid n e) = rw e (good-of row (refused StateNotValid) plain)
+entry-good s row result (not-valid n e) = rw e (plain-good row StateNotValid)

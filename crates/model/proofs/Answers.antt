@@ -1,21 +1,48 @@
--- Answer row k of a sequence is the answer of row k from the state after the rows before it, and room past the answers is kept.
-use Prim.Native.Nat.{ℕ, zero, suc, _+_, _*_, _≤_, _<_}
+-- When a sequence is carried out; answer row k of it is the answer of row k from the state after the rows before it, and room past the
+-- answers is kept.
+use Prim.Native.Nat.{ℕ, zero, suc, _+_, _*_, _%_, _≤_, _<_}
+use mathlib.Core.Bool.{Bool, true, false, not}
 use mathlib.Core.List.{List}
 use mathlib.Core.Logic.{⊎-elim}
 use mathlib.Core.Path.{_≡_, refl, _∙_}
 use native.Mathlib.Omega.{arith}
+use lib.Dec.{eqb, leb}
 use lib.ListN.{length, getD}
+use borrow.Author.Tests.{leb-true, not-false}
 use Rattle.numbers.specs.CaseLaws.{equal}
-use Rattle.numbers.specs.Limits.{ANSWER-NUMBERS}
-use Rattle.numbers.specs.Meaning.{answerNumbers}
+use Rattle.numbers.specs.Choice.{if_then_else_}
+use Rattle.numbers.specs.Limits.{ROW-NUMBERS, ANSWER-NUMBERS}
+use Rattle.numbers.specs.Meaning.{answerNumbers, numberOf}
 use Rattle.numbers.specs.declared.Answer.{Answer}
 use Rattle.numbers.specs.declared.Answer.the-variants.{Accepted, Refused}
-use Rattle.model.specs.Sequence.{writeAt, Progress, stepRow, rowAt, turn, after}
+use Rattle.numbers.specs.declared.Refusal.the-variants.{OutOfRange}
+use Rattle.model.specs.Effect.{accepted, refused}
+use Rattle.model.specs.EarlyLaws.{past}
+use Rattle.model.specs.Sequence.{writeAt, Progress, stepRow, rowAt, rowCount, shapeAnswer, turn, after}
 use Rattle.model.specs.WriteLaws.{length-written, written-before, written-behind, written-here}
 use Rattle.model.proofs.Repeats.{repeat-last}
 
--- an answer is four numbers
-four : (answer : Answer) → length (answerNumbers answer) ≡ ANSWER-NUMBERS
+-- ---- the shape
+-- a shape that is accepted has room for every answer, and nothing is dropped or read
+pub roomy : (rows room : List ℕ) {dropped word : ℕ} → shapeAnswer rows room ≡ Accepted dropped word → (rowCount rows * ANSWER-NUMBERS ≤ length room) × (accepted ≡ Accepted dropped word)
+unfolding shapeAnswer
+roomy rows room e =
+    let (a, b) = past (not (eqb (length rows % ROW-NUMBERS) 0)) _ _ _ e in
+    let (c, d) = past (not (leb (rowCount rows * ANSWER-NUMBERS) (length room))) _ _ _ b in
+    (leb-true _ _ (not-false _ c), d)
+
+-- and so is one whose number is 0
+pub shape-accepted : (rows room : List ℕ) → numberOf (shapeAnswer rows room) ≡ 0 → shapeAnswer rows room ≡ accepted
+unfolding shapeAnswer
+shape-accepted rows room = go (not (eqb (length rows % ROW-NUMBERS) 0)) (not (leb (rowCount rows * ANSWER-NUMBERS) (length room)))
+  where
+    go : (t u : Bool) → numberOf (if t then refused OutOfRange else if u then refused OutOfRange else accepted) ≡ 0 → (if t then refused OutOfRange else if u then refused OutOfRange else accepted) ≡ accepted
+    go true u e = absurd (omega arith)
+    go false true e = absurd (omega arith)
+    go false false e = refl
+
+-- ---- an answer is four numbers
+pub four : (answer : Answer) → length (answerNumbers answer) ≡ ANSWER-NUMBERS
 four (Accepted dropped word) = refl
 four (Refused refusal index) = refl
 

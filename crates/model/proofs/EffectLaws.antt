@@ -5,6 +5,7 @@ use mathlib.Core.Bool.{not, _&&_}
 use mathlib.Core.List.{List, [], _∷_}
 use mathlib.Core.Logic.{_⊎_, inl, inr, ⊎-elim}
 use mathlib.Core.Path.{_≡_, refl, sym, _∙_}
+use lib.ListN.{length, length-set}
 use borrow.Author.Tests.{ltb-true}
 use Rattle.numbers.specs.CaseLaws.{equal}
 use Rattle.numbers.specs.Limits.{PAGE-WORDS, READ, WRITE}
@@ -20,8 +21,8 @@ use Rattle.model.specs.Effect.{wordIn, Place, Store, Effect, reads, writ
 use Rattle.model.specs.Access.{accessAnswer}
 use Rattle.model.specs.Step.{addVmControl, removeVmControl, assignControl, reclaimControl, shareControl, unshareControl, mapControl, unmapControl, insertControl, removeControl, portControl, fillControl, emptyControl, readControl, writeControl, control}
 use Rattle.model.specs.EarlyLaws.{past, hold}
-use Rattle.model.specs.MemoryLaws.{store-elsewhere, clear-there, clear-elsewhere}
-use Rattle.model.specs.Good.{StoreOn, PageIn}
+use Rattle.model.specs.MemoryLaws.{store-another, store-here, store-both, clear-there, clear-elsewhere}
+use Rattle.model.specs.Good.{StoreOn, StoreAt, PageIn}
 
 -- ---- every word that an effect names is one of its page
 abbrev pub PlacesInside : List Place → Type 0
@@ -95,16 +96,40 @@ pub listed : (page : ℕ) (pages : List ℕ) → PageIn page pages ⊎ (PageIn p
 listed page [] = inr (λ h. h)
 listed page (x ∷ xs) = ⊎-elim (λ e. inl (inl e)) (λ n. ⊎-elim (λ h. inl (inr h)) (λ m. inr (⊎-elim n m)) (listed page xs)) (equal x page)
 
+-- a store to a word is one to its page
+pub store-on : (page word : ℕ) (stores : List Store) → StoreAt page word stores → StoreOn page stores
+store-on page word (x ∷ xs) (inl e) = inl (e .0)
+store-on page word (x ∷ xs) (inr o) = inr (store-on page word xs o)
+
+-- both, or not both
+both : {A B : Type 0} → A ⊎ (A → ⊥) → B ⊎ (B → ⊥) → (A × B) ⊎ (A × B → ⊥)
+both (inl a) (inl b) = inl (a, b)
+both (inl a) (inr n) = inr (λ p. n (p .1))
+both (inr n) b = inr (λ p. n (p .0))
+
 -- ---- a word of a page
 module _ (page word : ℕ) (h : word < PAGE-WORDS) where
-  -- it stays, or its page is stored to
-  pub stored-or-same : (stores : List Store) (memory : List ℕ) → StoresInside stores → (wordIn (stored stores memory) page word ≡ wordIn memory page word) ⊎ StoreOn page stores
+  -- it stays, or is itself stored to
+  pub stored-or-same : (stores : List Store) (memory : List ℕ) → StoresInside stores → (wordIn (stored stores memory) page word ≡ wordIn memory page word) ⊎ StoreAt page word stores
   unfolding stored
   stored-or-same [] memory i = inl refl
   stored-or-same (x ∷ xs) memory i =
       ⊎-elim (λ e. inr (inl e))
-      (λ n. ⊎-elim (λ q. inl (q ∙ store-elsewhere memory (x .place .page) (x .place .word) (x .value) page word (i .0) h n)) (λ o. inr (inr o)) (stored-or-same xs _ (i .1)))
-      (equal (x .place .page) page)
+      (λ n. ⊎-elim (λ q. inl (q ∙ store-another memory (x .place .page) (x .place .word) (x .value) page word (i .0) h n)) (λ o. inr (inr o)) (stored-or-same xs _ (i .1)))
+      (both (equal (x .place .page) page) (equal (x .place .word) word))
+
+  -- in two memories of one length it agrees after the same stores where it agreed before
+  stores-agree : (stores : List Store) (a b : List ℕ) → length a ≡ length b → wordIn a page word ≡ wordIn b page word → wordIn (stored stores a) page word ≡ wordIn (stored stores b) page word
+  unfolding stored
+  stores-agree [] a b l e = e
+  stores-agree (x ∷ xs) a b l e = stores-agree xs _ _ (length-set a _ _ ∙ l ∙ sym (length-set b _ _)) (store-both a b _ (x .value) page word l e)
+
+  -- or where it is stored to, whatever stood there
+  pub stored-over : (stores : List Store) → StoreAt page word stores → (a b : List ℕ) → length a ≡ length b → wordIn (stored stores a) page word ≡ wordIn (stored stores b) page word
+  unfolding stored
+  stored-over (x ∷ xs) (inl (p, w)) a b l =
+      rw (p, w) (stores-agree xs _ _ (length-set a _ _ ∙ l ∙ sym (length-set b _ _)) (store-here a b page word (x .value) l))
+  stored-over (x ∷ xs) (inr o) a b l = stored-over xs o _ _ (length-set a _ _ ∙ l ∙ sym (length-set b _ _))
 
   -- it stays where its page is not cleared
   pub uncleared-same : (pages memory : List ℕ) → (PageIn page pages → ⊥) → wordIn (clearedPages pages memory) page word ≡ wordIn memory page word

@@ -1,21 +1,24 @@
 -- Every step owes what `Good` says, and every state on the way of a sequence is valid.
-use Prim.Native.Nat.{ℕ}
+use Prim.Native.Nat.{ℕ, _<_}
 use mathlib.Core.List.{List}
 use mathlib.Core.Option.{Option, none, some}
 use mathlib.Core.Path.{_≡_, _∙_}
+use native.Mathlib.Omega.{arith}
+use lib.ListN.{length}
+use Rattle.numbers.specs.Limits.{PAGE-WORDS}
 use Rattle.numbers.specs.declared.Answer.{Answer}
 use Rattle.numbers.specs.declared.Answer.the-variants.{Accepted, Refused}
 use Rattle.numbers.specs.declared.Side.the-variants.{Cpu, Dma}
 use Rattle.numbers.specs.declared.Operation.{Operation}
 use Rattle.numbers.specs.declared.Operation.the-variants.{AddVm, RemoveVm, AssignPage, ReclaimPage, SharePage, UnsharePage, CpuMap, DmaMap, CpuUnmap, DmaUnmap, InsertRegion, RemoveRegion, DmaInsertRegion, DmaRemoveRegion, SwitchCpu, BindDevice, CpuFill, DmaFill, EmptyCpuSlot, EmptyDmaSlot, CpuRead, DmaRead, CpuWrite, DmaWrite, DataBarrier, InstructionBarrier}
 use Rattle.model.specs.State.{Tables, State}
-use Rattle.model.specs.Effect.{accepted, kept}
+use Rattle.model.specs.Effect.{accepted, kept, memoryIndex}
 use Rattle.model.specs.Step.{control, regionOf, step}
 use Rattle.model.specs.Start.{Told, Lent, startAnswer, start}
 use Rattle.model.specs.Sequence.{operationIn, stepKnown, stepRow, Progress, turn, after, rowCount, shapeAnswer, sequence, rowAt}
 use Rattle.model.specs.ShapeLaws.{step-sizes}
 use Rattle.model.specs.Valid.{ValidTables, Valid}
-use Rattle.model.specs.Good.{Good}
+use Rattle.model.specs.Good.{Touches, Good}
 use Rattle.model.proofs.StartKept.{start-valid}
 use Rattle.model.proofs.Repeats.{repeat-keeps}
 use Rattle.model.proofs.GoodLedger.{add-vm-good, remove-vm-good, assign-good, reclaim-good, share-good, unshare-good}
@@ -68,6 +71,14 @@ row-valid s v row = go (operationIn row)
     go none = v
     go (some operation) = step-valid s v operation
 
+-- ---- every word of a page that an operation reads or writes is one of the memory's
+pub touched-inside : (s : State) → Valid s → (operation : Operation) (vm page word : ℕ) → Touches (control (s .tables) operation .effect) vm page → word < PAGE-WORDS →
+    memoryIndex page word < length (s .memory)
+touched-inside s v operation vm page word touches h =
+    let below : page < s .tables .setup .pages = good (s .tables) (v .tables) operation .reach vm page touches .page-ok in
+    omega (arith, v .memory)
+
+-- ---- many rows
 -- every state on the way, and so the last
 pub after-valid : (rows : List ℕ) (k : ℕ) (p : Progress) → Valid (p .state) → Valid (after rows k p .state)
 unfolding after

@@ -33,6 +33,7 @@ pub mod Exactly
 pub mod Determined
 pub mod Answers
 pub mod AnswerNumbers
+pub mod RefusalsListed
 pub mod EffectLaws
 pub mod Secret
 pub mod Secrecy
@@ -51,3 +52,5 @@ pub mod UpstreamRegionSets
 pub mod UpstreamRegions
 pub mod UpstreamSteps
 pub mod SecrecyWorked
+pub mod SecrecyNeeded
+pub mod SecrecySetWorked

@@ -2,7 +2,7 @@
 -- neighbours in its list of refusals, a row in a computed valid state in which both hold. That the later one holds too is seen
 -- once the earlier is mended: by a row without it in the same state, or by the same row after rows that end it. Refusal 1 is asked before
 -- any row is read (Entries).
-use Prim.Native.Nat.{ℕ, _+_, _*_, _<_}
+use Prim.Native.Nat.{ℕ, zero, suc, _+_, _*_, _<_}
 use mathlib.Core.Bool.{true}
 use mathlib.Core.List.{List, [], _∷_, _++_, map}
 use mathlib.Core.Logic.{inl, inr, ⊎-elim}
@@ -13,7 +13,6 @@ use lib.ListN.{getD}
 use Rattle.numbers.specs.Choice.{if_then_else_}
 use Rattle.numbers.specs.Limits.{VMS}
 use Rattle.numbers.specs.declared.Side.the-variants.{Cpu, Dma}
-use Rattle.table.specs.Scan.{any}
 use Rattle.model.specs.State.{Tables, State}
 use Rattle.model.specs.Views.{knows, mayMap}
 use Rattle.model.specs.Valid.{ValidTables, Valid}
@@ -23,6 +22,7 @@ use Rattle.model.proofs.Refusals.{_▸_, reached, accepting, answerIn, 
 use Rattle.model.proofs.LedgerKept.{Named, by-claim, by-entry, by-pair, by-port}
 use Rattle.model.proofs.OneRoute.{route-of}
 use Rattle.model.proofs.FullMaps.{mappingsFrom, withFullMaps, full-maps-valid}
+use Rattle.model.proofs.AnswerNumbers.{isIn, refusalLists, listed}
 
 -- ---- two causes: the way to a state, a row for which both hold there, rows that end the first, and a row that meets the second
 pub record Order : Type 0 where
@@ -372,47 +372,21 @@ abbrev pub linksFrom : ℕ → ℕ → List ℕ → List ℕ
 linksFrom operation earlier [] = []
 linksFrom operation earlier (later ∷ rest) = link operation earlier later ∷ linksFrom operation later rest
 
--- every operation's list begins with 2
-abbrev pub linksOf : ℕ → List (List ℕ) → List ℕ
-linksOf operation [] = []
-linksOf operation (later ∷ lists) = linksFrom operation 2 later ++ linksOf (operation + 1) lists
+-- the neighbours in the lists of the n operations from one on
+abbrev pub linksIn : ℕ → List ℕ → List ℕ
+linksIn operation [] = []
+linksIn operation (earlier ∷ rest) = linksFrom operation earlier rest
+
+abbrev pub linksOf : ℕ → ℕ → List ℕ
+linksOf operation zero = []
+linksOf operation (suc n) = linksIn operation (listed operation) ++ linksOf (suc operation) n
 
 abbrev pub without : List ℕ → List ℕ → List ℕ
 without shown [] = []
-without shown (l ∷ ls) = if any (eqb l) shown then without shown ls else l ∷ without shown ls
+without shown (l ∷ ls) = if isIn shown l then without shown ls else l ∷ without shown ls
 
--- what the paper lists after 1 and 2
-abbrev pub paperOrder : List (List ℕ)
-paperOrder =
-    (5 ∷ [])
-    ∷ (4 ∷ 13 ∷ [])
-    ∷ (4 ∷ 6 ∷ 7 ∷ [])
-    ∷ (4 ∷ 6 ∷ 11 ∷ [])
-    ∷ (4 ∷ 12 ∷ 6 ∷ 14 ∷ [])
-    ∷ (4 ∷ 12 ∷ 11 ∷ [])
-    ∷ (4 ∷ 6 ∷ 14 ∷ [])
-    ∷ (4 ∷ 6 ∷ 14 ∷ [])
-    ∷ (4 ∷ 9 ∷ [])
-    ∷ (4 ∷ 9 ∷ [])
-    ∷ (3 ∷ 4 ∷ 8 ∷ 6 ∷ 10 ∷ 7 ∷ 14 ∷ [])
-    ∷ (3 ∷ 4 ∷ 8 ∷ 6 ∷ 9 ∷ 11 ∷ [])
-    ∷ (3 ∷ 4 ∷ 8 ∷ 10 ∷ 7 ∷ 14 ∷ [])
-    ∷ (3 ∷ 4 ∷ 8 ∷ 6 ∷ 9 ∷ 11 ∷ [])
-    ∷ (4 ∷ [])
-    ∷ (4 ∷ [])
-    ∷ (15 ∷ 9 ∷ [])
-    ∷ (15 ∷ 9 ∷ [])
-    ∷ []
-    ∷ []
-    ∷ (15 ∷ 9 ∷ 16 ∷ [])
-    ∷ (15 ∷ 9 ∷ 16 ∷ [])
-    ∷ (15 ∷ 9 ∷ 16 ∷ [])
-    ∷ (15 ∷ 9 ∷ 16 ∷ [])
-    ∷ []
-    ∷ []
-    ∷ []
-
-pub neighbours-shown : without (map linkOf (orders ++ packedOrders)) (linksOf 1 paperOrder) ≡ link 1 2 5 ∷ link 2 4 13 ∷ link 21 9 16 ∷ link 22 9 16 ∷ link 23 9 16 ∷ link 24 9 16 ∷ []
+pub neighbours-shown : without (map linkOf (orders ++ packedOrders)) (linksOf 1 26) ≡ link 1 2 5 ∷ link 2 4 13 ∷ link 21 9 16 ∷ link 22 9 16 ∷ link 23 9 16 ∷ link 24 9 16 ∷ []
+unfolding refusalLists
 neighbours-shown = refl
 
 -- of 4 and 13: in valid tables a VM that has a page, a mapping, an edge, a CPU or a device is known

@@ -1,17 +1,16 @@
 -- Every operation accepted, and refused for every cause that the paper lists, each in a computed valid state
 -- (docs/MACHINE.md, 7). An answer is the paper's four numbers: refusal, index, dropped slots, word. The comment at a scene
--- names its refusals in the order of its lines, each with its causes.
+-- names its refusals in the order of its lines, each with its causes. The lists that they are held against at the end stand in
+-- AnswerNumbers.
 use Prim.Native.Nat.{ℕ, zero, suc, _+_, _*_, _/_, _%_}
-use mathlib.Core.Bool.{true}
+use mathlib.Core.Bool.{Bool, true}
 use mathlib.Core.List.{List, [], _∷_, _++_, map}
 use mathlib.Core.Path.{_≡_, refl}
 use native.Mathlib.Omega.{arith}
-use lib.Dec.{eqb}
 use lib.ListN.{getD, replicate}
 use Rattle.numbers.specs.Choice.{if_then_else_}
 use Rattle.numbers.specs.Limits.{PAGE-WORDS, IDLE}
 use Rattle.numbers.specs.declared.Side.the-variants.{Cpu, Dma}
-use Rattle.table.specs.Scan.{any}
 use Rattle.model.specs.State.{State}
 use Rattle.model.specs.Views.{knows, mayMap}
 use Rattle.model.specs.Effect.{accepted}
@@ -23,6 +22,7 @@ use Rattle.model.proofs.Worked.{Said, row, query, Line, _⟼_, heardIn,
 use Rattle.model.proofs.StartKept.{start-valid}
 use Rattle.model.proofs.Kept.{row-valid}
 use Rattle.model.proofs.FullMaps.{mappingsFrom, withFullMaps, full-maps-valid}
+use Rattle.model.proofs.AnswerNumbers.{isIn, refusalLists, listed}
 
 -- ---- a scene: rows, all accepted, that lead to a state, and lines, each of them said in that state
 pub record Scene : Type 0 where
@@ -577,7 +577,7 @@ pub full-answered : map (played full) fullScenes ≡ map expected fullScenes
 unfolding computes sixteen beforeFull mappingsFrom
 full-answered = refl
 
--- ---- none is left out: the numbers that the lines of an operation answer are those that the paper lists for it
+-- ---- none is left out: the numbers that the lines of an operation answer are 0, which accepts, and those that are listed for it
 abbrev pub operationSaid : Said → ℕ
 operationSaid (row ns) = getD ns 0 0
 operationSaid query = 0
@@ -593,49 +593,24 @@ abbrev pub codesOf : List Scene → List ℕ
 codesOf [] = []
 codesOf (scene ∷ rest) = map codeOf (scene .lines) ++ codesOf rest
 
--- of the n numbers from k on, those that the operation answers; and so for the n operations from one on
-abbrev pub numbersFrom : List ℕ → ℕ → ℕ → ℕ → List ℕ
-numbersFrom codes operation k zero = []
-numbersFrom codes operation k (suc n) =
-    if any (eqb (code operation k)) codes then k ∷ numbersFrom codes operation (suc k) n
-    else numbersFrom codes operation (suc k) n
+-- of the n numbers from k on, those that pass
+abbrev pub passing : (ℕ → Bool) → ℕ → ℕ → List ℕ
+passing test k zero = []
+passing test k (suc n) = if test k then k ∷ passing test (suc k) n else passing test (suc k) n
 
-abbrev pub operationsFrom : List ℕ → ℕ → ℕ → List (List ℕ)
-operationsFrom codes operation zero = []
-operationsFrom codes operation (suc n) = numbersFrom codes operation 0 17 ∷ operationsFrom codes (suc operation) n
+-- of every answer's number, those that pass for each of the n operations from one on
+abbrev pub numbersOf : (ℕ → ℕ → Bool) → ℕ → ℕ → List (List ℕ)
+numbersOf test operation zero = []
+numbersOf test operation (suc n) = passing (test operation) 0 17 ∷ numbersOf test (suc operation) n
 
--- in rising order: 0 is accepted, and 2 is of every operation that has an argument with a range
-abbrev pub listed : List (List ℕ)
-listed =
-    (0 ∷ 2 ∷ 5 ∷ [])
-    ∷ (0 ∷ 2 ∷ 4 ∷ 13 ∷ [])
-    ∷ (0 ∷ 2 ∷ 4 ∷ 6 ∷ 7 ∷ [])
-    ∷ (0 ∷ 2 ∷ 4 ∷ 6 ∷ 11 ∷ [])
-    ∷ (0 ∷ 2 ∷ 4 ∷ 6 ∷ 12 ∷ 14 ∷ [])
-    ∷ (0 ∷ 2 ∷ 4 ∷ 11 ∷ 12 ∷ [])
-    ∷ (0 ∷ 2 ∷ 4 ∷ 6 ∷ 14 ∷ [])
-    ∷ (0 ∷ 2 ∷ 4 ∷ 6 ∷ 14 ∷ [])
-    ∷ (0 ∷ 2 ∷ 4 ∷ 9 ∷ [])
-    ∷ (0 ∷ 2 ∷ 4 ∷ 9 ∷ [])
-    ∷ (0 ∷ 2 ∷ 3 ∷ 4 ∷ 6 ∷ 7 ∷ 8 ∷ 10 ∷ 14 ∷ [])
-    ∷ (0 ∷ 2 ∷ 3 ∷ 4 ∷ 6 ∷ 8 ∷ 9 ∷ 11 ∷ [])
-    ∷ (0 ∷ 2 ∷ 3 ∷ 4 ∷ 7 ∷ 8 ∷ 10 ∷ 14 ∷ [])
-    ∷ (0 ∷ 2 ∷ 3 ∷ 4 ∷ 6 ∷ 8 ∷ 9 ∷ 11 ∷ [])
-    ∷ (0 ∷ 2 ∷ 4 ∷ [])
-    ∷ (0 ∷ 2 ∷ 4 ∷ [])
-    ∷ (0 ∷ 2 ∷ 9 ∷ 15 ∷ [])
-    ∷ (0 ∷ 2 ∷ 9 ∷ 15 ∷ [])
-    ∷ (0 ∷ 2 ∷ [])
-    ∷ (0 ∷ 2 ∷ [])
-    ∷ (0 ∷ 2 ∷ 9 ∷ 15 ∷ 16 ∷ [])
-    ∷ (0 ∷ 2 ∷ 9 ∷ 15 ∷ 16 ∷ [])
-    ∷ (0 ∷ 2 ∷ 9 ∷ 15 ∷ 16 ∷ [])
-    ∷ (0 ∷ 2 ∷ 9 ∷ 15 ∷ 16 ∷ [])
-    ∷ (0 ∷ [])
-    ∷ (0 ∷ [])
-    ∷ []
+abbrev pub isShown : ℕ → ℕ → Bool
+isShown operation number = isIn (codesOf (scenes ++ fullScenes)) (code operation number)
 
-pub none-left-out : operationsFrom (codesOf (scenes ++ fullScenes)) 1 26 ≡ listed
+abbrev pub isListed : ℕ → ℕ → Bool
+isListed operation number = isIn (0 ∷ listed operation) number
+
+pub none-left-out : numbersOf isShown 1 26 ≡ numbersOf isListed 1 26
+unfolding refusalLists
 none-left-out = refl
 
 -- ---- every state of these scenes is valid

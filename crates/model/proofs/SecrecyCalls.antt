@@ -1,48 +1,39 @@
 -- Demand 3 over the sequence entry's own contract: two calls, whatever it answers, by what they leave in the lent slices and in the
 -- answer room; for a set of VMs and for one.
-use Prim.Native.Nat.{ℕ, zero, suc, _+_, _*_, _%_, _≤_, _<_}
-use mathlib.Core.Bool.{Bool, not}
+use Prim.Native.Nat.{ℕ, zero, suc, _+_, _*_, _≤_, _<_}
+use mathlib.Core.Bool.{Bool}
 use mathlib.Core.List.{List}
 use mathlib.Core.Path.{_≡_, refl, sym, ap, _∙_}
 use native.Mathlib.Omega.{arith}
-use lib.Dec.{eqb, leb}
+use lib.Dec.{eqb}
 use lib.ListN.{length, getD}
-use borrow.Author.Tests.{leb-true, not-false}
-use Rattle.numbers.specs.Limits.{ROW-NUMBERS, ANSWER-NUMBERS}
+use Rattle.numbers.specs.Limits.{ANSWER-NUMBERS}
 use Rattle.numbers.specs.Meaning.{answerNumbers}
 use Rattle.numbers.specs.declared.Answer.{Answer}
 use Rattle.numbers.specs.declared.Answer.the-variants.{Accepted, Refused}
 use Rattle.model.specs.State.{Tables, State}
 use Rattle.model.specs.Effect.{accepted, kept}
-use Rattle.model.specs.EarlyLaws.{past, never-both}
+use Rattle.model.specs.EarlyLaws.{never-both}
 use Rattle.model.specs.Sequence.{Progress, Sequenced, rowAt, operationIn, rowCount, after, shapeAnswer, sequence}
 use Rattle.model.specs.Valid.{Valid}
 use Rattle.model.specs.Entries.{valid, not-valid, sequenceRefused, JudgedSequence}
 use Rattle.model.specs.Secrecy.{PrivateTo, Private, effectIn, withoutWord, Seen, Alike, Premise, StayAlike}
-use Rattle.model.proofs.Answers.{answerTo, answer-row, room-kept}
+use Rattle.model.proofs.Answers.{roomy, answerTo, answer-row, room-kept}
 use Rattle.model.proofs.Secrecy.{secrecy, secrecy-one}
 
-abbrev begun : State → List ℕ → Progress
+abbrev pub begun : State → List ℕ → Progress
 begun s room = record { state = s; room = room }
 
 -- ---- what the entry judges is the same in both calls
-valid-as : (s s′ : State) → s .tables ≡ s′ .tables → length (s .memory) ≡ length (s′ .memory) → Valid s → Valid s′
+pub valid-as : (s s′ : State) → s .tables ≡ s′ .tables → length (s .memory) ≡ length (s′ .memory) → Valid s → Valid s′
 valid-as s s′ tables size v = record { tables = rw tables at (v .tables); memory = sym size ∙ v .memory ∙ rw tables }
 
 shape-as : (rows rows′ room room′ : List ℕ) → length rows ≡ length rows′ → length room ≡ length room′ → shapeAnswer rows room ≡ shapeAnswer rows′ room′
 unfolding shapeAnswer
 shape-as rows rows′ room room′ same roomSame = rw (same, roomSame)
 
--- a shape that is accepted has room for every answer, and nothing is dropped or read
-roomy : (rows room : List ℕ) {dropped word : ℕ} → shapeAnswer rows room ≡ Accepted dropped word → (rowCount rows * ANSWER-NUMBERS ≤ length room) × (accepted ≡ Accepted dropped word)
-unfolding shapeAnswer
-roomy rows room e =
-    let (a, b) = past (not (eqb (length rows % ROW-NUMBERS) 0)) _ _ _ e in
-    let (c, d) = past (not (leb (rowCount rows * ANSWER-NUMBERS) (length room))) _ _ _ b in
-    (leb-true _ _ (not-false _ c), d)
-
 -- ---- the numbers of two answers that are equal but for the word
-numbers-alike : (x y : Answer) (i : ℕ) → withoutWord x ≡ withoutWord y → i < 3 → getD (answerNumbers x) i 0 ≡ getD (answerNumbers y) i 0
+pub numbers-alike : (x y : Answer) (i : ℕ) → withoutWord x ≡ withoutWord y → i < 3 → getD (answerNumbers x) i 0 ≡ getD (answerNumbers y) i 0
 numbers-alike x y i e h = front x i h ∙ ap (λ (z : Answer). getD (answerNumbers z) i 0) e ∙ sym (front y i h)
   where
     front : (z : Answer) (j : ℕ) → j < 3 → getD (answerNumbers z) j 0 ≡ getD (answerNumbers (withoutWord z)) j 0
@@ -116,7 +107,7 @@ module _ (members : ℕ → Bool) (Secret : Tables → ℕ → Type 0) where
     two-refusals : CallsAlike s rows room room′ (sequenceRefused s room) (sequenceRefused s′ room′)
     two-refusals = record { answer = refl; states = like; numbers = λ e. never-both e; words = λ e. never-both e; rest = λ j h was. was }
 
-    two-calls : (result result′ : Sequenced) → JudgedSequence s rows room result → JudgedSequence s′ rows′ room′ result′ →
+    pub two-calls : (result result′ : Sequenced) → JudgedSequence s rows room result → JudgedSequence s′ rows′ room′ result′ →
         (Valid s → result .answer ≡ accepted → StayAlike members Secret p p′ rows rows′ (rowCount rows)) → CallsAlike s rows room room′ result result′
     unfolding sequence
     two-calls result result′ (valid v e) (valid v′ e′) stay = rw (e, e′) (two-runs (λ shape. stay v (ap (λ (x : Sequenced). x .answer) e ∙ shape)))

@@ -1,8 +1,8 @@
 -- Secrecy of one step, from valid tables and what the step owes: who reaches a private page is a member, two memories that
--- agree outside the private pages still do, and a page that stays private changes only by a member's own write.
+-- agree outside the private pages still do, and a word of a page that stays private changes only by a member's own write.
 use Prim.{tt}
 use Prim.Native.Nat.{ℕ, _<_}
-use mathlib.Core.Bool.{Bool, true, false}
+use mathlib.Core.Bool.{Bool, true, false, true≢false}
 use mathlib.Core.List.{List, [], _∷_}
 use mathlib.Core.Logic.{_⊎_, inl, inr, ⊎-elim}
 use mathlib.Core.Path.{_≡_, refl, sym, _∙_}
@@ -26,7 +26,7 @@ use Rattle.model.specs.MemoryLaws.{store-elsewhere, store-both}
 use Rattle.model.specs.Secrecy.{Private, NearStores, stop, same, other, Near, alike, stores, Seen}
 use Rattle.model.proofs.ViewLaws.{shares-lends}
 use Rattle.model.proofs.PagesKept.{one-holder, span-unheld}
-use Rattle.model.proofs.EffectLaws.{Inside, PlacesInside, StoresInside, listed, stored-or-same, uncleared-same, cleared-agrees}
+use Rattle.model.proofs.EffectLaws.{Inside, PlacesInside, StoresInside, store-on, listed, stored-or-same, uncleared-same, cleared-agrees}
 
 -- all that secrecy asks of a step
 pub record Sound (t : Tables) (operation : Operation) (c : Control) : Type 0 where
@@ -71,13 +71,19 @@ module _ (members : ℕ → Bool) (t : Tables) (v : ValidTables t) where
 
     -- ---- within one run: a page private before and after changes only by a member's own write
     pub only-own : (effect : Effect) → SoundWith effect → (memory : List ℕ) (page word : ℕ) → word < PAGE-WORDS → Private members t page → Private members new page →
-        (wordIn (apply effect memory) page word ≡ wordIn memory page word) ⊎ ((vm : ℕ) × (members vm ≡ true) × Wrote effect vm page)
+        (wordIn (apply effect memory) page word ≡ wordIn memory page word) ⊎ ((vm : ℕ) × (members vm ≡ true) × Wrote effect vm page word)
     unfolding apply
     only-own (reads vm places) s memory page word h p p′ = inl refl
     only-own (writes vm xs) s memory page word h p p′ =
-        ⊎-elim inl (λ o. inr (vm, confined vm page p (s .good .reach vm page (refl, o)), (refl, o))) (stored-or-same page word h xs memory (s .inside))
+        ⊎-elim inl (λ o. inr (vm, confined vm page p (s .good .reach vm page (refl, store-on page word xs o)), (refl, o))) (stored-or-same page word h xs memory (s .inside))
     only-own (clears pages) s memory page word h p p′ =
         inl (uncleared-same page word h pages memory (λ c. s .good .free (p′ .holder) page (p′ .holder-ok) (p .page-ok) c (p′ .held)))
+
+    -- and no effect writes a word of a private page for a VM outside
+    pub no-outsider : (effect : Effect) → SoundWith effect → (vm page word : ℕ) → Private members t page → members vm ≡ false → Wrote effect vm page word → ⊥
+    no-outsider (reads w places) s vm page word p outside z = z
+    no-outsider (writes w xs) s vm page word p outside (e, o) = true≢false (sym (confined vm page p (s .good .reach vm page (e, store-on page word xs o))) ∙ outside)
+    no-outsider (clears pages) s vm page word p outside z = z
 
     -- ---- two memories that agree outside the private pages
     module _ (a b : List ℕ) (words : (page word : ℕ) → word < PAGE-WORDS → (Private members t page → ⊥) → wordIn a page word ≡ wordIn b page word) where

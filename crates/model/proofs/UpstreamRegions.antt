@@ -28,7 +28,7 @@ use Rattle.model.specs.Step.{insertRoute, insertControl, removeRoute, re
 use Rattle.model.specs.Effect.{quiet, clears, decided, apply, clearedPages}
 use Rattle.model.specs.Valid.{SameMap, MapGood, ValidTables}
 use Rattle.model.specs.Upstream.{S2Entry, isSome, entriesOf, pagesOf, seen, mapSeen, HardwareView, softwareView}
-use Rattle.model.specs.UpstreamStep.{withPages, withoutPages, InsertEnabled, InsertRegionStep, RemoveEnabled, RemoveRegionStep, HardwareMapStep, UnmapInvalidateStep}
+use Rattle.model.specs.UpstreamStep.{withPages, withoutPages, RegionFits, InsertEnabled, InsertRegionStep, RemoveEnabled, RemoveRegionStep, HardwareMapStep, UnmapInvalidateStep}
 use Rattle.model.specs.UpstreamRun.{HardwareCall, insert-region, remove-region, HardwareRun, stop, go, entryOf, insertCalls, removeCalls, clearCalls, Follows, FollowsControl}
 use Rattle.model.proofs.ViewLaws.{neither, not-so, not-elsewhere, not-targeted, no-edge-on}
 use Rattle.model.proofs.OneRoute.{route-of, maps-of}
@@ -41,7 +41,7 @@ use Rattle.model.proofs.UpstreamMemory.{clear-run}
 use Rattle.model.proofs.UpstreamMaps.{put-seen}
 use Rattle.model.proofs.UpstreamWf.{pool-no-span, edge-pair}
 use Rattle.model.proofs.UpstreamRoutes.{shown, with-own, map-of, walk-of, tlb-of, route-hardware}
-use Rattle.model.proofs.UpstreamRegionViews.{span-in, page-place, entry-in, entry-some, key-place, entry-key-in, keys-apart, insert-seen, map-wiped, upTo, removed-none, map-wiped-more, tlb-wiped-more}
+use Rattle.model.proofs.UpstreamRegionViews.{in-span, span-in, page-place, entry-in, entry-some, key-place, entry-key-in, keys-apart, insert-seen, map-wiped, upTo, removed-none, map-wiped-more, tlb-wiped-more}
 use Rattle.model.proofs.UpstreamRegionSets.{claims-given, claims-taken, pool-given, pool-taken, pool-left, pool-kept, poolNow, sets-of, region-software}
 
 -- ---- the unit
@@ -52,12 +52,15 @@ insert-unit side known pages units n sets map region e =
     let (d, w, early, a) = then-passed (regionEarly known pages region) _ e in
     not-false _ (past (not (assignable units n side region)) _ _ _ a .0)
 
+-- ---- a region that passes the early check ends within bounds, since N does
+region-fits : (t : Tables) → ValidTables t → (region : Region) → RegionPassed (t .known) (t .setup .pages) region → RegionFits region
+region-fits t valid region early = record { vm-fits = early .vm-ok; guests-fit = early .guest-ok; pages-fit = omega arith }
+
+page-fits : (region : Region) → RegionFits region → (page : ℕ) → pagesOf region page ≡ true → page < PAGES
+page-fits region fits page e = omega (arith, in-span (region .page .0) (region .count) page e .1)
+
 module _ (t : Tables) (valid : ValidTables t) (region : Region) where
   -- ---- insert: what upstream asks for
-  -- a page of the region lies below N
-  page-in-range : RegionPassed (t .known) (t .setup .pages) region → (k : ℕ) → k < region .count → pageIn region k < PAGES
-  page-in-range early k h = omega (arith, early .page-ok, valid .setup .most-pages)
-
   -- what no page of the region fails holds of each of its pages
   each-page : (P : ℕ → Type 0) → ((k : ℕ) → k < region .count → P (pageIn region k)) → (page : ℕ) → pagesOf region page ≡ true → P page
   each-page P each page e = let (k, h, q) = page-place region page e in rw q at (each k h)
@@ -82,26 +85,29 @@ module _ (t : Tables) (valid : ValidTables t) (region : Region) where
       InsertEnabled assign side region (softwareView t)
   insert-enabled Cpu p assign unit =
       let free : (page : ℕ) → pagesOf region page ≡ true → inPool (t .sets) page ≡ true = each-page _ (λ k h. not-false _ (p .free k h)) in
+      let fits = region-fits t valid region (p .early) in
       record {
+        fits = fits;
         wf = p .early .some-page;
         known = p .early .knows-vm;
         assign = unit;
-        free = λ page h e. free page e;
-        no-key = λ vm gpa v g e. lacks-keys (t .cpu .map) (p .absent) vm gpa e;
+        free = free;
+        no-key = lacks-keys (t .cpu .map) (p .absent);
         no-dma =
-            λ page v h l e k n. not-elsewhere Dma (t .sets) (region .vm .0) page v (each-page (λ x. claimedElsewhere Dma (t .sets) (region .vm .0) x ≡ false) (p .unclaimed) page e) l n;
-        no-span = λ page h e. pool-no-span t valid page h (free page e);
+            λ page v l e k n. not-elsewhere Dma (t .sets) (region .vm .0) page v (each-page (λ x. claimedElsewhere Dma (t .sets) (region .vm .0) x ≡ false) (p .unclaimed) page e) l n;
+        no-span = λ page e. pool-no-span t valid page (page-fits region fits page e) (free page e);
       }
   insert-enabled Dma p assign unit =
       record {
+        fits = region-fits t valid region (p .early);
         wf = p .early .some-page;
         known = p .early .knows-vm;
         assign = unit;
-        no-key = λ vm gpa v g e. lacks-keys (t .dma .map) (p .absent) vm gpa e;
-        no-other = λ page v h l e k n.
+        no-key = lacks-keys (t .dma .map) (p .absent);
+        no-other = λ page v l e k n.
             let (dma, cpu, apart) = unclaimed-dma (p .unclaimed) page e in
             (not-elsewhere Dma (t .sets) (region .vm .0) page v dma l n, not-elsewhere Cpu (t .sets) (region .vm .0) page v cpu l n);
-        no-span = λ page h e. unclaimed-dma (p .unclaimed) page e .2;
+        no-span = λ page e. unclaimed-dma (p .unclaimed) page e .2;
       }
 
   -- ---- insert: the software step
@@ -231,14 +237,17 @@ module _ (t : Tables) (valid : ValidTables t) (region : Region) (early : RegionP
   remove-enabled Cpu p assign unit =
       let alone : ℕ → Bool = λ k. targeted (butKey (keyIn region k)) (t .cpu .map) (pageIn region k) in
       let split : (k : ℕ) → k < region .count → (alone k ≡ false) × (edgeOn (t .pairs) (pageIn region k) ≡ false) = λ k h. neither _ _ (p .unused k h) in
+      let fits = region-fits t valid region early in
       record {
+        fits = fits;
         wf = early .some-page;
         known = early .knows-vm;
         assign = unit;
-        owned = λ page h e. owned-pages Cpu (p .held) page e;
-        installed = λ vm gpa v g e. has-entries (t .cpu .map) (p .mapped) vm gpa e;
+        owned = owned-pages Cpu (p .held);
+        installed = has-entries (t .cpu .map) (p .mapped);
         no-other = no-others Cpu (t .cpu .map) (valid .cpu .map) (λ k h. split k h .0);
-        no-edge = λ left right page l r h e. not-so _ (λ x. let (k, b, q) = page-place region page x in edge-free left right page k l r h e q (split k b .1));
+        no-edge = λ left right page l r e. not-so _ (λ x. let (k, b, q) = page-place region page x in
+            edge-free left right page k l r (page-fits region fits page x) e q (split k b .1));
       }
     where
       edge-free : (left right page k : ℕ) → left < VMS → right < VMS → page < PAGES → paired (t .pairs) left right page ≡ true → pageIn region k ≡ page →
@@ -249,11 +258,12 @@ module _ (t : Tables) (valid : ValidTables t) (region : Region) (early : RegionP
           no-edge-on (t .pairs) (pageIn region k) w f i (good .filled) (on ∙ sym q)
   remove-enabled Dma p assign unit =
       record {
+        fits = region-fits t valid region early;
         wf = early .some-page;
         known = early .knows-vm;
         assign = unit;
-        owned = λ page h e. owned-pages Dma (p .held) page e;
-        installed = λ vm gpa v g e. has-entries (t .dma .map) (p .mapped) vm gpa e;
+        owned = owned-pages Dma (p .held);
+        installed = has-entries (t .dma .map) (p .mapped);
         no-other = no-others Dma (t .dma .map) (valid .dma .map) (p .unused);
       }
 

@@ -188,7 +188,7 @@ lookalikes =
     ∷ (row (4 ∷ 1 ∷ 3 ∷ []) ⟼ 0 ∷ 0 ∷ 0 ∷ 0 ∷ [])
     ∷ [])
     ∷
-    -- clearing when CPU ownership ends though DMA ownership remains: the device's word stays until the last claim ends
+    -- a CPU removal that clears pages which the VM still holds for DMA: the device's word stays until the last claim ends
     ((row (1 ∷ 1 ∷ []) ⟼ 0 ∷ 0 ∷ 0 ∷ 0 ∷ [])
     ∷ (row (11 ∷ 1 ∷ 16 ∷ 0 ∷ 3 ∷ 3 ∷ []) ⟼ 0 ∷ 0 ∷ 0 ∷ 0 ∷ [])
     ∷ (row (13 ∷ 1 ∷ 16 ∷ 0 ∷ 3 ∷ 3 ∷ []) ⟼ 0 ∷ 0 ∷ 0 ∷ 0 ∷ [])

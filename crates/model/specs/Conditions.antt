@@ -3,7 +3,9 @@
 use Prim.{Unit as Anything}
 use Prim.Native.Nat.{ℕ, _+_, _/_, _%_, _≤_, _<_}
 use mathlib.Core.Bool.{Bool, true, false}
+use mathlib.Core.List.{List}
 use mathlib.Core.Logic.{_⊎_}
+use mathlib.Core.Option.{some}
 use mathlib.Core.Path.{_≡_}
 use lib.ListN.{getD}
 use Rattle.numbers.specs.Limits.{VMS, GUEST-PAGES, PAGE-WORDS, PAGES, PORTS, SLOTS, ACCESSES, GENERATIONS, READ, WRITE, IDLE}
@@ -50,6 +52,7 @@ use Rattle.model.specs.State.{Tables, route}
 use Rattle.model.specs.Views.{knows, inPool, inShared, owns, holdsDma, claims}
 use Rattle.model.specs.Start.{unitRegion}
 use Rattle.model.specs.Step.{regionOf}
+use Rattle.model.specs.Sequence.{operationIn}
 
 -- ---- the answer accepts
 abbrev pub accepts : Answer → Bool
@@ -289,3 +292,9 @@ Conditions t (CpuWrite port guest word value) = Accesses Cpu t WRITE port (guest
 Conditions t (DmaWrite port guest word value) = Accesses Dma t WRITE port (guest .0) word
 Conditions t DataBarrier = Anything {0}
 Conditions t InstructionBarrier = Anything {0}
+
+-- ---- a row: it names an operation, and the operation's conditions hold
+pub record RowConditions (t : Tables) (row : List ℕ) : Type 0 where
+  pub operation : Operation
+  pub named : operationIn row ≡ some operation
+  pub conditions : Conditions t operation

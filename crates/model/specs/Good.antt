@@ -32,16 +32,22 @@ abbrev pub StoreOn : ℕ → List Store → Type 0
 StoreOn page [] = ⊥
 StoreOn page (x ∷ xs) = (x .place .page ≡ page) ⊎ StoreOn page xs
 
+-- a store to just this word of the page
+abbrev pub StoreAt : ℕ → ℕ → List Store → Type 0
+StoreAt page word [] = ⊥
+StoreAt page word (x ∷ xs) = ((x .place .page ≡ page) × (x .place .word ≡ word)) ⊎ StoreAt page word xs
+
 abbrev pub PageIn : ℕ → List ℕ → Type 0
 PageIn page [] = ⊥
 PageIn page (x ∷ xs) = (x ≡ page) ⊎ PageIn page xs
 
--- the VM writes a word of the page; reads or writes one
-abbrev pub Wrote : Effect → ℕ → ℕ → Type 0
-Wrote (reads vm places) v page = ⊥
-Wrote (writes vm stores) v page = (vm ≡ v) × StoreOn page stores
-Wrote (clears pages) v page = ⊥
+-- the VM writes this word of the page
+abbrev pub Wrote : Effect → ℕ → ℕ → ℕ → Type 0
+Wrote (reads vm places) v page word = ⊥
+Wrote (writes vm stores) v page word = (vm ≡ v) × StoreAt page word stores
+Wrote (clears pages) v page word = ⊥
 
+-- it reads or writes some word of the page
 abbrev pub Touches : Effect → ℕ → ℕ → Type 0
 Touches (reads vm places) v page = (vm ≡ v) × PlaceOn page places
 Touches (writes vm stores) v page = (vm ≡ v) × StoreOn page stores

@@ -90,11 +90,32 @@ getD-there (w ∷ ws) zero d d′ h = refl
 getD-there (w ∷ ws) (suc i) d d′ h = getD-there ws i d d′ (omega arith)
 
 -- ---- a word of a page, after a store or a clearing
--- a word of another page stays where a word is stored
-pub store-elsewhere : (memory : List ℕ) (page word value page′ word′ : ℕ) → word < PAGE-WORDS → word′ < PAGE-WORDS → (page ≡ page′ → ⊥) →
+-- every other word stays where a word is stored
+pub store-another : (memory : List ℕ) (page word value page′ word′ : ℕ) → word < PAGE-WORDS → word′ < PAGE-WORDS → ((page ≡ page′) × (word ≡ word′) → ⊥) →
     wordIn (set memory (memoryIndex page word) value) page′ word′ ≡ wordIn memory page′ word′
 unfolding wordIn
-store-elsewhere memory page word value page′ word′ h h′ ne = getD-set-other memory (memoryIndex page word) (memoryIndex page′ word′) value 0 (λ e. ne (omega arith))
+store-another memory page word value page′ word′ h h′ ne = getD-set-other memory (memoryIndex page word) (memoryIndex page′ word′) value 0 (λ e. ne (omega arith, omega arith))
+
+pub store-elsewhere : (memory : List ℕ) (page word value page′ word′ : ℕ) → word < PAGE-WORDS → word′ < PAGE-WORDS → (page ≡ page′ → ⊥) →
+    wordIn (set memory (memoryIndex page word) value) page′ word′ ≡ wordIn memory page′ word′
+store-elsewhere memory page word value page′ word′ h h′ ne = store-another memory page word value page′ word′ h h′ (λ e. ne (e .0))
+
+-- past the end a word reads as 0
+getD-past : (ws : List ℕ) (i : ℕ) → length ws ≤ i → getD ws i 0 ≡ 0
+getD-past [] i h = refl
+getD-past (w ∷ ws) zero h = absurd (omega arith)
+getD-past (w ∷ ws) (suc i) h = getD-past ws i (omega arith)
+
+-- memories of one length agree at the word that is stored, whatever stood there
+pub store-here : (a b : List ℕ) (page word value : ℕ) → length a ≡ length b → wordIn (set a (memoryIndex page word) value) page word ≡ wordIn (set b (memoryIndex page word) value) page word
+unfolding wordIn
+store-here a b page word value l =
+    let i : ℕ = memoryIndex page word in
+    ⊎-elim (λ t. let h = ltb-true i (length a) t in getD-set-same a i value 0 h ∙ sym (getD-set-same b i value 0 (omega (arith, l))))
+    (λ f.
+    let h = ltb-false i (length a) f in
+    rw (set-out a i value h, set-out b i value (omega (arith, l))) (getD-past a i h ∙ sym (getD-past b i (omega (arith, l)))))
+    (cases (ltb i (length a)))
 
 -- memories of one length that agree at a word agree there after the same store
 pub store-both : (a b : List ℕ) (i value page word : ℕ) → length a ≡ length b → wordIn a page word ≡ wordIn b page word → wordIn (set a i value) page word ≡ wordIn (set b i value) page word

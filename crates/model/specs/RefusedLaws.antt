@@ -35,7 +35,7 @@ use Rattle.numbers.specs.declared.Operation.the-variants.{
   InstructionBarrier,
 }
 use Rattle.model.specs.Effect.{Effect, Control, kept, quiet, decided, apply, clearedPages, reads, writes, clears}
-use Rattle.model.specs.Sequence.{stepKnown, stepRow, operationIn, shapeAnswer, after, rowCount, sequence}
+use Rattle.model.specs.Sequence.{stepKnown, stepRow, operationIn, shapeAnswer, after, rowCount, Progress, Sequenced, sequence}
 use Rattle.model.specs.State.{State, Tables}
 use Rattle.model.specs.Step.{
   addVmControl,
@@ -130,11 +130,18 @@ pub row-leaves : (s : State) (row : List ℕ) → KeptBy s (stepRow s row)
 unfolding stepRow
 row-leaves s row = known-leaves s (operationIn row)
 
--- ---- the sequence
-pub sequence-leaves : (s : State) (rows room : List ℕ) → sequence s rows room .progress .state ≡ kept (sequence s rows room .answer) s (sequence s rows room .progress .state)
+-- ---- the sequence: the state, and the answer room
+pub record SequenceLeaves (s : State) (lent : List ℕ) (r : Sequenced) : Type 0 where
+  pub state : r .progress .state ≡ kept (r .answer) s (r .progress .state)
+  pub room : r .progress .room ≡ kept (r .answer) lent (r .progress .room)
+
+pub sequence-leaves : (s : State) (rows room : List ℕ) → SequenceLeaves s room (sequence s rows room)
 unfolding sequence
 sequence-leaves s rows room = whole (shapeAnswer rows room)
   where
-    whole : (answer : Answer) → kept answer (record { state = s; room = room }) (after rows (rowCount rows) (record { state = s; room = room })) .state ≡ kept answer s (kept answer (record { state = s; room = room }) (after rows (rowCount rows) (record { state = s; room = room })) .state)
-    whole (Accepted dropped word) = refl
-    whole (Refused refusal index) = refl
+    begun : Progress
+    begun = record { state = s; room = room }
+
+    whole : (answer : Answer) → SequenceLeaves s room (record { answer = answer; progress = kept answer begun (after rows (rowCount rows) begun) })
+    whole (Accepted dropped word) = record { state = refl; room = refl }
+    whole (Refused refusal index) = record { state = refl; room = refl }

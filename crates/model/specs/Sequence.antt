@@ -59,7 +59,7 @@ guestPage n = record { 0 = n }
 abbrev pub physPage : ℕ → PhysPage
 physPage n = record { 0 = n }
 
--- the one place that knows how a row writes idle
+-- the one place that reads a row's number as idle; `targetNumber` writes it
 abbrev pub targetOf : ℕ → Target
 targetOf n = if eqb n IDLE then Idle else Vm (vmId n)
 

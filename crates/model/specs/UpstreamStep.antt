@@ -1,6 +1,6 @@
 -- Upstream's steps and guards over its views, in its order: what is required of the view before, then what the view after is.
 -- A CPU step and its DMA twin are one definition over a side; where they ask for different things each has its own.
-use Prim.Native.Nat.{ℕ, _<_}
+use Prim.Native.Nat.{ℕ, _+_, _≤_, _<_}
 use mathlib.Core.Bool.{Bool, true, false, not, _&&_, _||_}
 use mathlib.Core.Option.{Option, none, some}
 use mathlib.Core.Path.{_≡_}
@@ -146,44 +146,55 @@ pub record RemoveVmStep (vm : ℕ) (s s′ : SoftwareView) : Type 0 where
   pub enabled : RemoveVmEnabled vm s
   pub next : SameSoftware s′ (withSetsOf Dma (withSetsOf Cpu (withVms s (minus (s .all-vms) vm)) (withoutSet (s .vm-owned) vm)) (withoutSet (s .iommu-owned) vm))
 
+-- ---- a region whose keys and pages are all in range, where views are asked: refusals 2 and 3 see to it. Upstream has no such
+-- clause; each guard asks for it as well, so that what it says of a region's pages and keys it says of every one.
+pub record RegionFits (region : Region) : Type 0 where
+  pub vm-fits : region .vm .0 < VMS
+  pub guests-fit : region .guest .0 + region .count ≤ GUEST-PAGES
+  pub pages-fit : region .page .0 + region .count ≤ PAGES
+
 -- ---- insert_region_step, iommu_insert_region_step, with their guards
 -- which regions are assignable is left open upstream: here it is a parameter, one for each side
 module _ (assignable : Region → Bool) where
   pub record InsertRegionEnabled (region : Region) (s : SoftwareView) : Type 0 where
+    pub fits : RegionFits region
     pub wf : 0 < region .count
     pub known : s .all-vms (region .vm .0) ≡ true
     pub assign : assignable region ≡ true
-    pub free : (page : ℕ) → page < PAGES → pagesOf region page ≡ true → s .hypervisor-owned page ≡ true
-    pub no-key : (vm gpa : ℕ) → vm < VMS → gpa < GUEST-PAGES → isSome (entriesOf region vm gpa) ≡ true → isSome (s .s2-map vm gpa) ≡ false
-    pub no-dma : (page v : ℕ) → page < PAGES → v < VMS → pagesOf region page ≡ true → s .all-vms v ≡ true → (v ≡ region .vm .0 → ⊥) → s .iommu-owned .pages v page ≡ false
-    pub no-span : (page : ℕ) → page < PAGES → pagesOf region page ≡ true → s .iommu-shared page ≡ false
+    pub free : (page : ℕ) → pagesOf region page ≡ true → s .hypervisor-owned page ≡ true
+    pub no-key : (vm gpa : ℕ) → isSome (entriesOf region vm gpa) ≡ true → isSome (s .s2-map vm gpa) ≡ false
+    pub no-dma : (page v : ℕ) → v < VMS → pagesOf region page ≡ true → s .all-vms v ≡ true → (v ≡ region .vm .0 → ⊥) → s .iommu-owned .pages v page ≡ false
+    pub no-span : (page : ℕ) → pagesOf region page ≡ true → s .iommu-shared page ≡ false
 
   pub record IommuInsertRegionEnabled (region : Region) (s : SoftwareView) : Type 0 where
+    pub fits : RegionFits region
     pub wf : 0 < region .count
     pub known : s .all-vms (region .vm .0) ≡ true
     pub assign : assignable region ≡ true
-    pub no-key : (vm gpa : ℕ) → vm < VMS → gpa < GUEST-PAGES → isSome (entriesOf region vm gpa) ≡ true → isSome (s .iommu-s2-map vm gpa) ≡ false
-    pub no-other : (page v : ℕ) → page < PAGES → v < VMS → pagesOf region page ≡ true → s .all-vms v ≡ true → (v ≡ region .vm .0 → ⊥) →
+    pub no-key : (vm gpa : ℕ) → isSome (entriesOf region vm gpa) ≡ true → isSome (s .iommu-s2-map vm gpa) ≡ false
+    pub no-other : (page v : ℕ) → v < VMS → pagesOf region page ≡ true → s .all-vms v ≡ true → (v ≡ region .vm .0 → ⊥) →
         (s .iommu-owned .pages v page ≡ false) × (s .vm-owned .pages v page ≡ false)
-    pub no-span : (page : ℕ) → page < PAGES → pagesOf region page ≡ true → s .iommu-shared page ≡ false
+    pub no-span : (page : ℕ) → pagesOf region page ≡ true → s .iommu-shared page ≡ false
 
   -- ---- remove_region_enabled, iommu_remove_region_enabled
   pub record RemoveRegionEnabled (region : Region) (s : SoftwareView) : Type 0 where
+    pub fits : RegionFits region
     pub wf : 0 < region .count
     pub known : s .all-vms (region .vm .0) ≡ true
     pub assign : assignable region ≡ true
-    pub owned : (page : ℕ) → page < PAGES → pagesOf region page ≡ true → s .vm-owned .pages (region .vm .0) page ≡ true
-    pub installed : (vm gpa : ℕ) → vm < VMS → gpa < GUEST-PAGES → isSome (entriesOf region vm gpa) ≡ true → s .s2-map vm gpa ≡ entriesOf region vm gpa
+    pub owned : (page : ℕ) → pagesOf region page ≡ true → s .vm-owned .pages (region .vm .0) page ≡ true
+    pub installed : (vm gpa : ℕ) → isSome (entriesOf region vm gpa) ≡ true → s .s2-map vm gpa ≡ entriesOf region vm gpa
     pub no-other : (vm gpa : ℕ) (e : S2Entry) → vm < VMS → gpa < GUEST-PAGES → s .s2-map vm gpa ≡ some e → isSome (entriesOf region vm gpa) ≡ false →
         pagesOf region (e .page) ≡ false
-    pub no-edge : (left right page : ℕ) → left < VMS → right < VMS → page < PAGES → s .shared-pages left right page ≡ true → pagesOf region page ≡ false
+    pub no-edge : (left right page : ℕ) → left < VMS → right < VMS → s .shared-pages left right page ≡ true → pagesOf region page ≡ false
 
   pub record IommuRemoveRegionEnabled (region : Region) (s : SoftwareView) : Type 0 where
+    pub fits : RegionFits region
     pub wf : 0 < region .count
     pub known : s .all-vms (region .vm .0) ≡ true
     pub assign : assignable region ≡ true
-    pub owned : (page : ℕ) → page < PAGES → pagesOf region page ≡ true → s .iommu-owned .pages (region .vm .0) page ≡ true
-    pub installed : (vm gpa : ℕ) → vm < VMS → gpa < GUEST-PAGES → isSome (entriesOf region vm gpa) ≡ true → s .iommu-s2-map vm gpa ≡ entriesOf region vm gpa
+    pub owned : (page : ℕ) → pagesOf region page ≡ true → s .iommu-owned .pages (region .vm .0) page ≡ true
+    pub installed : (vm gpa : ℕ) → isSome (entriesOf region vm gpa) ≡ true → s .iommu-s2-map vm gpa ≡ entriesOf region vm gpa
     pub no-other : (vm gpa : ℕ) (e : S2Entry) → vm < VMS → gpa < GUEST-PAGES → s .iommu-s2-map vm gpa ≡ some e → isSome (entriesOf region vm gpa) ≡ false →
         pagesOf region (e .page) ≡ false
 

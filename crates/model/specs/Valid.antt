@@ -65,10 +65,10 @@ pub record PagesGood (pages base count known : ℕ) (sets : List ℕ) : Type 0 w
   -- every page in exactly one home
   pub some-home : (page : ℕ) → page < pages → (row : ℕ) × (Home row × (holds sets row page ≡ true))
   pub one-home : (row row′ page : ℕ) → Home row → Home row′ → page < pages → holds sets row page ≡ true → holds sets row′ page ≡ true → row ≡ row′
-  -- no page held for DMA by two VMs, and each is its VM's own CPU page or lies in the pool
+  -- at most one VM holds a page for DMA, and that VM owns it or the pool has it
   pub one-dma : (vm vm′ page : ℕ) → vm < VMS → vm′ < VMS → page < pages → holdsDma sets vm page ≡ true → holdsDma sets vm′ page ≡ true → vm ≡ vm′
   pub dma-home : (vm page : ℕ) → vm < VMS → page < pages → holdsDma sets vm page ≡ true → (owns sets vm page ≡ true) ⊎ (inPool sets page ≡ true)
-  -- an id that is not known holds no pages
+  -- what holds a page is a known VM
   pub cpu-known : (vm page : ℕ) → vm < VMS → page < pages → owns sets vm page ≡ true → knows known vm ≡ true
   pub dma-known : (vm page : ℕ) → vm < VMS → page < pages → holdsDma sets vm page ≡ true → knows known vm ≡ true
 
@@ -87,7 +87,7 @@ pub record PairGood (pages known : ℕ) (sets : List ℕ) (w : ℕ) : Type 0 whe
 
 pub record PairsGood (pages known : ℕ) (sets pairs : List ℕ) : Type 0 where
   pub each : (w : ℕ) → Has pairs w → PairGood pages known sets w
-  -- none stored twice, in either order of its ends
+  -- a pair stands once, whichever end it names first
   pub once : Distinct pairKeyOf pairs
 
 -- ---- 6: a side's maps, stated once for a table and asked of software and walker
@@ -108,7 +108,7 @@ unfoldable pub SameMap : List ℕ → List ℕ → Type 0
 SameMap map walker = (k : ℕ) → 0 < k → lookup keyOf map k ≡ lookup keyOf walker k
 
 -- ---- 7: a side's cache
--- a slot of a port, holding the walker's entry for its VM and guest page
+-- a slot of a port that holds what the walker has for the slot's VM and guest page
 pub record SlotGood (walker : List ℕ) (w : ℕ) : Type 0 where
   pub port : portOf w < PORTS
   pub filled : filledOf w ≡ 1

@@ -1,6 +1,7 @@
 -- The numbers that the paper has for each case of each enum (docs/MACHINE.md, 2 and 7).
 use Prim.Native.Nat.{ℕ}
 use mathlib.Core.List.{List, [], _∷_}
+use lib.ListN.{getD}
 use Rattle.numbers.specs.Limits.{IDLE}
 use Rattle.numbers.specs.declared.VmId.{VmId}
 use Rattle.numbers.specs.declared.GuestPage.{GuestPage}
@@ -82,6 +83,10 @@ refusalNumber AccessLacking = 16
 abbrev pub answerNumbers : Answer → List ℕ
 answerNumbers (Accepted dropped word) = 0 ∷ 0 ∷ dropped ∷ word ∷ []
 answerNumbers (Refused refusal index) = refusalNumber refusal ∷ index ∷ 0 ∷ 0 ∷ []
+
+-- the first of the four, which an entry returns: 0, or a refusal's
+abbrev pub numberOf : Answer → ℕ
+numberOf answer = getD (answerNumbers answer) 0 0
 
 -- the page's number, or no number
 abbrev pub lowestNumbers : Lowest → List ℕ

@@ -1,5 +1,5 @@
-// The searches of region operations. Each goes over the region's pages and answers the lowest index that fails,
-// or the region's count where none does.
+// The searches of region operations. Each goes over the region's pages, and its label 'region yields the lowest
+// index that fails, or the region's count where none does.
 ghost use mathlib.Core.Path.{_≡_};
 ghost use Prim.Native.Nat.{_*_, _<_};
 ghost use lib.ListN.{length};
@@ -54,13 +54,15 @@ pub fn lowest_not_free(side: Side, sets: &[u64], region: Region) -> u64
     ensures { λ r. ⌜ r ≡ lowest (notFree side (now (sets .entry)) region) (region .count) ⌝ }
 {
     let mut k = 0;
-    'region: while k < region.count {
+    'region: loop {
+        if k >= region.count {
+            break 'region k;
+        }
         if not_free(side, sets, region, k) {
-            break 'region;
+            break 'region k;
         }
         k += 1;
     }
-    k
 }
 
 pub fn lowest_present(map: &[u64], region: Region) -> u64
@@ -68,18 +70,20 @@ pub fn lowest_present(map: &[u64], region: Region) -> u64
     ensures { λ r. ⌜ r ≡ lowest (present (now (map .entry)) region) (region .count) ⌝ }
 {
     let mut k = 0;
-    'region: while k < region.count {
+    'region: loop {
+        if k >= region.count {
+            break 'region k;
+        }
         let fresh = key_in(region, k);
         let mut i = 0;
         while i < map.len() {
             if numbers::key_of(map[i]) == fresh {
-                break 'region;
+                break 'region k;
             }
             i += 1;
         }
         k += 1;
     }
-    k
 }
 
 // Another VM's DMA page; for DMA also another VM's CPU page, and one of the shared span.
@@ -104,13 +108,15 @@ pub fn lowest_claimed(side: Side, sets: &[u64], region: Region) -> u64
     ensures { λ r. ⌜ r ≡ lowest (claimed side (now (sets .entry)) region) (region .count) ⌝ }
 {
     let mut k = 0;
-    'region: while k < region.count {
+    'region: loop {
+        if k >= region.count {
+            break 'region k;
+        }
         if is_claimed(side, sets, region, k) {
-            break 'region;
+            break 'region k;
         }
         k += 1;
     }
-    k
 }
 
 // ---- Removal.
@@ -120,13 +126,15 @@ pub fn lowest_not_held(side: Side, sets: &[u64], region: Region) -> u64
     ensures { λ r. ⌜ r ≡ lowest (notHeld side (now (sets .entry)) region) (region .count) ⌝ }
 {
     let mut k = 0;
-    'region: while k < region.count {
+    'region: loop {
+        if k >= region.count {
+            break 'region k;
+        }
         if !views::claims(side, sets, region.vm, page_in(region, k)) {
-            break 'region;
+            break 'region k;
         }
         k += 1;
     }
-    k
 }
 
 // The word of each key, 0 where there is none, must be the region's entry.
@@ -135,23 +143,27 @@ pub fn lowest_differs(map: &[u64], region: Region) -> u64
     ensures { λ r. ⌜ r ≡ lowest (differs (now (map .entry)) region) (region .count) ⌝ }
 {
     let mut k = 0;
-    'region: while k < region.count {
+    'region: loop {
+        if k >= region.count {
+            break 'region k;
+        }
         let key = key_in(region, k);
-        let mut word = 0;
         let mut spot = 0;
-        while spot < map.len() {
-            if numbers::key_of(map[spot]) == key {
-                word = map[spot];
-                break;
+        let word = 'entry: loop {
+            if spot >= map.len() {
+                break 'entry 0;
+            }
+            let w = map[spot];
+            if numbers::key_of(w) == key {
+                break 'entry w;
             }
             spot += 1;
-        }
+        };
         if word != entry_in(region, k) {
-            break 'region;
+            break 'region k;
         }
         k += 1;
     }
-    k
 }
 
 // How many pairs may hold a page back: edges are the CPU's alone.
@@ -171,24 +183,26 @@ pub fn lowest_in_use(side: Side, pairs: &[u64], map: &[u64], region: Region) -> 
 {
     let edges = binding_pairs(side, pairs);
     let mut k = 0;
-    'region: while k < region.count {
+    'region: loop {
+        if k >= region.count {
+            break 'region k;
+        }
         let page = page_in(region, k);
         let own = key_in(region, k);
         let mut i = 0;
         while i < map.len() {
             if !(numbers::key_of(map[i]) == own) & views::on_page(map[i], page) {
-                break 'region;
+                break 'region k;
             }
             i += 1;
         }
         let mut j = 0;
         while j < edges {
             if views::on_page(pairs[j], page) {
-                break 'region;
+                break 'region k;
             }
             j += 1;
         }
         k += 1;
     }
-    k
 }

@@ -1,4 +1,4 @@
-// Rows: the operation that eight numbers name. Only here is it known how a row writes idle.
+// Rows: the operation that eight numbers name. No other code reads a row's number as idle; `script` and `numbers::target_number` write it.
 ghost use mathlib.Core.Path.{_≡_};
 ghost use Prim.Native.Nat.{_+_, _*_, _≤_};
 ghost use lib.ListN.{length};

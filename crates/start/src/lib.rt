@@ -289,7 +289,7 @@ fn clear_route(map: &mut [u64], walker: &mut [u64], cache: &mut [u64])
     access::clear_words(cache);
 }
 
-// ---- The two headers. Nowhere else is a header made from nothing.
+// ---- The two headers that start gives. Crate `header` reads one from numbers, and `changes` has its own to be damaged.
 
 fn fresh_machine(pages: u64, shared_base: u64, shared_count: u64, units: &[u64]) -> Machine
     requires { ⌜ countTold (now units) ≤ UNITS ⌝ }

@@ -1,7 +1,7 @@
 use borrow.Author.Needs.{needs}
 use mathlib.Core.Path.{ap, _∙_}
 use Rattle.numbers.specs.DecidesLaws.{failed, passed}
-use Rattle.header.specs.Numbers.{numberOf}
+use Rattle.numbers.specs.Meaning.{numberOf}
 use Rattle.cores.specs.CoreLaws.{start-core, short-core, no-core}
 use Rattle.cores.proofs.start.Statement.{statement}
 use Rattle.cores.proofs.start.Tie as tie

@@ -117,13 +117,13 @@ region-again c =
     let b = t .before .before .before in
     let e = sym (ask-no _ _ _ (m .before .loop .inv) (m .loop-test .left)) in
     let f = part-no _ (b .binding-pairs .ensures) _ (c .before .loop2 .inv) (c .loop2-test .left) in
-    rise-next _ _ _ (t .before .before .region .inv) (t .if1 .taken) (rw (← k .before .page-in .ensures, ← k .key-in .ensures, e, f))
+    rise-next _ _ _ (t .before .before .region .inv) (t .if1 .left) (rw (← k .before .page-in .ensures, ← k .key-in .ensures, e, f))
 
 returns : tie.Need-returns Inv-loop μ-loop Inv-loop2 μ-loop2 Inv-region μ-region
 returns c =
     let b = c .before .before .before in
     let s = b .before .before .before in
-    rise-none _ _ _ (c .before .before .region .inv) (c .if1 .left) ∙ in-use-binding (s .args .map .now) (s .args .region) (b .binding-pairs .ensures)
+    rise-none _ _ _ (c .before .before .region .inv) (c .if1 .taken) ∙ in-use-binding (s .args .map .now) (s .args .region) (b .binding-pairs .ensures)
 
 returns-2 : tie.Need-returns-2 Inv-loop μ-loop Inv-loop2 μ-loop2 Inv-region μ-region
 unfolding targeted edgeOn
@@ -134,7 +134,7 @@ returns-2 c =
     let b = t .before .before .before in
     let s = b .before .before .before in
     let e = sym (ask-yes _ _ _ (i .before .loop .inv) (i .loop-test .taken) (rw (← c .before .on-page .ensures, ← c .before .before .before .key-of .ensures) (c .if2 .taken))) in
-    rise-found _ _ _ (t .before .before .region .inv) (t .if1 .taken) (rw (← k .before .page-in .ensures, ← k .key-in .ensures, e))
+    rise-found _ _ _ (t .before .before .region .inv) (t .if1 .left) (rw (← k .before .page-in .ensures, ← k .key-in .ensures, e))
     ∙ in-use-binding (s .args .map .now) (s .args .region) (b .binding-pairs .ensures)
 
 returns-3 : tie.Need-returns-3 Inv-loop μ-loop Inv-loop2 μ-loop2 Inv-region μ-region
@@ -148,7 +148,7 @@ returns-3 c =
     let s = b .before .before .before in
     let e = sym (ask-no _ _ _ (m .before .loop .inv) (m .loop-test .left)) in
     let f = part-yes _ (b .binding-pairs .ensures) _ (j .before .loop2 .inv) (j .loop2-test .taken) (rw (← c .before .on-page2 .ensures) (c .if3 .taken)) in
-    rise-found _ _ _ (t .before .before .region .inv) (t .if1 .taken) (rw (← k .before .page-in .ensures, ← k .key-in .ensures, e, f))
+    rise-found _ _ _ (t .before .before .region .inv) (t .if1 .left) (rw (← k .before .page-in .ensures, ← k .key-in .ensures, e, f))
     ∙ in-use-binding (s .args .map .now) (s .args .region) (b .binding-pairs .ensures)
 
 pub lowest-in-use-spec : {M : Type 1} → statement M

@@ -25,13 +25,13 @@ region-less : tie.Need-region-less Inv-region μ-region
 region-less c = search needs
 
 region-again : tie.Need-region-again Inv-region μ-region
-region-again c = rise-next _ _ _ (c .before .before .before .before .region .inv) (c .before .before .if1 .taken) (sym (c .before .not-free .ensures) ∙ c .if2 .left)
+region-again c = rise-next _ _ _ (c .before .before .before .before .region .inv) (c .before .before .if1 .left) (sym (c .before .not-free .ensures) ∙ c .if2 .left)
 
 returns : tie.Need-returns Inv-region μ-region
-returns c = rise-none _ _ _ (c .before .before .region .inv) (c .if1 .left)
+returns c = rise-none _ _ _ (c .before .before .region .inv) (c .if1 .taken)
 
 returns-2 : tie.Need-returns-2 Inv-region μ-region
-returns-2 c = rise-found _ _ _ (c .before .before .before .before .region .inv) (c .before .before .if1 .taken) (sym (c .before .not-free .ensures) ∙ c .if2 .taken)
+returns-2 c = rise-found _ _ _ (c .before .before .before .before .region .inv) (c .before .before .if1 .left) (sym (c .before .not-free .ensures) ∙ c .if2 .taken)
 
 pub lowest-not-free-spec : {M : Type 1} → statement M
 lowest-not-free-spec =

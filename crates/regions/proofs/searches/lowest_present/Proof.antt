@@ -57,14 +57,14 @@ region-less c = search needs
 
 region-again : tie.Need-region-again Inv-loop μ-loop Inv-region μ-region
 unfolding find
-region-again c = rise-next _ _ _ (c .before .before .before .before .before .region .inv) (c .before .before .before .if1 .taken) (rw (← c .before .before .key-in .ensures, ← seek-none _ _ _ (c .before .loop .inv) (c .loop-test .left)))
+region-again c = rise-next _ _ _ (c .before .before .before .before .before .region .inv) (c .before .before .before .if1 .left) (rw (← c .before .before .key-in .ensures, ← seek-none _ _ _ (c .before .loop .inv) (c .loop-test .left)))
 
 returns : tie.Need-returns Inv-loop μ-loop Inv-region μ-region
-returns c = rise-none _ _ _ (c .before .before .region .inv) (c .if1 .left)
+returns c = rise-none _ _ _ (c .before .before .region .inv) (c .if1 .taken)
 
 returns-2 : tie.Need-returns-2 Inv-loop μ-loop Inv-region μ-region
 unfolding find
-returns-2 c = rise-found _ _ _ (c .before .before .before .before .before .before .before .before .region .inv) (c .before .before .before .before .before .before .if1 .taken)
+returns-2 c = rise-found _ _ _ (c .before .before .before .before .before .before .before .before .region .inv) (c .before .before .before .before .before .before .if1 .left)
     (rw (← c .before .before .before .before .before .key-in .ensures, ← seek-found _ _ _ (c .before .before .before .before .loop .inv) (c .before .before .before .loop-test .taken) (eq-eqb _ _ (sym (c .before .key-of .ensures) ∙ c .if2 .taken))))
 
 pub lowest-present-spec : {M : Type 1} → statement M
