@@ -18,7 +18,7 @@ use numbers::SLOTS;
 use numbers::UNITS;
 use numbers::VMS;
 use numbers::VmId;
-use units::Region;
+use numbers::Region;
 use units::Unit;
 
 // ---- 1: lengths. The units and the ports have theirs by type.

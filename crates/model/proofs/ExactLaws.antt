@@ -16,7 +16,7 @@ use Rattle.numbers.specs.declared.Refusal.{Refusal}
 use Rattle.table.specs.Scan.{any, anyBelow, lowest}
 use Rattle.table.specs.ScanLaws.{has-any, any-true, below-any, any-below-true, lowest-found, lowest-none}
 use Rattle.table.specs.Table.{Has}
-use Rattle.units.specs.declared.Region.{Region}
+use Rattle.numbers.specs.declared.Region.{Region}
 use Rattle.model.specs.Conditions.{accepts}
 use Rattle.model.specs.Effect.{andThen}
 use Rattle.model.specs.Regions.{clash}

@@ -18,7 +18,7 @@ use Rattle.numbers.specs.declared.Side.the-variants.{Cpu, Dma}
 use Rattle.table.specs.Table.{Has, lookup, freeEntries}
 use Rattle.table.specs.TableLaws.{has-lookup, lookup-has}
 use Rattle.units.specs.Units.{suits, isUnit, noUnit, assignable}
-use Rattle.units.specs.declared.Region.{Region}
+use Rattle.numbers.specs.declared.Region.{Region}
 use Rattle.units.specs.declared.Unit.{Unit}
 use Rattle.model.specs.State.{Tables, route}
 use Rattle.model.specs.Views.{knows, inPool, inShared, targeted, butKey}

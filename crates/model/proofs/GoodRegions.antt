@@ -13,7 +13,7 @@ use Rattle.numbers.specs.declared.Operation.{Operation}
 use Rattle.numbers.specs.declared.Side.{Side}
 use Rattle.numbers.specs.declared.Side.the-variants.{Cpu, Dma}
 use Rattle.table.specs.Table.{Has}
-use Rattle.units.specs.declared.Region.{Region}
+use Rattle.numbers.specs.declared.Region.{Region}
 use Rattle.model.specs.State.{Tables, Route, route, withRoute, withSets}
 use Rattle.model.specs.Views.{owns, claims, otherSide, targeted, butKey, edgeOn}
 use Rattle.model.specs.Effect.{clears, quiet}

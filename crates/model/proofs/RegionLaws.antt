@@ -14,7 +14,7 @@ use Rattle.table.specs.Scan.{lowest}
 use Rattle.table.specs.ScanLaws.{lowest-none}
 use Rattle.table.specs.Table.{freeEntries, roomFor}
 use Rattle.units.specs.Units.{assignable}
-use Rattle.units.specs.declared.Region.{Region}
+use Rattle.numbers.specs.declared.Region.{Region}
 use Rattle.units.specs.declared.Unit.{Unit}
 use Rattle.model.specs.EarlyLaws.{past, then-passed, RegionPassed, region-passed}
 use Rattle.model.specs.Regions.{clash, regionEarly, notFree, present, claimed, insertAnswer, notHeld, differs, inUse, removeAnswer}

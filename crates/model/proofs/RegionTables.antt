@@ -16,7 +16,7 @@ use Rattle.table.specs.Table.{Has, isFound, wordAt, freeEntries, find, lookup, 
 use Rattle.table.specs.TableLaws.{lookup-nothing, lookup-put-other, place-room, free-put-new}
 use Rattle.table.specs.declared.Found.{Found}
 use Rattle.table.specs.declared.Found.the-variants.{At, Nothing}
-use Rattle.units.specs.declared.Region.{Region}
+use Rattle.numbers.specs.declared.Region.{Region}
 use Rattle.model.specs.State.{Tables, route, withRoute}
 use Rattle.model.specs.Views.{claims, targeted, butKey}
 use Rattle.model.specs.EarlyLaws.{RegionPassed}

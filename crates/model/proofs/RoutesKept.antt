@@ -21,7 +21,7 @@ use Rattle.table.specs.TableLaws.{Alone, lookup-has, has-set-inv, distinct-set,
 use Rattle.table.specs.AgreeLaws.{Keyed, agree-free, agree-place, agree-put, agree-wipe, lookup-wipe}
 use Rattle.table.specs.declared.Found.{Found}
 use Rattle.table.specs.declared.Found.the-variants.{At, Nothing}
-use Rattle.units.specs.declared.Region.{Region}
+use Rattle.numbers.specs.declared.Region.{Region}
 use Rattle.model.specs.Views.{knows, mayMap}
 use Rattle.model.specs.Regions.{inRegion}
 use Rattle.model.specs.Ports.{fillPlace, nextHand}

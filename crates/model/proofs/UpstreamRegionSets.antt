@@ -12,7 +12,7 @@ use Rattle.numbers.specs.declared.Side.the-variants.{Cpu, Dma}
 use Rattle.pages.specs.BitLaws.{below-or}
 use Rattle.pages.specs.Rows.{holds, poolRow, sharedRow, cpuRow, dmaRow}
 use Rattle.pages.specs.RowLaws.{holds-add-other, holds-remove-other}
-use Rattle.units.specs.declared.Region.{Region}
+use Rattle.numbers.specs.declared.Region.{Region}
 use Rattle.model.specs.State.{Tables, Route, withRoute, withSets}
 use Rattle.model.specs.Views.{knows, inPool, inShared, owns, holdsDma, claims}
 use Rattle.model.specs.Regions.{pageIn, insertSets, removeSets, insertPage, removePage}

@@ -17,7 +17,7 @@ use Rattle.table.specs.Table.{lookup, put, freeEntries, Distinct}
 use Rattle.table.specs.TableLaws.{lookup-has, lookup-put-other, place-room, free-put}
 use Rattle.table.specs.Scan.{repeat}
 use Rattle.units.specs.Units.{assignable}
-use Rattle.units.specs.declared.Region.{Region}
+use Rattle.numbers.specs.declared.Region.{Region}
 use Rattle.units.specs.declared.Unit.{Unit}
 use Rattle.model.specs.State.{Tables, Route, State, route, withRoute, withSets, withMaps}
 use Rattle.model.specs.Maps.{mapTable}

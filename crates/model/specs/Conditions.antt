@@ -16,42 +16,16 @@ use Rattle.numbers.specs.declared.Side.{Side}
 use Rattle.numbers.specs.declared.Side.the-variants.{Cpu, Dma}
 use Rattle.numbers.specs.declared.Target.{Target}
 use Rattle.numbers.specs.declared.Target.the-variants.{Idle, Vm}
+use Rattle.numbers.specs.declared.SideOperation.{SideOperation}
+use Rattle.numbers.specs.declared.SideOperation.the-variants as sided
 use Rattle.numbers.specs.declared.Operation.{Operation}
-use Rattle.numbers.specs.declared.Operation.the-variants.{
-  AddVm,
-  RemoveVm,
-  AssignPage,
-  ReclaimPage,
-  SharePage,
-  UnsharePage,
-  CpuMap,
-  DmaMap,
-  CpuUnmap,
-  DmaUnmap,
-  InsertRegion,
-  RemoveRegion,
-  DmaInsertRegion,
-  DmaRemoveRegion,
-  SwitchCpu,
-  BindDevice,
-  CpuFill,
-  DmaFill,
-  EmptyCpuSlot,
-  EmptyDmaSlot,
-  CpuRead,
-  DmaRead,
-  CpuWrite,
-  DmaWrite,
-  DataBarrier,
-  InstructionBarrier,
-}
+use Rattle.numbers.specs.declared.Operation.the-variants as op
 use Rattle.table.specs.Table.{Has, freeEntries}
 use Rattle.units.specs.Units.{suits, noUnit}
-use Rattle.units.specs.declared.Region.{Region}
+use Rattle.numbers.specs.declared.Region.{Region}
 use Rattle.model.specs.State.{Tables, route}
 use Rattle.model.specs.Views.{knows, inPool, inShared, owns, holdsDma, claims}
 use Rattle.model.specs.Start.{unitRegion}
-use Rattle.model.specs.Step.{regionOf}
 use Rattle.model.specs.Sequence.{operationIn}
 
 -- ---- the answer accepts
@@ -235,7 +209,7 @@ abbrev pub TargetGood : Tables → Target → Type 0
 TargetGood t Idle = Anything {0}
 TargetGood t (Vm vm) = (vm .0 < VMS) × Knows t (vm .0)
 
-pub record SwitchesPort (t : Tables) (port : ℕ) (target : Target) : Type 0 where
+pub record GivesPort (t : Tables) (port : ℕ) (target : Target) : Type 0 where
   pub port-ok : port < PORTS
   pub target-ok : TargetGood t target
 
@@ -265,33 +239,27 @@ pub record Accesses (side : Side) (t : Tables) (bit port guest word : ℕ) : Typ
   pub allowed : access / bit % 2 ≡ 1
 
 -- ---- all of them
+abbrev pub SideConditions : Side → Tables → SideOperation → Type 0
+SideConditions side t (sided.MapPage vm guest page access generation) = MapsPage side t (vm .0) (guest .0) (page .0) access generation
+SideConditions side t (sided.UnmapPage vm guest) = UnmapsPage side t (vm .0) (guest .0)
+SideConditions side t (sided.InsertRegion region) = Inserts side t region
+SideConditions side t (sided.RemoveRegion region) = Removes side t region
+SideConditions side t (sided.GivePort port target) = GivesPort t port target
+SideConditions side t (sided.FillSlot port guest) = Fills side t port (guest .0)
+SideConditions side t (sided.EmptySlot slot) = EmptiesSlot slot
+SideConditions side t (sided.ReadWord port guest word) = Accesses side t READ port (guest .0) word
+SideConditions side t (sided.WriteWord port guest word value) = Accesses side t WRITE port (guest .0) word
+
 abbrev pub Conditions : Tables → Operation → Type 0
-Conditions t (AddVm vm) = AddsVm t (vm .0)
-Conditions t (RemoveVm vm) = RemovesVm t (vm .0)
-Conditions t (AssignPage vm page) = Assigns t (vm .0) (page .0)
-Conditions t (ReclaimPage vm page) = Reclaims t (vm .0) (page .0)
-Conditions t (SharePage left right page) = Shares t (left .0) (right .0) (page .0)
-Conditions t (UnsharePage left right page) = Unshares t (left .0) (right .0) (page .0)
-Conditions t (CpuMap vm guest page access generation) = MapsPage Cpu t (vm .0) (guest .0) (page .0) access generation
-Conditions t (DmaMap vm guest page access generation) = MapsPage Dma t (vm .0) (guest .0) (page .0) access generation
-Conditions t (CpuUnmap vm guest) = UnmapsPage Cpu t (vm .0) (guest .0)
-Conditions t (DmaUnmap vm guest) = UnmapsPage Dma t (vm .0) (guest .0)
-Conditions t (InsertRegion vm guest page count access) = Inserts Cpu t (regionOf vm guest page count access)
-Conditions t (RemoveRegion vm guest page count access) = Removes Cpu t (regionOf vm guest page count access)
-Conditions t (DmaInsertRegion vm guest page count access) = Inserts Dma t (regionOf vm guest page count access)
-Conditions t (DmaRemoveRegion vm guest page count access) = Removes Dma t (regionOf vm guest page count access)
-Conditions t (SwitchCpu port target) = SwitchesPort t port target
-Conditions t (BindDevice port target) = SwitchesPort t port target
-Conditions t (CpuFill port guest) = Fills Cpu t port (guest .0)
-Conditions t (DmaFill port guest) = Fills Dma t port (guest .0)
-Conditions t (EmptyCpuSlot slot) = EmptiesSlot slot
-Conditions t (EmptyDmaSlot slot) = EmptiesSlot slot
-Conditions t (CpuRead port guest word) = Accesses Cpu t READ port (guest .0) word
-Conditions t (DmaRead port guest word) = Accesses Dma t READ port (guest .0) word
-Conditions t (CpuWrite port guest word value) = Accesses Cpu t WRITE port (guest .0) word
-Conditions t (DmaWrite port guest word value) = Accesses Dma t WRITE port (guest .0) word
-Conditions t DataBarrier = Anything {0}
-Conditions t InstructionBarrier = Anything {0}
+Conditions t (op.AddVm vm) = AddsVm t (vm .0)
+Conditions t (op.RemoveVm vm) = RemovesVm t (vm .0)
+Conditions t (op.AssignPage vm page) = Assigns t (vm .0) (page .0)
+Conditions t (op.ReclaimPage vm page) = Reclaims t (vm .0) (page .0)
+Conditions t (op.SharePage left right page) = Shares t (left .0) (right .0) (page .0)
+Conditions t (op.UnsharePage left right page) = Unshares t (left .0) (right .0) (page .0)
+Conditions t (op.On side operation) = SideConditions side t operation
+Conditions t op.DataBarrier = Anything {0}
+Conditions t op.InstructionBarrier = Anything {0}
 
 -- ---- a row: it names an operation, and the operation's conditions hold
 pub record RowConditions (t : Tables) (row : List ℕ) : Type 0 where

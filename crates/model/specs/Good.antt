@@ -5,17 +5,17 @@ use Prim.Native.Nat.{ℕ, _<_}
 use mathlib.Core.Bool.{Bool, true, false, _||_}
 use mathlib.Core.List.{List, [], _∷_}
 use mathlib.Core.Logic.{_⊎_}
+use mathlib.Core.Option.{Option, none, some}
 use mathlib.Core.Path.{_≡_}
 use Rattle.numbers.specs.Limits.{VMS}
 use Rattle.numbers.specs.Packing.{leftOf, rightOf, pageOf}
 use Rattle.numbers.specs.declared.Answer.{Answer}
 use Rattle.numbers.specs.declared.Operation.{Operation}
-use Rattle.numbers.specs.declared.Operation.the-variants.{SharePage}
+use Rattle.numbers.specs.declared.Operation.the-variants as op
 use Rattle.table.specs.Table.{Has}
 use Rattle.model.specs.State.{Tables}
 use Rattle.model.specs.Views.{owns, holdsDma, inShared, shares}
 use Rattle.model.specs.Effect.{Place, Store, Effect, reads, writes, clears, Control, accepted}
-use Rattle.model.specs.Sequence.{vmId, physPage}
 use Rattle.model.specs.Valid.{ValidTables}
 
 -- ---- claims
@@ -75,9 +75,26 @@ pub record Reaches (t : Tables) (vm page : ℕ) : Type 0 where
   pub page-ok : page < t .setup .pages
   pub way : Way t vm page
 
--- ---- the pair was made by an accepted share of the page's owner
+-- ---- an operation that shares: the owner, the VM that it lends to, and the page
+pub record Sharing : Type 0 where
+  pub left : ℕ
+  pub right : ℕ
+  pub page : ℕ
+
+abbrev pub sharing : Operation → Option Sharing
+sharing (op.AddVm vm) = none
+sharing (op.RemoveVm vm) = none
+sharing (op.AssignPage vm page) = none
+sharing (op.ReclaimPage vm page) = none
+sharing (op.SharePage left right page) = some (record { left = left .0; right = right .0; page = page .0 })
+sharing (op.UnsharePage left right page) = none
+sharing (op.On side operation) = none
+sharing op.DataBarrier = none
+sharing op.InstructionBarrier = none
+
+-- the pair was made by an accepted share of the page's owner
 pub record Made (t : Tables) (operation : Operation) (answer : Answer) (w : ℕ) : Type 0 where
-  pub share : operation ≡ SharePage (vmId (leftOf w)) (vmId (rightOf w)) (physPage (pageOf w))
+  pub share : sharing operation ≡ some (record { left = leftOf w; right = rightOf w; page = pageOf w })
   pub agreed : answer ≡ accepted
   pub owned : owns (t .sets) (leftOf w) (pageOf w) ≡ true
 

@@ -17,7 +17,7 @@ use Rattle.table.specs.Table.{find, lookup, isFound, put, roomFor}
 use Rattle.pages.specs.Rows.{add, remove, dmaRow}
 use Rattle.units.specs.Spans.{regionSpan}
 use Rattle.units.specs.Units.{assignable}
-use Rattle.units.specs.declared.Region.{Region}
+use Rattle.numbers.specs.declared.Region.{Region}
 use Rattle.units.specs.declared.Unit.{Unit}
 use Rattle.model.specs.Views.{isVm, isAccess, knows, inPool, inShared, claims, otherSide, claimedElsewhere, edgeOn, targeted, butKey, isFilled}
 use Rattle.model.specs.Effect.{accepted, acceptedDropping, refused, andThen}

@@ -10,15 +10,17 @@ use Rattle.numbers.specs.Limits.{VMS, PAGE-WORDS}
 use Rattle.numbers.specs.Packing.{leftOf, rightOf, pageOf}
 use Rattle.numbers.specs.declared.Answer.{Answer}
 use Rattle.numbers.specs.declared.Answer.the-variants.{Accepted, Refused}
-use Rattle.numbers.specs.declared.GuestPage.{GuestPage}
+use Rattle.numbers.specs.declared.Refusal.the-variants.{OutOfRange}
+use Rattle.numbers.specs.declared.SideOperation.{SideOperation}
+use Rattle.numbers.specs.declared.SideOperation.the-variants as sided
 use Rattle.numbers.specs.declared.Operation.{Operation}
-use Rattle.numbers.specs.declared.Operation.the-variants.{SharePage, CpuWrite, DmaWrite}
+use Rattle.numbers.specs.declared.Operation.the-variants as op
 use Rattle.table.specs.Table.{Has}
 use Rattle.model.specs.State.{Tables, State}
-use Rattle.model.specs.Effect.{Place, Store, Effect, reads, writes, clears, quiet, wordIn, accepted}
+use Rattle.model.specs.Effect.{Place, Store, Effect, reads, writes, clears, quiet, wordIn, accepted, refused}
 use Rattle.model.specs.Step.{control}
-use Rattle.model.specs.Sequence.{vmId, physPage, operationIn, stepRow, rowAt, Progress, after}
-use Rattle.model.specs.Good.{holdsPage, PlaceOn}
+use Rattle.model.specs.Sequence.{operationIn, stepRow, rowAt, Progress, after}
+use Rattle.model.specs.Good.{holdsPage, PlaceOn, Sharing, sharing}
 
 -- ---- private pages
 -- to one VM: it holds the page, and no edge names it
@@ -42,16 +44,46 @@ abbrev pub effectIn : Tables → Option Operation → Effect
 effectIn t none = quiet
 effectIn t (some operation) = control t operation .effect
 
--- the same operation, but for the value that it writes
-pub data SameButValue : Option Operation → Option Operation → Type 0 where
-  equal : {operation : Option Operation} → SameButValue operation operation
-  cpu-value : {port : ℕ} {guest : GuestPage} {word a b : ℕ} → SameButValue (some (CpuWrite port guest word a)) (some (CpuWrite port guest word b))
-  dma-value : {port : ℕ} {guest : GuestPage} {word a b : ℕ} → SameButValue (some (DmaWrite port guest word a)) (some (DmaWrite port guest word b))
+abbrev pub answerIn : Tables → Option Operation → Answer
+answerIn t none = refused OutOfRange
+answerIn t (some operation) = control t operation .answer
+
+-- the operation but for the value that it writes
+abbrev pub sideWithoutValue : SideOperation → SideOperation
+sideWithoutValue (sided.MapPage vm guest page access generation) = sided.MapPage vm guest page access generation
+sideWithoutValue (sided.UnmapPage vm guest) = sided.UnmapPage vm guest
+sideWithoutValue (sided.InsertRegion region) = sided.InsertRegion region
+sideWithoutValue (sided.RemoveRegion region) = sided.RemoveRegion region
+sideWithoutValue (sided.GivePort port target) = sided.GivePort port target
+sideWithoutValue (sided.FillSlot port guest) = sided.FillSlot port guest
+sideWithoutValue (sided.EmptySlot slot) = sided.EmptySlot slot
+sideWithoutValue (sided.ReadWord port guest word) = sided.ReadWord port guest word
+sideWithoutValue (sided.WriteWord port guest word value) = sided.WriteWord port guest word 0
+
+abbrev pub withoutValue : Operation → Operation
+withoutValue (op.AddVm vm) = op.AddVm vm
+withoutValue (op.RemoveVm vm) = op.RemoveVm vm
+withoutValue (op.AssignPage vm page) = op.AssignPage vm page
+withoutValue (op.ReclaimPage vm page) = op.ReclaimPage vm page
+withoutValue (op.SharePage left right page) = op.SharePage left right page
+withoutValue (op.UnsharePage left right page) = op.UnsharePage left right page
+withoutValue (op.On side operation) = op.On side (sideWithoutValue operation)
+withoutValue op.DataBarrier = op.DataBarrier
+withoutValue op.InstructionBarrier = op.InstructionBarrier
+
+abbrev pub withoutValueIn : Option Operation → Option Operation
+withoutValueIn none = none
+withoutValueIn (some operation) = some (withoutValue operation)
+
+-- what a row shares
+abbrev pub sharingIn : Option Operation → Option Sharing
+sharingIn none = none
+sharingIn (some operation) = sharing operation
 
 -- a share that the tables accept: the two VMs and the page
 pub record Shared (t : Tables) (operation : Option Operation) (left right page : ℕ) : Type 0 where
-  pub share : operation ≡ some (SharePage (vmId left) (vmId right) (physPage page))
-  pub agreed : control t (SharePage (vmId left) (vmId right) (physPage page)) .answer ≡ accepted
+  pub share : sharingIn operation ≡ some (record { left = left; right = right; page = page })
+  pub agreed : answerIn t operation ≡ accepted
 
 -- the answer but for the word that was read
 abbrev pub withoutWord : Answer → Answer
@@ -73,7 +105,7 @@ module _ (members : ℕ → Bool) (Secret : Tables → ℕ → Type 0) where
 
   -- only values that a member writes to private pages differ
   pub record Differ (t : Tables) (a b : Option Operation) : Type 0 where
-    pub shape : SameButValue a b
+    pub shape : withoutValueIn a ≡ withoutValueIn b
     pub near : Near t (effectIn t a) (effectIn t b)
 
   -- a member reads a private page

@@ -92,7 +92,44 @@ pub enum Target {
     Vm(VmId),
 }
 
-// ---- The twenty-six operations, in the order of their numbers.
+// ---- A region as a caller names it: the five fields that a unit must equal.
+pub struct Region {
+    pub vm: VmId,
+    pub guest: GuestPage,
+    pub page: PhysPage,
+    pub count: u64,
+    pub access: u64,
+}
+
+// ---- What each side has of its own: an operation on the CPU's tables or the same on the devices'.
+pub enum SideOperation {
+    MapPage {
+        vm: VmId,
+        guest: GuestPage,
+        page: PhysPage,
+        access: u64,
+        generation: u64,
+    },
+    UnmapPage(VmId, GuestPage),
+    InsertRegion(Region),
+    RemoveRegion(Region),
+    GivePort(u64, Target),
+    FillSlot(u64, GuestPage),
+    EmptySlot(u64),
+    ReadWord {
+        port: u64,
+        guest: GuestPage,
+        word: u64,
+    },
+    WriteWord {
+        port: u64,
+        guest: GuestPage,
+        word: u64,
+        value: u64,
+    },
+}
+
+// ---- The operations, seventeen for the twenty-six numbers: an operation of a side names the side once.
 pub enum Operation {
     AddVm(VmId),
     RemoveVm(VmId),
@@ -100,78 +137,7 @@ pub enum Operation {
     ReclaimPage(VmId, PhysPage),
     SharePage(VmId, VmId, PhysPage),
     UnsharePage(VmId, VmId, PhysPage),
-    CpuMap {
-        vm: VmId,
-        guest: GuestPage,
-        page: PhysPage,
-        access: u64,
-        generation: u64,
-    },
-    DmaMap {
-        vm: VmId,
-        guest: GuestPage,
-        page: PhysPage,
-        access: u64,
-        generation: u64,
-    },
-    CpuUnmap(VmId, GuestPage),
-    DmaUnmap(VmId, GuestPage),
-    InsertRegion {
-        vm: VmId,
-        guest: GuestPage,
-        page: PhysPage,
-        count: u64,
-        access: u64,
-    },
-    RemoveRegion {
-        vm: VmId,
-        guest: GuestPage,
-        page: PhysPage,
-        count: u64,
-        access: u64,
-    },
-    DmaInsertRegion {
-        vm: VmId,
-        guest: GuestPage,
-        page: PhysPage,
-        count: u64,
-        access: u64,
-    },
-    DmaRemoveRegion {
-        vm: VmId,
-        guest: GuestPage,
-        page: PhysPage,
-        count: u64,
-        access: u64,
-    },
-    SwitchCpu(u64, Target),
-    BindDevice(u64, Target),
-    CpuFill(u64, GuestPage),
-    DmaFill(u64, GuestPage),
-    EmptyCpuSlot(u64),
-    EmptyDmaSlot(u64),
-    CpuRead {
-        port: u64,
-        guest: GuestPage,
-        word: u64,
-    },
-    DmaRead {
-        port: u64,
-        guest: GuestPage,
-        word: u64,
-    },
-    CpuWrite {
-        port: u64,
-        guest: GuestPage,
-        word: u64,
-        value: u64,
-    },
-    DmaWrite {
-        port: u64,
-        guest: GuestPage,
-        word: u64,
-        value: u64,
-    },
+    On(Side, SideOperation),
     DataBarrier,
     InstructionBarrier,
 }

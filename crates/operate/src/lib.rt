@@ -7,7 +7,7 @@ use model::Machine;
 use numbers::Answer;
 use numbers::Operation;
 use numbers::Side;
-use units::Region;
+use numbers::Region;
 
 pub struct Done {
     pub answer: Answer,

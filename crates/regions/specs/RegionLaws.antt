@@ -12,7 +12,7 @@ use Rattle.numbers.specs.declared.Side.{Side}
 use Rattle.numbers.specs.declared.Side.the-variants.{Cpu, Dma}
 use Rattle.table.specs.Scan.{any, lowest, lowestFrom}
 use Rattle.table.specs.Loops.{Asking, ask-next, ask-yes, ask-no}
-use Rattle.units.specs.declared.Region.{Region}
+use Rattle.numbers.specs.declared.Region.{Region}
 use Rattle.model.specs.Views.{edgeOn, claims, otherSide}
 use Rattle.model.specs.Effect.{clearPage, clearedPages}
 use Rattle.model.specs.Regions.{inUse, pageIn, removeClears, removeClearsFrom}

@@ -14,7 +14,7 @@ use crate::searches::page_in;
 use numbers::PhysPage;
 use numbers::Side;
 use numbers::VmId;
-use units::Region;
+use numbers::Region;
 
 // ---- Insertion.
 

@@ -13,7 +13,7 @@ use numbers::Side;
 use numbers::VMS;
 use numbers::accept;
 use numbers::refuse;
-use units::Region;
+use numbers::Region;
 use units::Unit;
 
 mod edits; // edits.rt: what an accepted operation changes

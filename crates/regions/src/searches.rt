@@ -10,7 +10,7 @@ ghost use Rattle.regions.specs.RegionLaws.{Placed, Binding};
 use numbers::GuestPage;
 use numbers::PhysPage;
 use numbers::Side;
-use units::Region;
+use numbers::Region;
 
 // ---- The k-th page of a region, its key in a map, and the entry that a map has for it.
 

@@ -27,7 +27,7 @@ use numbers::UNITS;
 use numbers::VMS;
 use numbers::VmId;
 use units::Mark;
-use units::Region;
+use numbers::Region;
 use units::Unit;
 
 // ---- The units that start is told.

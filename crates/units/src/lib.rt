@@ -6,6 +6,7 @@ ghost use Rattle.units.specs.Spans.{spanWithin, regionSpan};
 use numbers::GUEST_PAGES;
 use numbers::GuestPage;
 use numbers::PhysPage;
+use numbers::Region;
 use numbers::Side;
 use numbers::VmId;
 
@@ -22,15 +23,6 @@ pub struct Unit {
     pub count: u64,
     pub access: u64,
     pub mark: Mark,
-}
-
-// A region as a caller names it: the five fields that a unit must equal.
-pub struct Region {
-    pub vm: VmId,
-    pub guest: GuestPage,
-    pub page: PhysPage,
-    pub count: u64,
-    pub access: u64,
 }
 
 // ---- Marks and their numbers.
