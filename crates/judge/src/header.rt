@@ -12,13 +12,13 @@ use numbers::ACCESSES;
 use numbers::ENTRIES;
 use numbers::PAGES;
 use numbers::PAIRS;
+use numbers::Region;
 use numbers::SET_WORDS;
 use numbers::SETS;
 use numbers::SLOTS;
 use numbers::UNITS;
 use numbers::VMS;
 use numbers::VmId;
-use numbers::Region;
 use units::Unit;
 
 // ---- 1: lengths. The units and the ports have theirs by type.

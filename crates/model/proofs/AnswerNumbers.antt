@@ -27,7 +27,7 @@ use Rattle.model.specs.Maps.{mapAnswer, unmapAnswer}
 use Rattle.model.specs.Regions.{clashAt, insertAnswer, removeAnswer}
 use Rattle.model.specs.Ports.{portAnswer, fillAnswer, emptyAnswer}
 use Rattle.model.specs.Access.{accessAnswer}
-use Rattle.model.specs.Step.{Stepped, carriedOut, addVmControl, removeVmControl, assignControl, reclaimControl, shareControl, unshareControl, mapControl, unmapControl, insertControl, removeControl, portControl, fillControl, emptyControl, readControl, writeControl, control, step}
+use Rattle.model.specs.Step.{Stepped, carriedOut, control, step}
 use Rattle.model.specs.Sequence.{operationOf, operationIn, stepKnown, stepRow}
 use Rattle.model.specs.Entries.{valid, not-valid, JudgedRow}
 
@@ -222,7 +222,7 @@ module _ {n count : ℕ} {s : State} where
 
 -- all of them: every answer is made of the parts above
 every-number : (s : State) (n a b c d e : ℕ) → Known n d s (operationOf n a b c d e)
-unfolding refusalLists control addVmControl removeVmControl assignControl reclaimControl shareControl unshareControl mapControl unmapControl insertControl removeControl portControl fillControl emptyControl readControl writeControl addVmAnswer removeVmAnswer assignAnswer reclaimAnswer shareAnswer unshareAnswer mapAnswer unmapAnswer insertAnswer removeAnswer portAnswer fillAnswer emptyAnswer accessAnswer
+unfolding refusalLists control addVmAnswer removeVmAnswer assignAnswer reclaimAnswer shareAnswer unshareAnswer mapAnswer unmapAnswer insertAnswer removeAnswer portAnswer fillAnswer emptyAnswer accessAnswer
 every-number s n a b c d e = search (numbered, unknown, told, check, early, unsearched, searched, dropping, done, tt {0}) depth 60 fits 5000
 
 -- ---- the four numbers

@@ -28,7 +28,7 @@ use Rattle.model.specs.EarlyLaws.{both}
 use Rattle.model.specs.Maps.{mapEarly, unmapEarly, mapAnswer, unmapAnswer}
 use Rattle.model.specs.Ports.{isTarget, knowsTarget, portAnswer, vmOn, fillAnswer, emptyAnswer}
 use Rattle.model.specs.Access.{translate, allows, accessAnswer}
-use Rattle.model.specs.Conditions.{accepts, Maps, Mapped, TargetGood, MapsPage, UnmapsPage, SwitchesPort, Fills, EmptiesSlot, Accesses}
+use Rattle.model.specs.Conditions.{accepts, Maps, Mapped, TargetGood, MapsPage, UnmapsPage, GivesPort, Fills, EmptiesSlot, Accesses}
 use Rattle.model.proofs.OneRoute.{route-of}
 use Rattle.model.proofs.ExactLaws.{unless, where-so, after-early, after-check}
 use Rattle.model.proofs.ExactViews.{place-exact, mapped-exact, walked-exact, may-exact, keyed-mapped, mapped-keyed}
@@ -51,7 +51,7 @@ target-exact : (t : Tables) (target : Target) → Decides (isTarget target && kn
 target-exact t Idle = always
 target-exact t (Vm vm) = decides-and (decides-less (vm .0) VMS) (decides-itself (knows (t .known) (vm .0)))
 
-pub port-exact : (t : Tables) (port : ℕ) (target : Target) → Decides (accepts (portAnswer (t .known) port target)) (SwitchesPort t port target)
+pub port-exact : (t : Tables) (port : ℕ) (target : Target) → Decides (accepts (portAnswer (t .known) port target)) (GivesPort t port target)
 unfolding portAnswer
 port-exact t port target =
     decides-as

@@ -15,21 +15,24 @@ use Rattle.numbers.specs.PackingLaws.{key-vm, unported, unported-vm, unported-p
 use Rattle.numbers.specs.declared.Answer.{Answer}
 use Rattle.numbers.specs.declared.Answer.the-variants.{Accepted}
 use Rattle.numbers.specs.declared.Operation.{Operation}
+use Rattle.numbers.specs.declared.Operation.the-variants as op
+use Rattle.numbers.specs.declared.SideOperation.the-variants as sided
+use Rattle.numbers.specs.declared.GuestPage.{GuestPage}
 use Rattle.numbers.specs.declared.Side.{Side}
 use Rattle.numbers.specs.declared.Side.the-variants.{Cpu, Dma}
 use Rattle.table.specs.Table.{Has, lookup}
 use Rattle.table.specs.TableLaws.{lookup-has}
-use Rattle.model.specs.State.{Tables, Route, route}
+use Rattle.model.specs.State.{Tables, Route, route, withSide}
 use Rattle.model.specs.Views.{isPort, isGuest, isWord, isIdle, owns, mayMap}
 use Rattle.model.specs.Effect.{Effect, quiet, accepted}
 use Rattle.model.specs.Ports.{vmOn}
 use Rattle.model.specs.Access.{translate, accessAnswer, accessPlace}
-use Rattle.model.specs.Step.{readControl, writeControl, barrierControl}
+use Rattle.model.specs.Step.{answerOf}
 use Rattle.model.specs.EarlyLaws.{past, both, hold}
 use Rattle.model.specs.Valid.{EntryGood, ValidTables}
 use Rattle.model.specs.Good.{Way, own, lent, span, Reaches, Touches, Cleared, Good}
 use Rattle.model.proofs.ViewLaws.{may-either}
-use Rattle.model.proofs.Refused.{decided-good}
+use Rattle.model.proofs.Refused.{AcceptedGood}
 use Rattle.model.proofs.RoutesKept.{slot-walks}
 use Rattle.model.proofs.OneRoute.{GoodRoute, route-of}
 
@@ -109,28 +112,33 @@ access-reaches side t v bit port guest word e vm page h =
     ⊎-elim (λ q. rw (← h .0, ← q) there) (λ z. absurd z) (h .1)
 
 -- ---- an operation that changes no table
-still-good : (t : Tables) → ValidTables t → (operation : Operation) (answer : Answer) (effect : Effect) → ((vm page : ℕ) → Touches effect vm page → Reaches t vm page) → ((page : ℕ) → Cleared effect page → ⊥) →
-    Good t operation (record { answer = answer; tables = t; effect = effect })
-still-good t v operation answer effect reach none =
+still-good : (t : Tables) → ValidTables t → (operation : Operation) (answer : Answer) (new : Tables) (effect : Effect) → new ≡ t → ((vm page : ℕ) → Touches effect vm page → Reaches t vm page) →
+    ((page : ℕ) → Cleared effect page → ⊥) → Good t operation (record { answer = answer; tables = new; effect = effect })
+still-good t v operation answer new effect same reach none =
     record {
-      valid = v;
+      valid = rw same v;
       reach = reach;
-      still = λ h. refl;
-      wiped = λ vm page l b h n. absurd (true≢false (sym h ∙ n));
+      still = λ h. same;
+      wiped = λ vm page l b h n. absurd (true≢false (sym h ∙ (rw same at n)));
       free = λ vm page l b h c. none page h;
-      edges = λ w h. inl h;
+      edges = λ w h. inl (rw same at h);
     }
 
+same-side : (side : Side) (t : Tables) → withSide side t (route side t) (t .sets) ≡ t
+same-side Cpu t = refl
+same-side Dma t = refl
+
 -- ---- each
-pub read-good : (side : Side) (t : Tables) → ValidTables t → (operation : Operation) (port guest word : ℕ) → Good t operation (readControl side t port guest word)
-unfolding readControl
-read-good side t v operation port guest word =
-    decided-good t v operation _ _ _ (λ dropped read e. still-good t v operation _ _ (access-reaches side t v READ port guest word e) (λ page h. h))
+pub read-good : (side : Side) (t : Tables) → ValidTables t → (port : ℕ) (guest : GuestPage) (word : ℕ) {dropped read : ℕ} → answerOf t (op.On side (sided.ReadWord port guest word)) ≡ Accepted dropped read →
+    AcceptedGood t (op.On side (sided.ReadWord port guest word))
+read-good side t v port guest word e = still-good t v _ _ _ _ (same-side side t) (access-reaches side t v READ port (guest .0) word e) (λ page h. h)
 
-pub write-good : (side : Side) (t : Tables) → ValidTables t → (operation : Operation) (port guest word value : ℕ) → Good t operation (writeControl side t port guest word value)
-unfolding writeControl
-write-good side t v operation port guest word value =
-    decided-good t v operation _ _ _ (λ dropped read e. still-good t v operation _ _ (access-reaches side t v WRITE port guest word e) (λ page h. h))
+pub write-good : (side : Side) (t : Tables) → ValidTables t → (port : ℕ) (guest : GuestPage) (word value : ℕ) {dropped read : ℕ} → answerOf t (op.On side (sided.WriteWord port guest word value)) ≡ Accepted dropped read →
+    AcceptedGood t (op.On side (sided.WriteWord port guest word value))
+write-good side t v port guest word value e = still-good t v _ _ _ _ (same-side side t) (access-reaches side t v WRITE port (guest .0) word e) (λ page h. h)
 
-pub barrier-good : (t : Tables) → ValidTables t → (operation : Operation) → Good t operation (barrierControl t)
-barrier-good t v operation = decided-good t v operation accepted t quiet (λ dropped word e. still-good t v operation accepted quiet (λ vm page h. absurd h) (λ page h. h))
+pub data-barrier-good : (t : Tables) → ValidTables t → AcceptedGood t op.DataBarrier
+data-barrier-good t v = still-good t v op.DataBarrier accepted t quiet refl (λ vm page h. absurd h) (λ page h. h)
+
+pub instruction-barrier-good : (t : Tables) → ValidTables t → AcceptedGood t op.InstructionBarrier
+instruction-barrier-good t v = still-good t v op.InstructionBarrier accepted t quiet refl (λ vm page h. absurd h) (λ page h. h)

@@ -9,22 +9,25 @@ use native.Mathlib.Omega.{arith}
 use lib.Dec.{eqb}
 use lib.ListN.{length}
 use borrow.Author.Tests.{eqb-true, eq-eqb, ne-eqb}
+use Rattle.numbers.specs.CaseLaws.{none-some}
 use Rattle.numbers.specs.Limits.{PAGE-WORDS}
 use Rattle.numbers.specs.Packing.{leftOf, rightOf}
 use Rattle.numbers.specs.declared.Answer.{Answer}
 use Rattle.numbers.specs.declared.Answer.the-variants.{Accepted, Refused}
 use Rattle.numbers.specs.declared.Side.{Side}
-use Rattle.numbers.specs.declared.Side.the-variants.{Cpu, Dma}
+use Rattle.numbers.specs.declared.SideOperation.{SideOperation}
+use Rattle.numbers.specs.declared.SideOperation.the-variants as sided
 use Rattle.numbers.specs.declared.Operation.{Operation}
+use Rattle.numbers.specs.declared.Operation.the-variants as op
 use Rattle.model.specs.State.{Tables, State}
 use Rattle.model.specs.Effect.{wordIn, Place, Store, Effect, reads, writes, clears, clearedPages, apply, decided, Control}
-use Rattle.model.specs.Step.{Stepped, answerWith, step, writeControl, control}
+use Rattle.model.specs.Step.{Stepped, answerWith, step, control}
 use Rattle.model.specs.Sequence.{operationIn, stepKnown, stepRow, rowAt, Progress, after}
 use Rattle.model.specs.Valid.{ValidTables, Valid}
 use Rattle.model.specs.MemoryLaws.{length-applied}
 use Rattle.model.specs.ShapeLaws.{control-shape}
 use Rattle.model.specs.Good.{PlaceOn, Wrote}
-use Rattle.model.specs.Secrecy.{PrivateTo, Private, effectIn, SameButValue, equal, cpu-value, dma-value, Shared, withoutWord, NearStores, stop, same, other, Near, alike, stores, Seen, Alike, SameAnswer, Asked, Premise, StayAlike}
+use Rattle.model.specs.Secrecy.{PrivateTo, Private, effectIn, sideWithoutValue, withoutValue, withoutValueIn, Shared, withoutWord, NearStores, stop, same, other, Near, alike, stores, Seen, Alike, SameAnswer, Asked, Premise, StayAlike}
 use Rattle.model.proofs.Answers.{after-next}
 use Rattle.model.proofs.Kept.{good, row-valid, after-valid}
 use Rattle.model.proofs.EffectLaws.{inside, stored-over}
@@ -38,19 +41,36 @@ pub record SameControl (c d : Control) : Type 0 where
   pub answer : c .answer ≡ d .answer
   pub tables : c .tables ≡ d .tables
 
-decided-alike : (t : Tables) (answer : Answer) (new : Tables) (effect effect′ : Effect) → SameControl (decided t answer new effect) (decided t answer new effect′)
-unfolding decided
-decided-alike t answer new effect effect′ = record { answer = refl; tables = refl }
+module _ (t : Tables) where
+  side-valueless : (side : Side) (operation : SideOperation) → SameControl (control t (op.On side operation)) (control t (op.On side (sideWithoutValue operation)))
+  unfolding control decided
+  side-valueless side (sided.MapPage vm guest page access generation) = record { answer = refl; tables = refl }
+  side-valueless side (sided.UnmapPage vm guest) = record { answer = refl; tables = refl }
+  side-valueless side (sided.InsertRegion region) = record { answer = refl; tables = refl }
+  side-valueless side (sided.RemoveRegion region) = record { answer = refl; tables = refl }
+  side-valueless side (sided.GivePort port target) = record { answer = refl; tables = refl }
+  side-valueless side (sided.FillSlot port guest) = record { answer = refl; tables = refl }
+  side-valueless side (sided.EmptySlot slot) = record { answer = refl; tables = refl }
+  side-valueless side (sided.ReadWord port guest word) = record { answer = refl; tables = refl }
+  side-valueless side (sided.WriteWord port guest word value) = record { answer = refl; tables = refl }
 
-write-blind : (side : Side) (t : Tables) (port guest word value value′ : ℕ) → SameControl (writeControl side t port guest word value) (writeControl side t port guest word value′)
-unfolding writeControl
-write-blind side t port guest word value value′ = decided-alike t _ _ _ _
+  valueless : (operation : Operation) → SameControl (control t operation) (control t (withoutValue operation))
+  valueless (op.AddVm vm) = record { answer = refl; tables = refl }
+  valueless (op.RemoveVm vm) = record { answer = refl; tables = refl }
+  valueless (op.AssignPage vm page) = record { answer = refl; tables = refl }
+  valueless (op.ReclaimPage vm page) = record { answer = refl; tables = refl }
+  valueless (op.SharePage left right page) = record { answer = refl; tables = refl }
+  valueless (op.UnsharePage left right page) = record { answer = refl; tables = refl }
+  valueless (op.On side operation) = side-valueless side operation
+  valueless op.DataBarrier = record { answer = refl; tables = refl }
+  valueless op.InstructionBarrier = record { answer = refl; tables = refl }
 
-pub blind : (t : Tables) (x y : Operation) → SameButValue (some x) (some y) → SameControl (control t x) (control t y)
-unfolding control
-blind t x y equal = record { answer = refl; tables = refl }
-blind t x y (cpu-value {port = port} {guest = guest} {word = word} {a = a} {b = b}) = write-blind Cpu t port (guest .0) word a b
-blind t x y (dma-value {port = port} {guest = guest} {word = word} {a = a} {b = b}) = write-blind Dma t port (guest .0) word a b
+  pub blind : (x y : Operation) → withoutValue x ≡ withoutValue y → SameControl (control t x) (control t y)
+  blind x y e =
+      record {
+        answer = valueless x .answer ∙ ap (λ (z : Operation). control t z .answer) e ∙ sym (valueless y .answer);
+        tables = valueless x .tables ∙ ap (λ (z : Operation). control t z .tables) e ∙ sym (valueless y .tables);
+      }
 
 -- ---- answers but for the word
 unread : (effect : Effect) (memory : List ℕ) (x : Answer) → withoutWord (answerWith effect memory x) ≡ withoutWord x
@@ -137,7 +157,7 @@ module _ (members : ℕ → Bool) where
   SharesEqual t operation a b = (left right page word : ℕ) → Shared t operation left right page → members left ≡ true → members right ≡ false → word < PAGE-WORDS → wordIn a page word ≡ wordIn b page word
 
   module _ (t : Tables) (v : ValidTables t) (a b : List ℕ) (like : Alike members (Private members) (record { tables = t; memory = a }) (record { tables = t; memory = b })) where
-    operation-alike : (x y : Operation) → SameButValue (some x) (some y) → Near members (Private members) t (control t x .effect) (control t y .effect) → SharesEqual t (some x) a b →
+    operation-alike : (x y : Operation) → withoutValue x ≡ withoutValue y → Near members (Private members) t (control t x .effect) (control t y .effect) → SharesEqual t (some x) a b →
         BothAlike t (some x) (step (record { tables = t; memory = a }) x) (step (record { tables = t; memory = b }) y)
     unfolding step
     operation-alike x y shape near shares =
@@ -151,7 +171,7 @@ module _ (members : ℕ → Bool) where
                 tables = decides .tables;
                 size = length-applied (c .effect) a ∙ like .size ∙ sym (length-applied (d .effect) b);
                 words = same-words members t v x (c .answer) (c .tables) a b (like .words)
-                    (λ left right page word share agreed. shares left right page word (record { share = rw share; agreed = rw share at agreed })) (like .size) s near;
+                    (λ left right page word share agreed. shares left right page word (record { share = share; agreed = agreed })) (like .size) s near;
               };
           answers =
               record {
@@ -161,10 +181,12 @@ module _ (members : ℕ → Bool) where
         }
 
     -- a row of no operation is refused in both
-    known-alike : (x y : Option Operation) → SameButValue x y → Near members (Private members) t (effectIn t x) (effectIn t y) → SharesEqual t x a b →
+    known-alike : (x y : Option Operation) → withoutValueIn x ≡ withoutValueIn y → Near members (Private members) t (effectIn t x) (effectIn t y) → SharesEqual t x a b →
         BothAlike t x (stepKnown (record { tables = t; memory = a }) x) (stepKnown (record { tables = t; memory = b }) y)
     known-alike none none shape near shares = record { states = like; answers = record { but-word = refl; whole = λ n. refl } }
-    known-alike (some x) (some y) shape near shares = operation-alike x y shape near shares
+    known-alike (some x) (some y) shape near shares = operation-alike x y (cc shape) near shares
+    known-alike none (some y) shape near shares = absurd (none-some shape)
+    known-alike (some x) none shape near shares = absurd (none-some (sym shape))
 
   pub secret-step : (s s′ : State) (row row′ : List ℕ) → Valid s → Alike members (Private members) s s′ → Asked members (Private members) s s′ row row′ →
       BothAlike (s .tables) (operationIn row) (stepRow s row) (stepRow s′ row′)

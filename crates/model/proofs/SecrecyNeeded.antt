@@ -13,23 +13,24 @@ use lib.ListN.{length, getD, replicate, length-set, length-replicate}
 use Rattle.numbers.specs.Limits.{PAGE-WORDS}
 use Rattle.numbers.specs.declared.Answer.{Answer}
 use Rattle.numbers.specs.declared.Answer.the-variants.{Accepted, Refused}
+use Rattle.numbers.specs.Meaning.{operationNumber}
 use Rattle.numbers.specs.declared.Operation.{Operation}
 use Rattle.numbers.specs.declared.Side.the-variants.{Cpu}
 use Rattle.model.specs.State.{Tables, State}
 use Rattle.model.specs.Effect.{Store, Effect, decided, kept, quiet, memoryIndex, wordIn}
 use Rattle.model.specs.EarlyLaws.{never-both}
 use Rattle.model.specs.Ledger.{addVmAnswer}
-use Rattle.model.specs.Step.{addVmControl, control}
+use Rattle.model.specs.Step.{control}
 use Rattle.model.specs.Sequence.{operationIn, rowAt, after}
 use Rattle.model.specs.Valid.{ValidTables, Valid}
 use Rattle.model.specs.Good.{StoreOn, Touches, Reaches}
-use Rattle.model.specs.Secrecy.{PrivateTo, Private, effectIn, SameButValue, equal, cpu-value, dma-value, NearStores, stop, same, other, Near, alike, stores, Differ, Alike, Asked, Premise, StayAlike}
+use Rattle.model.specs.Secrecy.{PrivateTo, Private, effectIn, withoutValueIn, NearStores, stop, same, other, Near, alike, stores, Differ, Alike, Asked, Premise, StayAlike}
 use Rattle.model.proofs.Computes.{computes}
 use Rattle.model.proofs.Worked.{started}
 use Rattle.model.proofs.Kept.{good, after-valid}
 use Rattle.model.proofs.Secret.{confined}
 use Rattle.model.proofs.Secrecy.{secrecy-one}
-use Rattle.model.proofs.SecrecyWorked.{barrier, addThird, carried, beforeStale, stale, lodging, lodged, spanning, ending, numberIn, SharesEqual, itself, no-share, asked-same, MayWrite, asked-write, differ-write, at-start, carried-valid, from, Alone, private-to, begun, begun-valid, sharing, may-write, private}
+use Rattle.model.proofs.SecrecyWorked.{barrier, addThird, carried, beforeStale, stale, lodging, lodged, spanning, ending, SharesEqual, itself, no-share, asked-same, MayWrite, asked-write, differ-write, at-start, carried-valid, from, Alone, private-to, begun, begun-valid, afterShare, may-write, private}
 
 -- ---- the statement for VM 1, over what is known of the two states and what is given of each two rows
 abbrev pub Statement : (State → State → Type 0) → (State → State → List ℕ → List ℕ → Type 0) → Type 0
@@ -88,7 +89,7 @@ private-stale = private-to 1 0 (stale .tables) (λ w h. carried-valid started at
 asked-incident : Premise (eqb 1) (PrivateTo 1) (from stale) (from stale) (incidentRows 5) (incidentRows 6) 2
 unfolding incidentRows after operationIn
 asked-incident zero h = asked-write (eqb 1) (PrivateTo 1) Cpu stale stale 0 16 0 0 5 6 may-write-stale private-stale
-asked-incident (suc zero) h = asked-same _ _ _ _ _ (λ e. omega arith)
+asked-incident (suc zero) h = asked-same _ _ _ _ _ refl
 asked-incident (suc (suc k)) h = absurd (omega arith)
 
 pub valid-needed : Statement AlikeOne All → ⊥
@@ -108,7 +109,7 @@ readRow = 21 ∷ 1 ∷ 16 ∷ 0 ∷ 0 ∷ 0 ∷ 0 ∷ 0 ∷ []
 
 asked-read : (s s′ : State) → Premise (eqb 1) (PrivateTo 1) (from s) (from s′) readRow readRow 1
 unfolding readRow after operationIn
-asked-read s s′ zero h = asked-same _ _ _ _ _ (λ e. omega arith)
+asked-read s s′ zero h = asked-same _ _ _ _ _ refl
 asked-read s s′ (suc k) h = absurd (omega arith)
 
 pub words-needed : Statement (λ s s′. Valid s × SameTables s s′ × SameSize s s′) All → ⊥
@@ -148,8 +149,8 @@ lastRows =
 
 asked-last : (s s′ : State) → Premise (eqb 1) (PrivateTo 1) (from s) (from s′) lastRows lastRows 2
 unfolding lastRows after operationIn
-asked-last s s′ zero h = asked-same _ _ _ _ _ (λ e. omega arith)
-asked-last s s′ (suc zero) h = asked-same _ _ _ _ _ (λ e. omega arith)
+asked-last s s′ zero h = asked-same _ _ _ _ _ refl
+asked-last s s′ (suc zero) h = asked-same _ _ _ _ _ refl
 asked-last s s′ (suc (suc k)) h = absurd (omega arith)
 
 pub size-needed : Statement (λ s s′. Valid s × SameTables s s′ × SameWords s s′) All → ⊥
@@ -166,17 +167,17 @@ quiet-kept (Refused refusal index) = refl
 
 -- they are near, whatever the tables, and no two values of one operation
 pub barrier-near : (members : ℕ → Bool) (Secret : Tables → ℕ → Type 0) (t : Tables) → Near members Secret t (effectIn t (operationIn barrier)) (effectIn t (operationIn addThird))
-unfolding operationIn control addVmControl decided
+unfolding operationIn control decided
 barrier-near members Secret t = rw (quiet-kept (addVmAnswer (t .known) 3)) alike
 
-same-number : {a b : Option Operation} → SameButValue a b → numberIn a ≡ numberIn b
-same-number equal = refl
-same-number cpu-value = refl
-same-number dma-value = refl
+-- the number of a row's operation
+abbrev numberIn : Option Operation → ℕ
+numberIn none = 0
+numberIn (some operation) = operationNumber operation
 
-pub barrier-unlike : SameButValue (operationIn barrier) (operationIn addThird) → ⊥
+pub barrier-unlike : withoutValueIn (operationIn barrier) ≡ withoutValueIn (operationIn addThird) → ⊥
 unfolding operationIn
-barrier-unlike shape = let z : _≡_ {A = ℕ} 25 1 = same-number shape in omega arith
+barrier-unlike shape = let z : _≡_ {A = ℕ} 25 1 = ap numberIn shape in omega arith
 
 barrierRows : List ℕ
 barrierRows =
@@ -199,8 +200,8 @@ shape-needed all =
     given : (k : ℕ) → k < 2 →
         NearBy (eqb 1) (after barrierRows k (from started) .state) (rowAt barrierRows k) (rowAt addRows k) ×
         SharesEqual (eqb 1) (after barrierRows k (from started) .state) (after addRows k (from started) .state) (rowAt barrierRows k)
-    given zero h = (barrier-near (eqb 1) (PrivateTo 1) (started .tables), no-share (eqb 1) started started barrier (λ e. omega arith))
-    given (suc zero) h = (alike, no-share (eqb 1) (after barrierRows 1 (from started) .state) (after addRows 1 (from started) .state) addThird (λ e. omega arith))
+    given zero h = (barrier-near (eqb 1) (PrivateTo 1) (started .tables), no-share (eqb 1) started started barrier refl)
+    given (suc zero) h = (alike, no-share (eqb 1) (after barrierRows 1 (from started) .state) (after addRows 1 (from started) .state) addThird refl)
     given (suc (suc k)) h = absurd (omega arith)
 
 -- ---- without `near`: VM 1 writes the value to page 0, which it has shared, and VM 2 maps it and reads it
@@ -223,11 +224,11 @@ may-write-lent = record { allowed = refl; writer = refl; reached = refl }
 
 asked-lent : Premise (eqb 1) AnyPage begun begun (lentRows 5) (lentRows 6) 5
 unfolding lentRows after operationIn
-asked-lent zero h = record { differ = record { shape = equal; near = alike }; shares-equal = λ left right page word e m o l. refl }
+asked-lent zero h = record { differ = record { shape = refl; near = alike }; shares-equal = λ left right page word e m o l. refl }
 asked-lent (suc zero) h = asked-write (eqb 1) AnyPage Cpu (after (lentRows 5) 1 begun .state) (after (lentRows 6) 1 begun .state) 0 16 0 0 5 6 may-write-lent tt
-asked-lent (suc (suc zero)) h = asked-same _ _ _ _ _ (λ e. omega arith)
-asked-lent (suc (suc (suc zero))) h = asked-same _ _ _ _ _ (λ e. omega arith)
-asked-lent (suc (suc (suc (suc zero)))) h = asked-same _ _ _ _ _ (λ e. omega arith)
+asked-lent (suc (suc zero)) h = asked-same _ _ _ _ _ refl
+asked-lent (suc (suc (suc zero))) h = asked-same _ _ _ _ _ refl
+asked-lent (suc (suc (suc (suc zero)))) h = asked-same _ _ _ _ _ refl
 asked-lent (suc (suc (suc (suc (suc k))))) h = absurd (omega arith)
 
 -- all that is asked, but that the page which VM 1 writes may be any
@@ -254,7 +255,7 @@ module _ (t : Tables) (v : ValidTables t) where
   reached none vm page z = absurd z
   reached (some operation) vm page z = good t v operation .reach vm page z
 
-pub writer-follows : Statement (λ s s′. Valid s × AlikeOne s s′) (λ s s′ r r′. SameButValue (operationIn r) (operationIn r′) × NearBy (λ who. true) s r r′ × SharesEqual (eqb 1) s s′ r)
+pub writer-follows : Statement (λ s s′. Valid s × AlikeOne s s′) (λ s s′ r r′. (withoutValueIn (operationIn r) ≡ withoutValueIn (operationIn r′)) × NearBy (λ who. true) s r r′ × SharesEqual (eqb 1) s s′ r)
 writer-follows s s′ (v, like) rows rows′ count given = with-all s s′ (v, like) rows rows′ count asked
   where
     asked : Premise (eqb 1) (PrivateTo 1) (from s) (from s′) rows rows′ count
@@ -277,12 +278,12 @@ shownRows value =
 
 -- the same row twice
 differ-same : (t : Tables) (ns : List ℕ) → Differ (eqb 1) (PrivateTo 1) t (operationIn ns) (operationIn ns)
-differ-same t ns = record { shape = equal; near = alike }
+differ-same t ns = record { shape = refl; near = alike }
 
 differ-shown : (k : ℕ) → k < 6 → Differ (eqb 1) (PrivateTo 1) (after (shownRows 5) k begun .state .tables) (operationIn (rowAt (shownRows 5) k)) (operationIn (rowAt (shownRows 6) k))
 unfolding shownRows after
 differ-shown zero h = differ-same _ _
-differ-shown (suc zero) h = differ-write (eqb 1) (PrivateTo 1) Cpu (sharing .tables) 0 16 0 0 5 6 may-write private
+differ-shown (suc zero) h = differ-write (eqb 1) (PrivateTo 1) Cpu (afterShare .tables) 0 16 0 0 5 6 may-write private
 differ-shown (suc (suc zero)) h = differ-same _ _
 differ-shown (suc (suc (suc zero))) h = differ-same _ _
 differ-shown (suc (suc (suc (suc zero)))) h = differ-same _ _

@@ -11,8 +11,6 @@ use lib.ListN.{getD}
 use borrow.Author.Tests.{ltb-true, not-false}
 use Rattle.numbers.specs.Limits.{VMS}
 use Rattle.numbers.specs.Packing.{leftOf, rightOf, filledOf, pageOf}
-use Rattle.numbers.specs.Meaning.{operationArguments}
-use Rattle.numbers.specs.declared.Operation.{Operation}
 use Rattle.numbers.specs.declared.Side.the-variants.{Cpu}
 use Rattle.table.specs.Scan.{any}
 use Rattle.table.specs.ScanLaws.{any-false}
@@ -22,8 +20,8 @@ use Rattle.model.specs.Views.{onPage}
 use Rattle.model.specs.EarlyLaws.{both}
 use Rattle.model.specs.Sequence.{operationIn, stepRow, rowAt, Progress, after}
 use Rattle.model.specs.Valid.{Valid}
-use Rattle.model.specs.Good.{holdsPage}
-use Rattle.model.specs.Secrecy.{PrivateTo, Private, effectIn, equal, alike, Seen, Asked, Premise, StayAlike}
+use Rattle.model.specs.Good.{holdsPage, Sharing}
+use Rattle.model.specs.Secrecy.{PrivateTo, Private, effectIn, alike, Seen, Asked, Premise, StayAlike}
 use Rattle.model.proofs.Computes.{computes}
 use Rattle.model.proofs.Worked.{Line, row, _⟼_, heardIn, answers, started}
 use Rattle.model.proofs.ViewLaws.{on-page}
@@ -156,25 +154,25 @@ within-first = record { member = refl; holder-ok = refl; page-ok = refl; held = 
 private-first : Private oneOrTwo (begunSet .state .tables) 0
 private-first = private-in 1 0 (begunSet .state .tables) (λ w h. begun-set-valid .tables .pairs .each w h .filled) within-first
 
--- the VM that a share is with
-abbrev rightIn : Option Operation → ℕ
-rightIn none = 0
-rightIn (some operation) = getD (operationArguments operation) 1 0
+-- the VM that a page is shared with
+abbrev rightShared : Option Sharing → ℕ
+rightShared none = 0
+rightShared (some shared) = shared .right
 
 -- of a share between two members nothing is asked
 asked-share : (s s′ : State) → Asked oneOrTwo (Private oneOrTwo) s s′ (5 ∷ 1 ∷ 2 ∷ 0 ∷ 0 ∷ 0 ∷ 0 ∷ 0 ∷ []) (5 ∷ 1 ∷ 2 ∷ 0 ∷ 0 ∷ 0 ∷ 0 ∷ 0 ∷ [])
 unfolding operationIn
 asked-share s s′ =
     record {
-      differ = record { shape = equal; near = alike };
-      shares-equal = λ left right page word e m outside h. let z : 2 ≡ right = ap rightIn (e .share) in absurd (true≢false (rw (← z) at outside));
+      differ = record { shape = refl; near = alike };
+      shares-equal = λ left right page word e m outside h. let z : 2 ≡ right = ap rightShared (e .share) in absurd (true≢false (rw (← z) at outside));
     }
 
 asked-first : (a b : ℕ) → Premise oneOrTwo (Private oneOrTwo) begunSet begunSet (rowsSet a) (rowsSet b) 3
 unfolding after operationIn
 asked-first a b zero h = asked-write oneOrTwo (Private oneOrTwo) Cpu (begunSet .state) (begunSet .state) 0 16 0 0 a b may-write-first private-first
 asked-first a b (suc zero) h = asked-share _ _
-asked-first a b (suc (suc zero)) h = asked-same _ _ _ _ _ (λ e. omega arith)
+asked-first a b (suc (suc zero)) h = asked-same _ _ _ _ _ refl
 asked-first a b (suc (suc (suc k))) h = absurd (omega arith)
 
 -- after the share, with VM 2 on the page; the tables are the same whatever was written, by the theorem up to here
@@ -212,9 +210,9 @@ asked-set a b zero h = asked-first a b 0 (omega arith)
 asked-set a b (suc zero) h = asked-first a b 1 (omega arith)
 asked-set a b (suc (suc zero)) h = asked-first a b 2 (omega arith)
 asked-set a b (suc (suc (suc zero))) h = asked-write oneOrTwo (Private oneOrTwo) Cpu (joined a) (joined b) 1 40 1 0 a b (rw (joined-tables a) may-write-joined) (joined-private a)
-asked-set a b (suc (suc (suc (suc zero)))) h = asked-same _ _ _ _ _ (λ e. omega arith)
-asked-set a b (suc (suc (suc (suc (suc zero))))) h = asked-same _ _ _ _ _ (λ e. omega arith)
-asked-set a b (suc (suc (suc (suc (suc (suc zero)))))) h = asked-same _ _ _ _ _ (λ e. omega arith)
+asked-set a b (suc (suc (suc (suc zero)))) h = asked-same _ _ _ _ _ refl
+asked-set a b (suc (suc (suc (suc (suc zero))))) h = asked-same _ _ _ _ _ refl
+asked-set a b (suc (suc (suc (suc (suc (suc zero)))))) h = asked-same _ _ _ _ _ refl
 asked-set a b (suc (suc (suc (suc (suc (suc (suc k))))))) h = absurd (omega arith)
 
 pub secrecy-holds-set : (a b : ℕ) → StayAlike oneOrTwo (Private oneOrTwo) begunSet begunSet (rowsSet a) (rowsSet b) 7

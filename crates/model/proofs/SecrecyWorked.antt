@@ -9,13 +9,14 @@ use native.Mathlib.Omega.{arith}
 use lib.Dec.{eqb, ltb, lit<}
 use lib.ListN.{getD, set, replicate}
 use borrow.Author.Tests.{ltb-true}
+use Rattle.numbers.specs.CaseLaws.{none-some}
 use Rattle.numbers.specs.Limits.{VMS, PAGE-WORDS, WRITE}
 use Rattle.numbers.specs.Packing.{entry, slotWord, mapWord, filledOf}
-use Rattle.numbers.specs.Meaning.{operationNumber, operationArguments}
 use Rattle.numbers.specs.declared.Answer.{Answer}
 use Rattle.numbers.specs.declared.Answer.the-variants.{Refused}
 use Rattle.numbers.specs.declared.Refusal.the-variants.{VmUnknown}
-use Rattle.numbers.specs.declared.Operation.{Operation}
+use Rattle.numbers.specs.declared.Operation.the-variants as op
+use Rattle.numbers.specs.declared.SideOperation.the-variants as sided
 use Rattle.numbers.specs.declared.Side.{Side}
 use Rattle.numbers.specs.declared.Side.the-variants.{Cpu, Dma}
 use Rattle.table.specs.Table.{Has}
@@ -25,12 +26,12 @@ use Rattle.model.specs.Effect.{decided, accepted, memoryIndex, wordIn, s
 use Rattle.model.specs.EarlyLaws.{never-both}
 use Rattle.model.specs.MemoryLaws.{store-elsewhere}
 use Rattle.model.specs.Ports.{vmOn}
-use Rattle.model.specs.Step.{writeControl, control, step}
-use Rattle.model.specs.Sequence.{operationIn, stepRow, Progress, after}
+use Rattle.model.specs.Step.{control, step}
+use Rattle.model.specs.Sequence.{guestPage, operationIn, stepRow, Progress, after}
 use Rattle.model.specs.Valid.{Valid}
-use Rattle.model.specs.Good.{holdsPage}
+use Rattle.model.specs.Good.{holdsPage, Sharing}
 use Rattle.model.specs.Access.{accessAnswer, accessPlace}
-use Rattle.model.specs.Secrecy.{PrivateTo, equal, cpu-value, dma-value, Shared, stop, other, Near, alike, stores, Differ, Alike, Asked, Premise, StayAlike}
+use Rattle.model.specs.Secrecy.{PrivateTo, answerIn, sharingIn, Shared, stop, other, Near, alike, stores, Differ, Alike, Asked, Premise, StayAlike}
 use Rattle.model.proofs.Computes.{computes}
 use Rattle.model.proofs.Worked.{Line, row, _⟼_, heardIn, answers, eightPages, lent, started}
 use Rattle.model.proofs.ViewLaws.{no-edge-on}
@@ -265,10 +266,6 @@ unfolding computes
 size-counts = refl
 
 -- ---- the theorem speaks of such runs: what it asks of a row, for any set of VMs and any reading of "private"
-abbrev pub numberIn : Option Operation → ℕ
-numberIn none = 0
-numberIn (some operation) = operationNumber operation
-
 -- the row that writes a value
 abbrev pub writeRow : Side → ℕ → ℕ → ℕ → ℕ → List ℕ
 writeRow Cpu port guest word value = 23 ∷ port ∷ guest ∷ word ∷ value ∷ 0 ∷ 0 ∷ 0 ∷ []
@@ -281,8 +278,8 @@ SharesEqual members a b ns =
     wordIn (a .memory) page word ≡ wordIn (b .memory) page word
 
 -- a row that shares nothing
-pub no-share : (members : ℕ → Bool) (a b : State) (ns : List ℕ) → (numberIn (operationIn ns) ≡ 5 → ⊥) → SharesEqual members a b ns
-no-share members a b ns n left right page word e = absurd (n (ap numberIn (e .share)))
+pub no-share : (members : ℕ → Bool) (a b : State) (ns : List ℕ) → sharingIn (operationIn ns) ≡ none → SharesEqual members a b ns
+no-share members a b ns n left right page word e = absurd (none-some (sym n ∙ e .share))
 
 -- a member on the port may write the word, and it lies in this page
 pub record MayWrite (members : ℕ → Bool) (side : Side) (t : Tables) (port guest word page : ℕ) : Type 0 where
@@ -293,7 +290,7 @@ pub record MayWrite (members : ℕ → Bool) (side : Side) (t : Tables) (port gu
 -- it changes no word of another page
 write-leaves : (members : ℕ → Bool) (side : Side) (s : State) (port guest word page value : ℕ) → MayWrite members side (s .tables) port guest word page → (page′ word′ : ℕ) →
     word < PAGE-WORDS → word′ < PAGE-WORDS → (page ≡ page′ → ⊥) → wordIn (stepRow s (writeRow side port guest word value) .state .memory) page′ word′ ≡ wordIn (s .memory) page′ word′
-unfolding stepRow operationIn step control writeControl decided apply stored
+unfolding stepRow operationIn step control decided apply stored
 write-leaves members Cpu s port guest word page value w page′ word′ h h′ n = rw (w .allowed) (store-elsewhere (s .memory) _ _ value page′ word′ h h′ (λ e. n (sym (w .reached) ∙ e)))
 write-leaves members Dma s port guest word page value w page′ word′ h h′ n = rw (w .allowed) (store-elsewhere (s .memory) _ _ value page′ word′ h h′ (λ e. n (sym (w .reached) ∙ e)))
 
@@ -303,20 +300,20 @@ itself members Secret s = record { tables = refl; size = refl; words = λ page w
 
 module _ (members : ℕ → Bool) (Secret : Tables → ℕ → Type 0) where
   -- of a row that is the same in both runs and shares nothing, nothing is asked
-  pub asked-same : (a b : State) (ns : List ℕ) → (numberIn (operationIn ns) ≡ 5 → ⊥) → Asked members Secret a b ns ns
-  asked-same a b ns n = record { differ = record { shape = equal; near = alike }; shares-equal = no-share members a b ns n }
+  pub asked-same : (a b : State) (ns : List ℕ) → sharingIn (operationIn ns) ≡ none → Asked members Secret a b ns ns
+  asked-same a b ns n = record { differ = record { shape = refl; near = alike }; shares-equal = no-share members a b ns n }
 
   -- two values that a member writes to a private page, by CPU or by DMA
   near-write : (side : Side) (t : Tables) (port guest word page a b : ℕ) → MayWrite members side t port guest word page → Secret t page →
-      Near members Secret t (writeControl side t port guest word a .effect) (writeControl side t port guest word b .effect)
-  unfolding writeControl decided
+      Near members Secret t (control t (op.On side (sided.WriteWord port (guestPage guest) word a)) .effect) (control t (op.On side (sided.WriteWord port (guestPage guest) word b)) .effect)
+  unfolding control decided
   near-write side t port guest word page a b w private = rw (w .allowed) (stores (other (w .writer) (rw (← w .reached) at private) stop))
 
   pub differ-write : (side : Side) (t : Tables) (port guest word page a b : ℕ) → MayWrite members side t port guest word page → Secret t page →
       Differ members Secret t (operationIn (writeRow side port guest word a)) (operationIn (writeRow side port guest word b))
-  unfolding operationIn control
-  differ-write Cpu t port guest word page a b w private = record { shape = cpu-value; near = near-write Cpu t port guest word page a b w private }
-  differ-write Dma t port guest word page a b w private = record { shape = dma-value; near = near-write Dma t port guest word page a b w private }
+  unfolding operationIn
+  differ-write Cpu t port guest word page a b w private = record { shape = refl; near = near-write Cpu t port guest word page a b w private }
+  differ-write Dma t port guest word page a b w private = record { shape = refl; near = near-write Dma t port guest word page a b w private }
 
   pub asked-write : (side : Side) (s s′ : State) (port guest word page a b : ℕ) → MayWrite members side (s .tables) port guest word page → Secret (s .tables) page →
       Asked members Secret s s′ (writeRow side port guest word a) (writeRow side port guest word b)
@@ -324,9 +321,9 @@ module _ (members : ℕ → Bool) (Secret : Tables → ℕ → Type 0) where
   asked-write side s s′ port guest word page a b w private =
       record { differ = differ-write side (s .tables) port guest word page a b w private; shares-equal = no-share members s s′ (writeRow side port guest word a) (unlike side) }
     where
-      unlike : (which : Side) → numberIn (operationIn (writeRow which port guest word a)) ≡ 5 → ⊥
-      unlike Cpu e = omega arith
-      unlike Dma e = omega arith
+      unlike : (which : Side) → sharingIn (operationIn (writeRow which port guest word a)) ≡ none
+      unlike Cpu = refl
+      unlike Dma = refl
 
 -- ---- states that rows lead to
 pub at-start : Valid started
@@ -372,27 +369,27 @@ rows value =
     []
 
 -- what stands when page 0 is written: it is VM 1's alone, and the write is accepted
-abbrev pub sharing : State
-sharing = stepRow (begun .state) (5 ∷ 1 ∷ 2 ∷ 1 ∷ 0 ∷ 0 ∷ 0 ∷ 0 ∷ []) .state
+abbrev pub afterShare : State
+afterShare = stepRow (begun .state) (5 ∷ 1 ∷ 2 ∷ 1 ∷ 0 ∷ 0 ∷ 0 ∷ 0 ∷ []) .state
 
-pub may-write : MayWrite (eqb 1) Cpu (sharing .tables) 0 16 0 0
+pub may-write : MayWrite (eqb 1) Cpu (afterShare .tables) 0 16 0 0
 unfolding computes
 may-write = record { allowed = refl; writer = refl; reached = refl }
 
-alone : Alone 1 0 (sharing .tables)
+alone : Alone 1 0 (afterShare .tables)
 unfolding computes
 alone = record { vm-ok = refl; page-ok = refl; held = refl; unshared = refl }
 
-pub private : PrivateTo 1 (sharing .tables) 0
-private = private-to 1 0 (sharing .tables) (λ w h. row-valid (begun .state) begun-valid _ .tables .pairs .each w h .filled) alone
+pub private : PrivateTo 1 (afterShare .tables) 0
+private = private-to 1 0 (afterShare .tables) (λ w h. row-valid (begun .state) begun-valid _ .tables .pairs .each w h .filled) alone
 
 pub asked : (a b : ℕ) → Premise (eqb 1) (PrivateTo 1) begun begun (rows a) (rows b) 5
 unfolding after operationIn
-asked a b zero h = record { differ = record { shape = equal; near = alike }; shares-equal = λ left right page word e m o l. refl }
-asked a b (suc zero) h = asked-write (eqb 1) (PrivateTo 1) Cpu sharing sharing 0 16 0 0 a b may-write private
-asked a b (suc (suc zero)) h = asked-same _ _ _ _ _ (λ e. omega arith)
-asked a b (suc (suc (suc zero))) h = asked-same _ _ _ _ _ (λ e. omega arith)
-asked a b (suc (suc (suc (suc zero)))) h = asked-same _ _ _ _ _ (λ e. omega arith)
+asked a b zero h = record { differ = record { shape = refl; near = alike }; shares-equal = λ left right page word e m o l. refl }
+asked a b (suc zero) h = asked-write (eqb 1) (PrivateTo 1) Cpu afterShare afterShare 0 16 0 0 a b may-write private
+asked a b (suc (suc zero)) h = asked-same _ _ _ _ _ refl
+asked a b (suc (suc (suc zero))) h = asked-same _ _ _ _ _ refl
+asked a b (suc (suc (suc (suc zero)))) h = asked-same _ _ _ _ _ refl
 asked a b (suc (suc (suc (suc (suc k))))) h = absurd (omega arith)
 
 -- so it holds of them, whichever two values VM 1 writes
@@ -419,14 +416,10 @@ alone-late = record { vm-ok = refl; page-ok = refl; held = refl; unshared = refl
 private-late : PrivateTo 1 (begun .state .tables) 1
 private-late = private-to 1 1 (begun .state .tables) (λ w l. begun-valid .tables .pairs .each w l .filled) alone-late
 
--- what a row of an operation is answered from these tables; the page that a share is of
-abbrev answerIn : Tables → Option Operation → Answer
-answerIn t none = accepted
-answerIn t (some operation) = control t operation .answer
-
-abbrev pageIn : Option Operation → ℕ
-pageIn none = 0
-pageIn (some operation) = getD (operationArguments operation) 2 0
+-- the page that is shared
+abbrev pageShared : Option Sharing → ℕ
+pageShared none = 0
+pageShared (some shared) = shared .page
 
 -- of page 0 the write changes no word
 stays-late : (value word : ℕ) → word < PAGE-WORDS → wordIn (stepRow (begun .state) (writeRow Cpu 0 17 0 value) .state .memory) 0 word ≡ wordIn (begun .state .memory) 0 word
@@ -437,8 +430,8 @@ unfolding after operationIn
 asked-early a b zero h = asked-write (eqb 1) (PrivateTo 1) Cpu (begun .state) (begun .state) 0 17 0 1 a b may-write-late private-late
 asked-early a b (suc zero) h =
     record {
-      differ = record { shape = equal; near = alike };
-      shares-equal = λ left right page word e m o l. let z : 0 ≡ page = ap pageIn (e .share) in rw (← z) (stays-late a word l ∙ sym (stays-late b word l));
+      differ = record { shape = refl; near = alike };
+      shares-equal = λ left right page word e m o l. let z : 0 ≡ page = ap pageShared (e .share) in rw (← z) (stays-late a word l ∙ sym (stays-late b word l));
     }
 asked-early a b (suc (suc k)) h = absurd (omega arith)
 
@@ -457,9 +450,9 @@ asked-late a b zero h = asked-early a b 0 (omega arith)
 asked-late a b (suc zero) h = asked-early a b 1 (omega arith)
 asked-late a b (suc (suc zero)) h =
     record {
-      differ = record { shape = equal; near = alike };
+      differ = record { shape = refl; near = alike };
       shares-equal = λ left right page word e m o l.
-          never-both (sym refused-late ∙ ap (λ (t : Tables). answerIn t (operationIn (5 ∷ 1 ∷ 3 ∷ 1 ∷ 0 ∷ 0 ∷ 0 ∷ 0 ∷ []))) (sym (late-tables a)) ∙ ap (answerIn (after (lateRows a) 2 begun .state .tables)) (e .share) ∙ e .agreed);
+          never-both (sym refused-late ∙ ap (λ (t : Tables). answerIn t (operationIn (5 ∷ 1 ∷ 3 ∷ 1 ∷ 0 ∷ 0 ∷ 0 ∷ 0 ∷ []))) (sym (late-tables a)) ∙ e .agreed);
     }
 asked-late a b (suc (suc (suc k))) h = absurd (omega arith)
 
@@ -504,13 +497,13 @@ private-dma = private-to 1 0 (begunDma .state .tables) (λ w h. begun-dma-valid 
 pub asked-dma : (a b : ℕ) → Premise (eqb 1) (PrivateTo 1) begunDma begunDma (rowsDma a) (rowsDma b) 8
 unfolding after operationIn
 asked-dma a b zero h = asked-write (eqb 1) (PrivateTo 1) Dma (begunDma .state) (begunDma .state) 0 16 0 0 a b may-write-dma private-dma
-asked-dma a b (suc zero) h = asked-same _ _ _ _ _ (λ e. omega arith)
-asked-dma a b (suc (suc zero)) h = asked-same _ _ _ _ _ (λ e. omega arith)
-asked-dma a b (suc (suc (suc zero))) h = asked-same _ _ _ _ _ (λ e. omega arith)
-asked-dma a b (suc (suc (suc (suc zero)))) h = asked-same _ _ _ _ _ (λ e. omega arith)
-asked-dma a b (suc (suc (suc (suc (suc zero))))) h = asked-same _ _ _ _ _ (λ e. omega arith)
-asked-dma a b (suc (suc (suc (suc (suc (suc zero)))))) h = asked-same _ _ _ _ _ (λ e. omega arith)
-asked-dma a b (suc (suc (suc (suc (suc (suc (suc zero))))))) h = asked-same _ _ _ _ _ (λ e. omega arith)
+asked-dma a b (suc zero) h = asked-same _ _ _ _ _ refl
+asked-dma a b (suc (suc zero)) h = asked-same _ _ _ _ _ refl
+asked-dma a b (suc (suc (suc zero))) h = asked-same _ _ _ _ _ refl
+asked-dma a b (suc (suc (suc (suc zero)))) h = asked-same _ _ _ _ _ refl
+asked-dma a b (suc (suc (suc (suc (suc zero))))) h = asked-same _ _ _ _ _ refl
+asked-dma a b (suc (suc (suc (suc (suc (suc zero)))))) h = asked-same _ _ _ _ _ refl
+asked-dma a b (suc (suc (suc (suc (suc (suc (suc zero))))))) h = asked-same _ _ _ _ _ refl
 asked-dma a b (suc (suc (suc (suc (suc (suc (suc (suc k)))))))) h = absurd (omega arith)
 
 pub secrecy-holds-dma : (a b : ℕ) → StayAlike (eqb 1) (PrivateTo 1) begunDma begunDma (rowsDma a) (rowsDma b) 8

@@ -5,6 +5,7 @@ use Prim.Native.Nat.{ℕ, _<_}
 use mathlib.Core.Bool.{Bool, true, false, true≢false}
 use mathlib.Core.List.{List, [], _∷_}
 use mathlib.Core.Logic.{_⊎_, inl, inr, ⊎-elim}
+use mathlib.Core.Option.{some}
 use mathlib.Core.Path.{_≡_, refl, sym, _∙_}
 use lib.ListN.{length, length-set, getD}
 use Rattle.numbers.specs.CaseLaws.{cases, equal}
@@ -13,15 +14,13 @@ use Rattle.numbers.specs.Packing.{leftOf, rightOf, pageOf}
 use Rattle.numbers.specs.declared.Answer.{Answer}
 use Rattle.numbers.specs.declared.Answer.the-variants.{Accepted, Refused}
 use Rattle.numbers.specs.declared.Operation.{Operation}
-use Rattle.numbers.specs.declared.Operation.the-variants.{SharePage}
 use Rattle.table.specs.Table.{Has}
 use Rattle.model.specs.State.{Tables}
 use Rattle.model.specs.Effect.{wordIn, Place, Store, Effect, reads, writes, clears, stored, loaded, apply, Control, accepted}
-use Rattle.model.specs.Sequence.{vmId, physPage}
 use Rattle.model.specs.Step.{answerWith}
 use Rattle.model.specs.KnownLaws.{knows-below}
 use Rattle.model.specs.Valid.{ValidTables}
-use Rattle.model.specs.Good.{holdsPage, PlaceOn, PageIn, Wrote, Way, own, lent, span, Reaches, Made, Good}
+use Rattle.model.specs.Good.{holdsPage, PlaceOn, PageIn, Wrote, Way, own, lent, span, Reaches, sharing, Made, Good}
 use Rattle.model.specs.MemoryLaws.{store-elsewhere, store-both}
 use Rattle.model.specs.Secrecy.{Private, NearStores, stop, same, other, Near, alike, stores, Seen}
 use Rattle.model.proofs.ViewLaws.{shares-lends}
@@ -101,7 +100,7 @@ module _ (members : ℕ → Bool) (t : Tables) (v : ValidTables t) where
       same-answer (clears pages) s n x = refl
 
       -- a page that was not cleared stays private, unless a member shares it with a VM outside
-      module _ (shown : (left right page word : ℕ) → operation ≡ SharePage (vmId left) (vmId right) (physPage page) → answer ≡ accepted → members left ≡ true → members right ≡ false → word < PAGE-WORDS → wordIn a page word ≡ wordIn b page word) where
+      module _ (shown : (left right page word : ℕ) → sharing operation ≡ some (record { left = left; right = right; page = page }) → answer ≡ accepted → members left ≡ true → members right ≡ false → word < PAGE-WORDS → wordIn a page word ≡ wordIn b page word) where
         stays-private : (pages : List ℕ) → SoundWith (clears pages) → (page word : ℕ) → word < PAGE-WORDS → (wordIn a page word ≡ wordIn b page word → ⊥) → (PageIn page pages → ⊥) → Private members t page → Private members new page
         stays-private pages s page word h differ uncleared p =
             record {

@@ -6,8 +6,8 @@ ghost use Rattle.operate.specs.Outcome.{outcome, Fit, registersOf, withR
 use model::Machine;
 use numbers::Answer;
 use numbers::Operation;
-use numbers::Side;
 use numbers::Region;
+use numbers::Side;
 
 pub struct Done {
     pub answer: Answer,

@@ -12,9 +12,9 @@ use crate::searches::entry_in;
 use crate::searches::key_in;
 use crate::searches::page_in;
 use numbers::PhysPage;
+use numbers::Region;
 use numbers::Side;
 use numbers::VmId;
-use numbers::Region;
 
 // ---- Insertion.
 

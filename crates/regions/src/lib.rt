@@ -9,11 +9,11 @@ ghost use Rattle.model.specs.Regions.{regionEarly, insertAnswer, insertSets, in
 use numbers::ACCESSES;
 use numbers::Answer;
 use numbers::Refusal;
+use numbers::Region;
 use numbers::Side;
 use numbers::VMS;
 use numbers::accept;
 use numbers::refuse;
-use numbers::Region;
 use units::Unit;
 
 mod edits; // edits.rt: what an accepted operation changes

@@ -9,8 +9,8 @@ ghost use Rattle.model.specs.Regions.{pageIn, keyIn, regionEntry, notFree, pres
 ghost use Rattle.regions.specs.RegionLaws.{Placed, Binding};
 use numbers::GuestPage;
 use numbers::PhysPage;
-use numbers::Side;
 use numbers::Region;
+use numbers::Side;
 
 // ---- The k-th page of a region, its key in a map, and the entry that a map has for it.
 

@@ -20,6 +20,7 @@ use numbers::PAGES;
 use numbers::PAIRS;
 use numbers::PhysPage;
 use numbers::Refusal;
+use numbers::Region;
 use numbers::SET_WORDS;
 use numbers::SETS;
 use numbers::SLOTS;
@@ -27,7 +28,6 @@ use numbers::UNITS;
 use numbers::VMS;
 use numbers::VmId;
 use units::Mark;
-use numbers::Region;
 use units::Unit;
 
 // ---- The units that start is told.
