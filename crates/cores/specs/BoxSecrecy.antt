@@ -29,7 +29,7 @@ rowsFrom wordsOf b room = record { state = stateIn wordsOf b; room = room }
 
 -- the row, in these tables, is a member's read of a private page; a member's write of the word
 abbrev pub SeenIn : (ℕ → Bool) → (Tables → ℕ → Type 0) → Tables → List ℕ → Type 0
-SeenIn members Secret t row = Seen members Secret t (effectIn t (operationIn row))
+SeenIn members Secret t row = Seen members Secret t (effectIn t (operationIn row)) 0
 
 pub record WrittenBy (members : ℕ → Bool) (t : Tables) (row : List ℕ) (page word : ℕ) : Type 0 where
   pub vm : ℕ

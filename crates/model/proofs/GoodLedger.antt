@@ -211,7 +211,7 @@ reclaim-good t v vm page e =
     let p = reclaim-passed t (vm .0) (page .0) e in
     record {
       valid = reclaim-valid t v (vm .0) (page .0) p;
-      reach = λ other page′ h. absurd h;
+      reach = λ bit other page′ h. absurd h;
       still = λ h. absurd h;
       wiped = λ other page′ o. reclaim-wiped t v (vm .0) (page .0) p other page′;
       free = reclaim-free t v (vm .0) (page .0) p;

@@ -189,7 +189,7 @@ remove-good side t v region e =
     let same = sets-with side t r (removeSets side (t .sets) region) in
     record {
       valid = remove-valid side t v region p;
-      reach = λ vm page h. absurd h;
+      reach = λ bit vm page h. absurd h;
       still = λ h. absurd h;
       wiped = λ vm page l b h n. remove-wiped side t v region p vm page b h (rw same at n);
       free = λ vm page l b c h. remove-free side t v region p vm page l b c (rw same at h);

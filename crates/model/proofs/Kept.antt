@@ -73,10 +73,10 @@ row-valid s v row = go (operationIn row)
     go (some operation) = step-valid s v operation
 
 -- ---- every word of a page that an operation reads or writes is one of the memory's
-pub touched-inside : (s : State) → Valid s → (operation : Operation) (vm page word : ℕ) → Touches (control (s .tables) operation .effect) vm page → word < PAGE-WORDS →
+pub touched-inside : (s : State) → Valid s → (operation : Operation) (bit vm page word : ℕ) → Touches bit (control (s .tables) operation .effect) vm page → word < PAGE-WORDS →
     memoryIndex page word < length (s .memory)
-touched-inside s v operation vm page word touches h =
-    let below : page < s .tables .setup .pages = good (s .tables) (v .tables) operation .reach vm page touches .page-ok in
+touched-inside s v operation bit vm page word touches h =
+    let below : page < s .tables .setup .pages = good (s .tables) (v .tables) operation .reach bit vm page touches .may .page-ok in
     omega (arith, v .memory)
 
 -- ---- many rows

@@ -22,7 +22,7 @@ pub quiet-good : (t : Tables) (operation : Operation) (answer : Answer) (new : T
 quiet-good t operation answer new v stays edges =
     record {
       valid = v;
-      reach = λ vm page h. absurd h;
+      reach = λ bit vm page h. absurd h;
       still = λ h. absurd h;
       wiped = λ vm page l b h n. absurd (true≢false (sym (stays vm page l b h) ∙ n));
       free = λ vm page l b h c. absurd h;

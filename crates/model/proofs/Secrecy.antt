@@ -1,7 +1,7 @@
 -- Demand 3 (docs/MACHINE.md, 12), for a set of VMs and for one: one row, a sequence, and what changes a private page.
 use Prim.Native.Nat.{ℕ, zero, suc, _≤_, _<_}
 use mathlib.Core.Bool.{Bool, true, false}
-use mathlib.Core.List.{List}
+use mathlib.Core.List.{List, [], _∷_}
 use mathlib.Core.Logic.{_⊎_, inl, inr, ⊎-elim}
 use mathlib.Core.Option.{Option, none, some}
 use mathlib.Core.Path.{_≡_, refl, sym, ap, subst, _∙_}
@@ -27,11 +27,11 @@ use Rattle.model.specs.Valid.{ValidTables, Valid}
 use Rattle.model.specs.MemoryLaws.{length-applied}
 use Rattle.model.specs.ShapeLaws.{control-shape}
 use Rattle.model.specs.Good.{PlaceOn, Wrote}
-use Rattle.model.specs.Secrecy.{PrivateTo, Private, effectIn, sideWithoutValue, withoutValue, withoutValueIn, Shared, withoutWord, NearStores, stop, same, other, Near, alike, stores, Seen, Alike, SameAnswer, Asked, Premise, StayAlike}
+use Rattle.model.specs.Secrecy.{PrivateTo, Private, effectIn, sideWithoutValue, withoutValue, withoutValueIn, Shared, withoutWord, NearStores, stop, same, other, Near, alike, stores, SecretAt, Seen, SameRead, Alike, SameAnswer, Asked, Premise, StayAlike}
 use Rattle.model.proofs.Answers.{after-next}
 use Rattle.model.proofs.Kept.{good, row-valid, after-valid}
 use Rattle.model.proofs.EffectLaws.{inside, stored-over}
-use Rattle.model.proofs.Secret.{Sound, only-own, no-outsider, same-answer, same-words}
+use Rattle.model.proofs.Secret.{Sound, only-own, no-outsider, same-read, same-answer, same-words}
 
 sound : (t : Tables) → ValidTables t → (operation : Operation) → Sound t operation (control t operation)
 sound t v operation = record { good = good t v operation; inside = inside t operation; setup = control-shape t operation .setup }
@@ -124,8 +124,9 @@ module _ (members : ℕ → Bool) (Secret : Tables → ℕ → Type 0) where
   abbrev pub ReadsNoSecret : Tables → Effect → Type 0
   ReadsNoSecret t effect = (vm : ℕ) (places : List Place) → effect ≡ reads vm places → members vm ≡ true → (page : ℕ) → PlaceOn page places → Secret t page → ⊥
 
-  unseen : (t : Tables) (effect : Effect) → ReadsNoSecret t effect → Seen members Secret t effect → ⊥
-  unseen t (reads vm places) n (m, (page, on, x)) = n vm places refl m page on x
+  unseen : (t : Tables) (effect : Effect) → ReadsNoSecret t effect → Seen members Secret t effect 0 → ⊥
+  unseen t (reads vm (x ∷ xs)) n (m, secret) = n vm (x ∷ xs) refl m (x .page) (inl refl) secret
+  unseen t (reads vm []) n (m, z) = z
   unseen t (writes vm xs) n z = z
   unseen t (clears pages) n z = z
 
@@ -195,6 +196,16 @@ module _ (members : ℕ → Bool) where
       subst (λ (t : Tables). Alike members (Private members) s (record { tables = t; memory = s′ .memory }) → BothAlike (s .tables) (operationIn row) (stepRow s row) (stepRow (record { tables = t; memory = s′ .memory }) row′))
       (like .tables) (λ l. known-alike (s .tables) (v .tables) (s .memory) (s′ .memory) l (operationIn row) (operationIn row′) (asked .differ .shape) (asked .differ .near) (asked .shares-equal)) like
 
+  -- what a row reads, place by place
+  pub secret-read : (s s′ : State) (row : List ℕ) → Valid s → Alike members (Private members) s s′ → SameRead members (Private members) (s .tables) (effectIn (s .tables) (operationIn row)) (s .memory) (s′ .memory)
+  secret-read s s′ row v like = go (operationIn row)
+    where
+      go : (found : Option Operation) → SameRead members (Private members) (s .tables) (effectIn (s .tables) found) (s .memory) (s′ .memory)
+      go none k n = refl
+      go (some x) k n =
+          let c = control (s .tables) x in
+          same-read members (s .tables) (v .tables) x (c .answer) (c .tables) (s .memory) (s′ .memory) (like .words) (c .effect) (sound (s .tables) (v .tables) x) k n
+
   -- ---- a sequence, after every row
   pub secrecy : (p q : Progress) (rows rows′ : List ℕ) (count : ℕ) → Valid (p .state) → Alike members (Private members) (p .state) (q .state) →
       Premise members (Private members) p q rows rows′ count → StayAlike members (Private members) p q rows rows′ count
@@ -260,16 +271,21 @@ module _ (members : ℕ → Bool) (P Q : Tables → ℕ → Type 0) (gives : (t 
   near-as t v alike = alike
   near-as t v (stores {vm = vm} near) = stores (stores-as t v vm near)
 
-  seen-as : (t : Tables) → ValidTables t → (effect : Effect) → Seen members P t effect → Seen members Q t effect
-  seen-as t v (reads vm places) (m, (page, on, x)) = (m, (page, on, gives t v page x))
-  seen-as t v (writes vm xs) z = z
-  seen-as t v (clears pages) z = z
+  secret-as : (t : Tables) → ValidTables t → (places : List Place) (k : ℕ) → SecretAt members P t places k → SecretAt members Q t places k
+  secret-as t v [] k z = z
+  secret-as t v (x ∷ xs) zero secret = gives t v (x .page) secret
+  secret-as t v (x ∷ xs) (suc k) secret = secret-as t v xs k secret
+
+  seen-as : (t : Tables) → ValidTables t → (effect : Effect) (k : ℕ) → Seen members P t effect k → Seen members Q t effect k
+  seen-as t v (reads vm places) k (m, secret) = (m, secret-as t v places k secret)
+  seen-as t v (writes vm xs) k z = z
+  seen-as t v (clears pages) k z = z
 
   asked-as : (s s′ : State) (row row′ : List ℕ) → Valid s → Asked members P s s′ row row′ → Asked members Q s s′ row row′
   asked-as s s′ row row′ v a = record { differ = record { shape = a .differ .shape; near = near-as (s .tables) (v .tables) (a .differ .near) }; shares-equal = a .shares-equal }
 
   answer-as : (t : Tables) → ValidTables t → (found : Option Operation) (x y : Answer) → SameAnswer members P t found x y → SameAnswer members Q t found x y
-  answer-as t v found x y a = record { but-word = a .but-word; whole = λ n. a .whole (λ seen. n (seen-as t v (effectIn t found) seen)) }
+  answer-as t v found x y a = record { but-word = a .but-word; whole = λ n. a .whole (λ seen. n (seen-as t v (effectIn t found) 0 seen)) }
 
   premise-as : (p q : Progress) (rows rows′ : List ℕ) (count : ℕ) → Valid (p .state) → Premise members P p q rows rows′ count → Premise members Q p q rows rows′ count
   premise-as p q rows rows′ count v asked k h = asked-as _ _ _ _ (after-valid rows k p v) (asked k h)

@@ -53,7 +53,7 @@ module _ (members : ℕ → Bool) (Secret : Tables → ℕ → Type 0) where
     pub numbers : result .answer ≡ accepted → (k i : ℕ) → k < rowCount rows → i < 3 →
         getD (result .progress .room) (k * ANSWER-NUMBERS + i) 0 ≡ getD (result′ .progress .room) (k * ANSWER-NUMBERS + i) 0
     pub words : result .answer ≡ accepted → (k i : ℕ) → k < rowCount rows → i < ANSWER-NUMBERS →
-        (Seen members Secret (after rows k (begun s room) .state .tables) (effectIn (after rows k (begun s room) .state .tables) (operationIn (rowAt rows k))) → ⊥) →
+        (Seen members Secret (after rows k (begun s room) .state .tables) (effectIn (after rows k (begun s room) .state .tables) (operationIn (rowAt rows k))) 0 → ⊥) →
         getD (result .progress .room) (k * ANSWER-NUMBERS + i) 0 ≡ getD (result′ .progress .room) (k * ANSWER-NUMBERS + i) 0
     -- a number of the rooms that is no answer's is equal where it was
     pub rest : (j : ℕ) → (result .answer ≡ accepted → rowCount rows * ANSWER-NUMBERS ≤ j) → getD room j 0 ≡ getD room′ j 0 → getD (result .progress .room) j 0 ≡ getD (result′ .progress .room) j 0

@@ -10,7 +10,7 @@ use mathlib.Core.Path.{_≡_, refl, sym, ap, _∙_}
 use native.Mathlib.Omega.{arith}
 use lib.Dec.{eqb, lit<}
 use lib.ListN.{length, getD, replicate, length-set, length-replicate}
-use Rattle.numbers.specs.Limits.{PAGE-WORDS}
+use Rattle.numbers.specs.Limits.{PAGE-WORDS, WRITE}
 use Rattle.numbers.specs.declared.Answer.{Answer}
 use Rattle.numbers.specs.declared.Answer.the-variants.{Accepted, Refused}
 use Rattle.numbers.specs.Meaning.{operationNumber}
@@ -23,7 +23,7 @@ use Rattle.model.specs.Ledger.{addVmAnswer}
 use Rattle.model.specs.Step.{control}
 use Rattle.model.specs.Sequence.{operationIn, rowAt, after}
 use Rattle.model.specs.Valid.{ValidTables, Valid}
-use Rattle.model.specs.Good.{StoreOn, Touches, Reaches}
+use Rattle.model.specs.Good.{StoreOn, Touches, Reaches, MayReach}
 use Rattle.model.specs.Secrecy.{PrivateTo, Private, effectIn, withoutValueIn, NearStores, stop, same, other, Near, alike, stores, Differ, Alike, Asked, Premise, StayAlike}
 use Rattle.model.proofs.Computes.{computes}
 use Rattle.model.proofs.Worked.{started}
@@ -240,20 +240,20 @@ near-needed all =
 
 -- that the writer is VM 1 need not be asked: no other VM reaches a page private to it
 module _ (t : Tables) (v : ValidTables t) where
-  own-stores : (vm : ℕ) {xs ys : List Store} → ((page : ℕ) → StoreOn page xs → Reaches t vm page) → NearStores (λ who. true) (PrivateTo 1) t vm xs ys → NearStores (eqb 1) (PrivateTo 1) t vm xs ys
+  own-stores : (vm : ℕ) {xs ys : List Store} → ((page : ℕ) → StoreOn page xs → MayReach t vm page) → NearStores (λ who. true) (PrivateTo 1) t vm xs ys → NearStores (eqb 1) (PrivateTo 1) t vm xs ys
   own-stores vm r stop = stop
   own-stores vm r (same near) = same (own-stores vm (λ page o. r page (inr o)) near)
   own-stores vm r (other {place = place} m p near) =
       let set : Private (eqb 1) t (place .page) = record { holder = 1; member = refl; holder-ok = p .vm-ok; page-ok = p .page-ok; held = p .held; inside = λ w h on. absurd (p .unshared w h on) } in
       other (confined (eqb 1) t v vm (place .page) set (r (place .page) (inl refl))) p (own-stores vm (λ page o. r page (inr o)) near)
 
-  own-effect : {effect effect′ : Effect} → ((vm page : ℕ) → Touches effect vm page → Reaches t vm page) → Near (λ who. true) (PrivateTo 1) t effect effect′ → Near (eqb 1) (PrivateTo 1) t effect effect′
+  own-effect : {effect effect′ : Effect} → ((bit vm page : ℕ) → Touches bit effect vm page → Reaches bit t vm page) → Near (λ who. true) (PrivateTo 1) t effect effect′ → Near (eqb 1) (PrivateTo 1) t effect effect′
   own-effect r alike = alike
-  own-effect r (stores {vm = vm} near) = stores (own-stores vm (λ page o. r vm page (refl, o)) near)
+  own-effect r (stores {vm = vm} near) = stores (own-stores vm (λ page o. r WRITE vm page (refl, refl, o) .may) near)
 
-  reached : (found : Option Operation) (vm page : ℕ) → Touches (effectIn t found) vm page → Reaches t vm page
-  reached none vm page z = absurd z
-  reached (some operation) vm page z = good t v operation .reach vm page z
+  reached : (found : Option Operation) (bit vm page : ℕ) → Touches bit (effectIn t found) vm page → Reaches bit t vm page
+  reached none bit vm page z = absurd z
+  reached (some operation) bit vm page z = good t v operation .reach bit vm page z
 
 pub writer-follows : Statement (λ s s′. Valid s × AlikeOne s s′) (λ s s′ r r′. (withoutValueIn (operationIn r) ≡ withoutValueIn (operationIn r′)) × NearBy (λ who. true) s r r′ × SharesEqual (eqb 1) s s′ r)
 writer-follows s s′ (v, like) rows rows′ count given = with-all s s′ (v, like) rows rows′ count asked

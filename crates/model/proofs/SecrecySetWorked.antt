@@ -220,7 +220,7 @@ secrecy-holds-set a b =
     secrecy oneOrTwo begunSet begunSet (rowsSet a) (rowsSet b) 7 begun-set-valid (itself oneOrTwo (Private oneOrTwo) (begunSet .state)) (asked-set a b)
 
 -- so the read of VM 3 is answered the same, whichever two values the members write
-not-seen : Seen oneOrTwo (Private oneOrTwo) (after (rowsSet 0) 6 begunSet .state .tables) (effectIn (after (rowsSet 0) 6 begunSet .state .tables) (operationIn (rowAt (rowsSet 0) 6))) → ⊥
+not-seen : Seen oneOrTwo (Private oneOrTwo) (after (rowsSet 0) 6 begunSet .state .tables) (effectIn (after (rowsSet 0) 6 begunSet .state .tables) (operationIn (rowAt (rowsSet 0) 6))) 0 → ⊥
 unfolding computes
 not-seen seen = true≢false (sym (seen .0))
 

@@ -19,7 +19,7 @@ use Rattle.model.specs.UpstreamStep.{MemReadStep, MemWriteStep}
 use Rattle.model.specs.UpstreamRun.{addressIn, stop}
 use Rattle.model.proofs.OneRoute.{route-of}
 use Rattle.model.proofs.EffectLaws.{accepted-word}
-use Rattle.model.proofs.GoodAccess.{access-passed, reached}
+use Rattle.model.proofs.GoodAccess.{access-passed, may-reach}
 use Rattle.model.proofs.UpstreamFollows.{same-software, same-hardware, hardware-once, AcceptedFollows}
 use Rattle.model.proofs.UpstreamMemory.{memory-only, word-backed, write-seen}
 use Rattle.model.proofs.UpstreamRoutes.{with-own}
@@ -31,7 +31,7 @@ module _ (s : State) (valid : Valid s) where
       addressIn (route side (s .tables)) port guest word < length (s .memory)
   backed side bit port guest word e =
       let r = route side (s .tables) in
-      let p = reached side (s .tables) r (route-of side (s .tables) (valid .tables)) port guest (access-passed (r .ports) (r .cache) (r .walker) bit port guest word e) .page-ok in
+      let p = may-reach side (s .tables) (route-of side (s .tables) (valid .tables)) port guest (access-passed (r .ports) (r .cache) (r .walker) bit port guest word e) .page-ok in
       let w = accepted-word (r .ports) (r .cache) (r .walker) bit port guest word e in
       omega (arith, valid .memory)
 

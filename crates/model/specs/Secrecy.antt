@@ -1,11 +1,11 @@
 -- Demand 3 (docs/MACHINE.md, 12): two runs that differ only in the private words of a set of VMs stay equal everywhere else.
 -- Over any reading of "private", since one VM's and a set's are two readings of it.
-use Prim.Native.Nat.{ℕ, _≤_, _<_}
+use Prim.Native.Nat.{ℕ, zero, suc, _≤_, _<_}
 use mathlib.Core.Bool.{Bool, true, false}
 use mathlib.Core.List.{List, [], _∷_}
 use mathlib.Core.Option.{Option, none, some}
 use mathlib.Core.Path.{_≡_}
-use lib.ListN.{length}
+use lib.ListN.{length, getD}
 use Rattle.numbers.specs.Limits.{VMS, PAGE-WORDS}
 use Rattle.numbers.specs.Packing.{leftOf, rightOf, pageOf}
 use Rattle.numbers.specs.declared.Answer.{Answer}
@@ -17,10 +17,10 @@ use Rattle.numbers.specs.declared.Operation.{Operation}
 use Rattle.numbers.specs.declared.Operation.the-variants as op
 use Rattle.table.specs.Table.{Has}
 use Rattle.model.specs.State.{Tables, State}
-use Rattle.model.specs.Effect.{Place, Store, Effect, reads, writes, clears, quiet, wordIn, accepted, refused}
+use Rattle.model.specs.Effect.{Place, Store, Effect, reads, writes, clears, quiet, wordIn, loaded, accepted, refused}
 use Rattle.model.specs.Step.{control}
 use Rattle.model.specs.Sequence.{operationIn, stepRow, rowAt, Progress, after}
-use Rattle.model.specs.Good.{holdsPage, PlaceOn, Sharing, sharing}
+use Rattle.model.specs.Good.{holdsPage, Sharing, sharing}
 
 -- ---- private pages
 -- to one VM: it holds the page, and no edge names it
@@ -85,6 +85,12 @@ pub record Shared (t : Tables) (operation : Option Operation) (left right page :
   pub share : sharingIn operation ≡ some (record { left = left; right = right; page = page })
   pub agreed : answerIn t operation ≡ accepted
 
+-- the words that an effect reads, place by place
+abbrev pub wordsRead : Effect → List ℕ → List ℕ
+wordsRead (reads vm places) memory = loaded places memory
+wordsRead (writes vm stores) memory = []
+wordsRead (clears pages) memory = []
+
 -- the answer but for the word that was read
 abbrev pub withoutWord : Answer → Answer
 withoutWord (Accepted dropped word) = Accepted dropped 0
@@ -108,11 +114,17 @@ module _ (members : ℕ → Bool) (Secret : Tables → ℕ → Type 0) where
     pub shape : withoutValueIn a ≡ withoutValueIn b
     pub near : Near t (effectIn t a) (effectIn t b)
 
-  -- a member reads a private page
-  abbrev pub Seen : Tables → Effect → Type 0
-  Seen t (reads vm places) = (members vm ≡ true) × ((page : ℕ) × PlaceOn page places × Secret t page)
-  Seen t (writes vm xs) = ⊥
-  Seen t (clears pages) = ⊥
+  -- of what is read, place k lies in a private page
+  abbrev pub SecretAt : Tables → List Place → ℕ → Type 0
+  SecretAt t [] k = ⊥
+  SecretAt t (x ∷ xs) zero = Secret t (x .page)
+  SecretAt t (x ∷ xs) (suc k) = SecretAt t xs k
+
+  -- and a member reads it there
+  abbrev pub Seen : Tables → Effect → ℕ → Type 0
+  Seen t (reads vm places) k = (members vm ≡ true) × SecretAt t places k
+  Seen t (writes vm xs) k = ⊥
+  Seen t (clears pages) k = ⊥
 
   -- two states equal but for words in private pages
   pub record Alike (a b : State) : Type 0 where
@@ -120,10 +132,14 @@ module _ (members : ℕ → Bool) (Secret : Tables → ℕ → Type 0) where
     pub size : length (a .memory) ≡ length (b .memory)
     pub words : (page word : ℕ) → word < PAGE-WORDS → (Secret (a .tables) page → ⊥) → wordIn (a .memory) page word ≡ wordIn (b .memory) page word
 
-  -- two answers equal but for the word, and equal where no member reads a private page
+  -- what two memories give a read: equal words but at the places where a member reads a private page
+  abbrev pub SameRead : Tables → Effect → List ℕ → List ℕ → Type 0
+  SameRead t effect a b = (k : ℕ) → (Seen t effect k → ⊥) → getD (wordsRead effect a) k 0 ≡ getD (wordsRead effect b) k 0
+
+  -- two answers equal but for the word, which is that of the first place
   pub record SameAnswer (t : Tables) (operation : Option Operation) (x y : Answer) : Type 0 where
     pub but-word : withoutWord x ≡ withoutWord y
-    pub whole : (Seen t (effectIn t operation) → ⊥) → x ≡ y
+    pub whole : (Seen t (effectIn t operation) 0 → ⊥) → x ≡ y
 
   -- what is asked of two rows, in the states before them
   pub record Asked (a b : State) (row row′ : List ℕ) : Type 0 where
