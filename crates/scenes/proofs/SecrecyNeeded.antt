@@ -16,21 +16,21 @@ use Rattle.numbers.specs.declared.Answer.the-variants.{Accepted, Refused}
 use Rattle.numbers.specs.Meaning.{operationNumber}
 use Rattle.numbers.specs.declared.Operation.{Operation}
 use Rattle.numbers.specs.declared.Side.the-variants.{Cpu}
 use Rattle.model.specs.State.{Tables, State}
 use Rattle.model.specs.Effect.{Store, Effect, decided, kept, quiet, memoryIndex, wordIn}
 use Rattle.model.specs.EarlyLaws.{never-both}
 use Rattle.model.specs.Ledger.{addVmAnswer}
 use Rattle.model.specs.Step.{control}
 use Rattle.model.specs.Sequence.{operationIn, rowAt, after}
 use Rattle.model.specs.Valid.{ValidTables, Valid}
 use Rattle.model.specs.Good.{StoreOn, Touches, Reaches, MayReach}
 use Rattle.model.specs.Secrecy.{PrivateTo, Private, effectIn, withoutValueIn, NearStores, stop, same, other, Near, alike, stores, Differ, Alike, Asked, Premise, StayAlike}
 use Rattle.model.proofs.Computes.{computes}
 use Rattle.model.proofs.Worked.{started}
 use Rattle.model.proofs.Kept.{good, after-valid}
 use Rattle.model.proofs.Secret.{confined}
 use Rattle.model.proofs.Secrecy.{secrecy-one}
-use Rattle.model.proofs.SecrecyWorked.{barrier, addThird, carried, beforeStale, stale, lodging, lodged, spanning, ending, SharesEqual, itself, no-share, asked-same, MayWrite, asked-write, differ-write, at-start, carried-valid, from, Alone, private-to, begun, begun-valid, afterShare, may-write, private}
+use Rattle.scenes.proofs.SecrecyWorked.{barrier, addThird, carried, beforeStale, stale, lodging, lodged, spanning, ending, SharesEqual, itself, no-share, asked-same, MayWrite, asked-write, differ-write, at-start, carried-valid, from, Alone, private-to, begun, begun-valid, afterShare, may-write, private}
 
 -- ---- the statement for VM 1, over what is known of the two states and what is given of each two rows
 abbrev pub Statement : (State → State → Type 0) → (State → State → List ℕ → List ℕ → Type 0) → Type 0

@@ -13,16 +13,16 @@ use lib.ListN.{getD}
 use Rattle.numbers.specs.Choice.{if_then_else_}
 use Rattle.numbers.specs.Limits.{VMS}
 use Rattle.numbers.specs.declared.Side.the-variants.{Cpu, Dma}
 use Rattle.model.specs.State.{Tables, State}
 use Rattle.model.specs.Views.{knows, mayMap}
 use Rattle.model.specs.Valid.{ValidTables, Valid}
 use Rattle.model.proofs.Computes.{computes}
 use Rattle.model.proofs.Worked.{row, Line, _⟼_, answers}
-use Rattle.model.proofs.Refusals.{_▸_, reached, accepting, answerIn, played, expected, sixteen, unitRow, two, owned, shared, mapped, cpuIn, dmaIn, otherDmaIn, running, bound, pairsFull, operationSaid, reached-valid, all-valid}
+use Rattle.scenes.proofs.Refusals.{_▸_, reached, accepting, answerIn, played, expected, sixteen, unitRow, two, owned, shared, mapped, cpuIn, dmaIn, otherDmaIn, running, bound, pairsFull, operationSaid, reached-valid, all-valid}
 use Rattle.model.proofs.LedgerKept.{Named, by-claim, by-entry, by-pair, by-port}
 use Rattle.model.proofs.OneRoute.{route-of}
 use Rattle.model.proofs.FullMaps.{mappingsFrom, withFullMaps, full-maps-valid}
 use Rattle.model.proofs.AnswerNumbers.{isIn, refusalLists, listed}
 
 -- ---- two causes: the way to a state, a row for which both hold there, rows that end the first, and a row that meets the second
 pub record Order : Type 0 where

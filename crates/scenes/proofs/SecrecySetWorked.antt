@@ -15,19 +15,19 @@ use Rattle.numbers.specs.declared.Side.the-variants.{Cpu}
 use Rattle.table.specs.Scan.{any}
 use Rattle.table.specs.ScanLaws.{any-false}
 use Rattle.table.specs.Table.{Has}
 use Rattle.model.specs.State.{Tables, State}
 use Rattle.model.specs.Views.{onPage}
 use Rattle.model.specs.EarlyLaws.{both}
 use Rattle.model.specs.Sequence.{operationIn, stepRow, rowAt, Progress, after}
 use Rattle.model.specs.Valid.{Valid}
 use Rattle.model.specs.Good.{holdsPage, Sharing}
 use Rattle.model.specs.Secrecy.{PrivateTo, Private, effectIn, alike, Seen, Asked, Premise, StayAlike}
 use Rattle.model.proofs.Computes.{computes}
 use Rattle.model.proofs.Worked.{Line, row, _⟼_, heardIn, answers, started}
 use Rattle.model.proofs.ViewLaws.{on-page}
 use Rattle.model.proofs.Kept.{after-valid}
 use Rattle.model.proofs.Secrecy.{secrecy}
-use Rattle.model.proofs.SecrecyWorked.{carried, itself, MayWrite, asked-same, asked-write, at-start, carried-valid, from}
+use Rattle.scenes.proofs.SecrecyWorked.{carried, itself, MayWrite, asked-same, asked-write, at-start, carried-valid, from}
 
 -- ---- the set
 abbrev pub oneOrTwo : ℕ → Bool
