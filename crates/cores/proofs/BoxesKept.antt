@@ -14,7 +14,7 @@ use Rattle.units.specs.Units.{noUnit}
 use Rattle.model.specs.Effect.{kept, accepted}
 use Rattle.model.specs.Header.{stateOf, setupOf}
 use Rattle.model.specs.RefusedLaws.{row-leaves, sequence-leaves}
-use Rattle.model.specs.Sequence.{Progress, operationIn, rowAt, stepKnown, stepRow, shapeAnswer, rowCount, after, sequence}
+use Rattle.model.specs.Sequence.{Progress, operationIn, rowAt, stepKnown, stepRow, shapeAnswer, rowCount, after, sequence, beginning}
 use Rattle.model.specs.ShapeLaws.{step-sizes}
 use Rattle.model.specs.Start.{Told, startAnswer, emptyState, freshState, start}
 use Rattle.model.specs.State.{State}
@@ -53,7 +53,7 @@ unfolding sequence
 sequence-setup s rows room = whole (shapeAnswer rows room)
   where
     p : Progress
-    p = record { state = s; room = room }
+    p = beginning s room
 
     whole : (answer : Answer) → kept answer p (after rows (rowCount rows) p) .state .tables .setup ≡ s .tables .setup
     whole (Accepted dropped word) = after-setup rows (rowCount rows) p

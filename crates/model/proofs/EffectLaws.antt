@@ -88,11 +88,11 @@ pub store-on : (page word : ℕ) (stores : List Store) → StoreAt page word sto
 store-on page word (x ∷ xs) (inl e) = inl (e .0)
 store-on page word (x ∷ xs) (inr o) = inr (store-on page word xs o)
 
--- both, or not both
-both : {A B : Type 0} → A ⊎ (A → ⊥) → B ⊎ (B → ⊥) → (A × B) ⊎ (A × B → ⊥)
-both (inl a) (inl b) = inl (a, b)
-both (inl a) (inr n) = inr (λ p. n (p .1))
-both (inr n) b = inr (λ p. n (p .0))
+-- both hold, or not both
+both-or-not : {A B : Type 0} → A ⊎ (A → ⊥) → B ⊎ (B → ⊥) → (A × B) ⊎ (A × B → ⊥)
+both-or-not (inl a) (inl b) = inl (a, b)
+both-or-not (inl a) (inr n) = inr (λ p. n (p .1))
+both-or-not (inr n) b = inr (λ p. n (p .0))
 
 -- ---- a word of a page
 module _ (page word : ℕ) (h : word < PAGE-WORDS) where
@@ -103,7 +103,7 @@ module _ (page word : ℕ) (h : word < PAGE-WORDS) where
   stored-or-same (x ∷ xs) memory i =
       ⊎-elim (λ e. inr (inl e))
       (λ n. ⊎-elim (λ q. inl (q ∙ store-another memory (x .place .page) (x .place .word) (x .value) page word (i .0) h n)) (λ o. inr (inr o)) (stored-or-same xs _ (i .1)))
-      (both (equal (x .place .page) page) (equal (x .place .word) word))
+      (both-or-not (equal (x .place .page) page) (equal (x .place .word) word))
 
   -- in two memories of one length it agrees after the same stores where it agreed before
   stores-agree : (stores : List Store) (a b : List ℕ) → length a ≡ length b → wordIn a page word ≡ wordIn b page word → wordIn (stored stores a) page word ≡ wordIn (stored stores b) page word

@@ -10,28 +10,10 @@ use lib.ListN.{getD}
 use Rattle.numbers.specs.Decides.{Decides}
 use Rattle.numbers.specs.DecidesLaws.{always, says-yes, says-no}
 use Rattle.numbers.specs.Limits.{READ, WRITE, ANSWER-NUMBERS}
-use Rattle.numbers.specs.Meaning.{refusalNumber, numberOf}
+use Rattle.numbers.specs.Meaning.{numberOf}
+use Rattle.numbers.specs.MeaningLaws.{refusal-above}
 use Rattle.numbers.specs.declared.Answer.{Answer}
 use Rattle.numbers.specs.declared.Answer.the-variants.{Accepted, Refused}
-use Rattle.numbers.specs.declared.Refusal.{Refusal}
-use Rattle.numbers.specs.declared.Refusal.the-variants.{
-  StateNotValid,
-  OutOfRange,
-  BadSpan,
-  VmUnknown,
-  VmKnown,
-  PageNotHeld,
-  PageClaimed,
-  NoSuchUnit,
-  MappingDiffers,
-  MappingPresent,
-  StillInUse,
-  PairWrong,
-  VmBusy,
-  NoRoom,
-  PortIdle,
-  AccessLacking,
-}
 use Rattle.numbers.specs.declared.Side.{Side}
 use Rattle.numbers.specs.declared.SideOperation.{SideOperation}
 use Rattle.numbers.specs.declared.SideOperation.the-variants as sided
@@ -40,7 +22,7 @@ use Rattle.numbers.specs.declared.Operation.the-variants as op
 use Rattle.model.specs.State.{Tables, State}
 use Rattle.model.specs.Effect.{Effect, reads, writes, clears, decided, kept}
 use Rattle.model.specs.Step.{answerOf, control, Stepped, answerWith, carriedOut, step}
-use Rattle.model.specs.Sequence.{operationIn, stepKnown, stepRow, Progress, Sequenced, rowAt, rowCount, after, shapeAnswer, sequence}
+use Rattle.model.specs.Sequence.{operationIn, stepKnown, stepRow, Progress, Sequenced, beginning, rowAt, rowCount, after, shapeAnswer, sequence}
 use Rattle.model.specs.Valid.{ValidTables, Valid}
 use Rattle.model.specs.Entries.{valid, not-valid, JudgedRow, JudgedSequence}
 use Rattle.model.specs.Conditions.{accepts, Conditions, RowConditions}
@@ -79,24 +61,6 @@ unfolding control decided
 exactly t v operation = answer-exactly t v operation
 
 -- ---- 0 is the number of what is accepted, and of no refusal
-refusal-above : (refusal : Refusal) → 0 < refusalNumber refusal
-refusal-above StateNotValid = omega arith
-refusal-above OutOfRange = omega arith
-refusal-above BadSpan = omega arith
-refusal-above VmUnknown = omega arith
-refusal-above VmKnown = omega arith
-refusal-above PageNotHeld = omega arith
-refusal-above PageClaimed = omega arith
-refusal-above NoSuchUnit = omega arith
-refusal-above MappingDiffers = omega arith
-refusal-above MappingPresent = omega arith
-refusal-above StillInUse = omega arith
-refusal-above PairWrong = omega arith
-refusal-above VmBusy = omega arith
-refusal-above NoRoom = omega arith
-refusal-above PortIdle = omega arith
-refusal-above AccessLacking = omega arith
-
 zero-accepts : (answer : Answer) → Decides (accepts answer) (numberOf answer ≡ 0)
 zero-accepts (Accepted dropped word) = says-yes refl
 zero-accepts (Refused refusal index) = says-no (λ e. omega (arith, refusal-above refusal, e))
@@ -131,12 +95,12 @@ entry-exactly s row result (not-valid n e) = rw e (λ z. absurd (omega (arith, z
 
 -- ---- row k of a sequence that is carried out, in the state that the rows before it left
 pub answer-row-exactly : (s : State) (rows room : List ℕ) (result : Sequenced) → JudgedSequence s rows room result → numberOf (result .answer) ≡ 0 → (k : ℕ) → k < rowCount rows →
-    (getD (result .progress .room) (k * ANSWER-NUMBERS) 0 ≡ 0) ↔ RowConditions (after rows k (record { state = s; room = room }) .state .tables) (rowAt rows k)
+    (getD (result .progress .room) (k * ANSWER-NUMBERS) 0 ≡ 0) ↔ RowConditions (after rows k (beginning s room) .state .tables) (rowAt rows k)
 unfolding sequence
 answer-row-exactly s rows room result (valid v e) z k h = rw e (carried (shapeAnswer rows room) refl (rw e at z))
   where
     p : Progress
-    p = record { state = s; room = room }
+    p = beginning s room
 
     carried : (shape : Answer) → shapeAnswer rows room ≡ shape → numberOf shape ≡ 0 →
         (getD (kept shape p (after rows (rowCount rows) p) .room) (k * ANSWER-NUMBERS) 0 ≡ 0) ↔ RowConditions (after rows k p .state .tables) (rowAt rows k)

@@ -17,7 +17,7 @@ use Rattle.model.specs.State.{Tables, State}
 use Rattle.model.specs.Effect.{accepted, kept, memoryIndex}
 use Rattle.model.specs.Step.{answerOf, control, step}
 use Rattle.model.specs.Start.{Told, Lent, startAnswer, start}
-use Rattle.model.specs.Sequence.{operationIn, stepKnown, stepRow, Progress, turn, after, rowCount, shapeAnswer, sequence, rowAt}
+use Rattle.model.specs.Sequence.{operationIn, stepKnown, stepRow, Progress, beginning, turn, after, rowCount, shapeAnswer, sequence, rowAt}
 use Rattle.model.specs.ShapeLaws.{step-sizes}
 use Rattle.model.specs.Valid.{ValidTables, Valid}
 use Rattle.model.specs.Good.{Touches, Good}
@@ -89,10 +89,10 @@ pub sequence-valid : (s : State) → Valid s → (rows room : List ℕ) → Vali
 unfolding sequence
 sequence-valid s v rows room = go (shapeAnswer rows room)
   where
-    go : (answer : Answer) → Valid (kept answer (record { state = s; room = room }) (after rows (rowCount rows) (record { state = s; room = room })) .state)
-    go (Accepted dropped word) = after-valid rows (rowCount rows) (record { state = s; room = room }) v
+    go : (answer : Answer) → Valid (kept answer (beginning s room) (after rows (rowCount rows) (beginning s room)) .state)
+    go (Accepted dropped word) = after-valid rows (rowCount rows) (beginning s room) v
     go (Refused refusal index) = v
 
 -- ---- so the machine never leaves the valid states: after a start that was accepted, however many rows follow
-pub started-valid : (told : Told) (lent : Lent) → startAnswer told lent ≡ accepted → (rows room : List ℕ) (k : ℕ) → Valid (after rows k (record { state = start told lent .state; room = room }) .state)
-started-valid told lent e rows room k = after-valid rows k (record { state = start told lent .state; room = room }) (start-valid told lent e)
+pub started-valid : (told : Told) (lent : Lent) → startAnswer told lent ≡ accepted → (rows room : List ℕ) (k : ℕ) → Valid (after rows k (beginning (start told lent .state) room) .state)
+started-valid told lent e rows room k = after-valid rows k (beginning (start told lent .state) room) (start-valid told lent e)

@@ -27,7 +27,7 @@ use Rattle.model.specs.Valid.{ValidTables, Valid}
 use Rattle.model.specs.MemoryLaws.{length-applied}
 use Rattle.model.specs.ShapeLaws.{control-shape}
 use Rattle.model.specs.Good.{PlaceOn, Wrote}
-use Rattle.model.specs.Secrecy.{PrivateTo, Private, effectIn, sideWithoutValue, withoutValue, withoutValueIn, Shared, withoutWord, NearStores, stop, same, other, Near, alike, stores, SecretAt, Seen, SameRead, Alike, SameAnswer, Asked, Premise, StayAlike}
+use Rattle.model.specs.Secrecy.{PrivateTo, Private, effectIn, sideWithoutValue, withoutValue, withoutValueIn, Shared, withoutWord, NearStores, stop, same, other, Near, alike, stores, SecretAt, Seen, SameRead, Alike, SharesEqual, SameAnswer, Asked, Premise, StayAlike}
 use Rattle.model.proofs.Answers.{after-next}
 use Rattle.model.proofs.Kept.{good, row-valid, after-valid}
 use Rattle.model.proofs.EffectLaws.{inside, stored-over}
@@ -154,11 +154,8 @@ module _ (members : ℕ → Bool) where
   abbrev BothAlike : Tables → Option Operation → Stepped → Stepped → Type 0
   BothAlike = StepAlike members (Private members)
 
-  abbrev SharesEqual : Tables → Option Operation → List ℕ → List ℕ → Type 0
-  SharesEqual t operation a b = (left right page word : ℕ) → Shared t operation left right page → members left ≡ true → members right ≡ false → word < PAGE-WORDS → wordIn a page word ≡ wordIn b page word
-
   module _ (t : Tables) (v : ValidTables t) (a b : List ℕ) (like : Alike members (Private members) (record { tables = t; memory = a }) (record { tables = t; memory = b })) where
-    operation-alike : (x y : Operation) → withoutValue x ≡ withoutValue y → Near members (Private members) t (control t x .effect) (control t y .effect) → SharesEqual t (some x) a b →
+    operation-alike : (x y : Operation) → withoutValue x ≡ withoutValue y → Near members (Private members) t (control t x .effect) (control t y .effect) → SharesEqual members t (some x) a b →
         BothAlike t (some x) (step (record { tables = t; memory = a }) x) (step (record { tables = t; memory = b }) y)
     unfolding step
     operation-alike x y shape near shares =
@@ -182,7 +179,7 @@ module _ (members : ℕ → Bool) where
         }
 
     -- a row of no operation is refused in both
-    known-alike : (x y : Option Operation) → withoutValueIn x ≡ withoutValueIn y → Near members (Private members) t (effectIn t x) (effectIn t y) → SharesEqual t x a b →
+    known-alike : (x y : Option Operation) → withoutValueIn x ≡ withoutValueIn y → Near members (Private members) t (effectIn t x) (effectIn t y) → SharesEqual members t x a b →
         BothAlike t x (stepKnown (record { tables = t; memory = a }) x) (stepKnown (record { tables = t; memory = b }) y)
     known-alike none none shape near shares = record { states = like; answers = record { but-word = refl; whole = λ n. refl } }
     known-alike (some x) (some y) shape near shares = operation-alike x y (cc shape) near shares
@@ -271,7 +268,7 @@ module _ (members : ℕ → Bool) (P Q : Tables → ℕ → Type 0) (gives : (t 
   near-as t v alike = alike
   near-as t v (stores {vm = vm} near) = stores (stores-as t v vm near)
 
-  secret-as : (t : Tables) → ValidTables t → (places : List Place) (k : ℕ) → SecretAt members P t places k → SecretAt members Q t places k
+  secret-as : (t : Tables) → ValidTables t → (places : List Place) (k : ℕ) → SecretAt (P t) places k → SecretAt (Q t) places k
   secret-as t v [] k z = z
   secret-as t v (x ∷ xs) zero secret = gives t v (x .page) secret
   secret-as t v (x ∷ xs) (suc k) secret = secret-as t v xs k secret
@@ -309,7 +306,7 @@ module _ (vm : ℕ) where
         unshared = λ w h on. let both = p .inside w h on in v .pairs .each w h .apart (sym (eqb-true vm (leftOf w) (both .0)) ∙ eqb-true vm (rightOf w) (both .1));
       }
 
-  set-of : (t : Tables) → ValidTables t → (page : ℕ) → PrivateTo vm t page → Private (eqb vm) t page
+  pub set-of : (t : Tables) → ValidTables t → (page : ℕ) → PrivateTo vm t page → Private (eqb vm) t page
   set-of t v page p =
       record { holder = vm; member = eq-eqb vm vm refl; holder-ok = p .vm-ok; page-ok = p .page-ok; held = p .held; inside = λ w h on. absurd (p .unshared w h on) }
 

@@ -14,7 +14,7 @@ use Rattle.model.specs.Step.{answerOf, nextOf, effectOf, control, step}
 use Rattle.model.specs.Valid.{Valid}
 use Rattle.model.specs.Effect.{accepted}
 use Rattle.model.specs.Start.{Told, Lent, startAnswer, start}
-use Rattle.model.specs.Sequence.{after}
+use Rattle.model.specs.Sequence.{beginning, after}
 use Rattle.model.specs.Upstream.{WellFormed}
 use Rattle.model.specs.UpstreamRun.{dsb, isb, softwareCalls, hardwareCalls, FollowsUpstream}
 use Rattle.model.proofs.Kept.{started-valid}
@@ -60,5 +60,5 @@ follows-upstream s v operation =
     (λ dropped word e. accepted-follows s v operation e)
 
 -- ---- upstream's wf holds of every state that the machine comes to: after an accepted start, and however many rows follow
-pub reached-well-formed : (told : Told) (lent : Lent) → startAnswer told lent ≡ accepted → (rows room : List ℕ) (k : ℕ) → WellFormed (after rows k (record { state = start told lent .state; room = room }) .state)
+pub reached-well-formed : (told : Told) (lent : Lent) → startAnswer told lent ≡ accepted → (rows room : List ℕ) (k : ℕ) → WellFormed (after rows k (beginning (start told lent .state) room) .state)
 reached-well-formed told lent e rows room k = well-formed _ (started-valid told lent e rows room k .tables)

@@ -7,7 +7,7 @@ use Rattle.numbers.specs.declared.Answer.{Answer}
 use Rattle.numbers.specs.declared.Answer.the-variants.{Accepted, Refused}
 use Rattle.numbers.specs.declared.Operation.{Operation}
 use Rattle.model.specs.Effect.{Effect, Control, kept, quiet, decided, apply, clearedPages, reads, writes, clears}
-use Rattle.model.specs.Sequence.{stepKnown, stepRow, operationIn, shapeAnswer, after, rowCount, Progress, Sequenced, sequence}
+use Rattle.model.specs.Sequence.{stepKnown, stepRow, operationIn, shapeAnswer, after, rowCount, Sequenced, beginning, sequence}
 use Rattle.model.specs.State.{State, Tables}
 use Rattle.model.specs.Step.{answerOf, nextOf, effectOf, control, Stepped, carriedOut, step}
 
@@ -66,9 +66,6 @@ pub sequence-leaves : (s : State) (rows room : List ℕ) → SequenceLeaves s ro
 unfolding sequence
 sequence-leaves s rows room = whole (shapeAnswer rows room)
   where
-    begun : Progress
-    begun = record { state = s; room = room }
-
-    whole : (answer : Answer) → SequenceLeaves s room (record { answer = answer; progress = kept answer begun (after rows (rowCount rows) begun) })
+    whole : (answer : Answer) → SequenceLeaves s room (record { answer = answer; progress = kept answer (beginning s room) (after rows (rowCount rows) (beginning s room)) })
     whole (Accepted dropped word) = record { state = refl; room = refl }
     whole (Refused refusal index) = record { state = refl; room = refl }

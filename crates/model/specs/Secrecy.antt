@@ -85,6 +85,17 @@ pub record Shared (t : Tables) (operation : Option Operation) (left right page :
   pub share : sharingIn operation ≡ some (record { left = left; right = right; page = page })
   pub agreed : answerIn t operation ≡ accepted
 
+-- a page that a member shares with a VM outside holds equal words in both memories
+abbrev pub SharesEqual : (ℕ → Bool) → Tables → Option Operation → List ℕ → List ℕ → Type 0
+SharesEqual members t operation a b =
+    (left right page word : ℕ) → Shared t operation left right page → members left ≡ true → members right ≡ false → word < PAGE-WORDS → wordIn a page word ≡ wordIn b page word
+
+-- of what is read, place k lies in a secret page
+abbrev pub SecretAt : (ℕ → Type 0) → List Place → ℕ → Type 0
+SecretAt Secret [] k = ⊥
+SecretAt Secret (x ∷ xs) zero = Secret (x .page)
+SecretAt Secret (x ∷ xs) (suc k) = SecretAt Secret xs k
+
 -- the words that an effect reads, place by place
 abbrev pub wordsRead : Effect → List ℕ → List ℕ
 wordsRead (reads vm places) memory = loaded places memory
@@ -114,15 +125,9 @@ module _ (members : ℕ → Bool) (Secret : Tables → ℕ → Type 0) where
     pub shape : withoutValueIn a ≡ withoutValueIn b
     pub near : Near t (effectIn t a) (effectIn t b)
 
-  -- of what is read, place k lies in a private page
-  abbrev pub SecretAt : Tables → List Place → ℕ → Type 0
-  SecretAt t [] k = ⊥
-  SecretAt t (x ∷ xs) zero = Secret t (x .page)
-  SecretAt t (x ∷ xs) (suc k) = SecretAt t xs k
-
-  -- and a member reads it there
+  -- a member reads a private page at place k
   abbrev pub Seen : Tables → Effect → ℕ → Type 0
-  Seen t (reads vm places) k = (members vm ≡ true) × SecretAt t places k
+  Seen t (reads vm places) k = (members vm ≡ true) × SecretAt (Secret t) places k
   Seen t (writes vm xs) k = ⊥
   Seen t (clears pages) k = ⊥
 
@@ -144,9 +149,7 @@ module _ (members : ℕ → Bool) (Secret : Tables → ℕ → Type 0) where
   -- what is asked of two rows, in the states before them
   pub record Asked (a b : State) (row row′ : List ℕ) : Type 0 where
     pub differ : Differ (a .tables) (operationIn row) (operationIn row′)
-    -- a page that a member shares with a VM outside holds equal words in both runs
-    pub shares-equal : (left right page word : ℕ) → Shared (a .tables) (operationIn row) left right page → members left ≡ true → members right ≡ false → word < PAGE-WORDS →
-        wordIn (a .memory) page word ≡ wordIn (b .memory) page word
+    pub shares-equal : SharesEqual members (a .tables) (operationIn row) (a .memory) (b .memory)
 
   -- ---- the statement: for all rows, after every row
   abbrev pub Premise : Progress → Progress → List ℕ → List ℕ → ℕ → Type 0

@@ -97,6 +97,10 @@ pub record Progress : Type 0 where
   pub state : State
   pub room : List ℕ
 
+-- where rows begin
+abbrev pub beginning : State → List ℕ → Progress
+beginning s room = record { state = s; room = room }
+
 abbrev pub recorded : Stepped → ℕ → List ℕ → Progress
 recorded r k room = record { state = r .state; room = writeAt room (k * ANSWER-NUMBERS) (answerNumbers (r .answer)) }
 
@@ -123,5 +127,5 @@ pub record Sequenced : Type 0 where
 
 unfoldable pub sequence : State → List ℕ → List ℕ → Sequenced
 sequence s rows room =
-    let p : Progress = record { state = s; room = room } in
+    let p = beginning s room in
     record { answer = shapeAnswer rows room; progress = kept (shapeAnswer rows room) p (after rows (rowCount rows) p) }

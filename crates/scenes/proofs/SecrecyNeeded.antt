@@ -21,23 +21,23 @@ use Rattle.model.specs.Effect.{Store, Effect, decided, kept, quiet, memoryIndex
 use Rattle.model.specs.EarlyLaws.{never-both}
 use Rattle.model.specs.Ledger.{addVmAnswer}
 use Rattle.model.specs.Step.{control}
-use Rattle.model.specs.Sequence.{operationIn, rowAt, after}
+use Rattle.model.specs.Sequence.{operationIn, rowAt, after, beginning}
 use Rattle.model.specs.Valid.{ValidTables, Valid}
 use Rattle.model.specs.Good.{StoreOn, Touches, Reaches, MayReach}
-use Rattle.model.specs.Secrecy.{PrivateTo, Private, effectIn, withoutValueIn, NearStores, stop, same, other, Near, alike, stores, Differ, Alike, Asked, Premise, StayAlike}
+use Rattle.model.specs.Secrecy.{PrivateTo, Private, effectIn, withoutValueIn, NearStores, stop, same, other, Near, alike, stores, Differ, Alike, Asked, Premise, StayAlike, SharesEqual}
 use Rattle.model.proofs.Computes.{computes}
 use Rattle.model.proofs.Worked.{started}
 use Rattle.model.proofs.Kept.{good, after-valid}
 use Rattle.model.proofs.Secret.{confined}
-use Rattle.model.proofs.Secrecy.{secrecy-one}
-use Rattle.scenes.proofs.SecrecyWorked.{barrier, addThird, carried, beforeStale, stale, lodging, lodged, spanning, ending, SharesEqual, itself, no-share, asked-same, MayWrite, asked-write, differ-write, at-start, carried-valid, from, Alone, private-to, begun, begun-valid, afterShare, may-write, private}
+use Rattle.model.proofs.Secrecy.{secrecy-one, set-of}
+use Rattle.scenes.proofs.SecrecyWorked.{barrier, addThird, carried, beforeStale, stale, lodging, lodged, spanning, ending, itself, no-share, asked-same, MayWrite, asked-write, differ-write, at-start, carried-valid, Alone, private-to, begun, begun-valid, afterShare, may-write, private}
 
 -- ---- the statement for VM 1, over what is known of the two states and what is given of each two rows
 abbrev pub Statement : (State → State → Type 0) → (State → State → List ℕ → List ℕ → Type 0) → Type 0
 Statement Known Given =
     (s s′ : State) → Known s s′ → (rows rows′ : List ℕ) (count : ℕ) →
-    ((k : ℕ) → k < count → Given (after rows k (from s) .state) (after rows′ k (from s′) .state) (rowAt rows k) (rowAt rows′ k)) →
-    StayAlike (eqb 1) (PrivateTo 1) (from s) (from s′) rows rows′ count
+    ((k : ℕ) → k < count → Given (after rows k (beginning s []) .state) (after rows′ k (beginning s′ []) .state) (rowAt rows k) (rowAt rows′ k)) →
+    StayAlike (eqb 1) (PrivateTo 1) (beginning s []) (beginning s′ []) rows rows′ count
 
 -- what is known: alike, or a part of it
 abbrev pub AlikeOne : State → State → Type 0
@@ -61,7 +61,7 @@ NearBy members s r r′ = Near members (PrivateTo 1) (s .tables) (effectIn (s .t
 
 -- with all of it, it is the theorem
 pub with-all : Statement (λ s s′. Valid s × AlikeOne s s′) All
-with-all s s′ (v, like) rows rows′ count given = secrecy-one 1 (from s) (from s′) rows rows′ count v like given
+with-all s s′ (v, like) rows rows′ count given = secrecy-one 1 (beginning s []) (beginning s′ []) rows rows′ count v like given
 
 -- two answers to a read that are not the same
 unequal : (a b : ℕ) → (a ≡ b → ⊥) → Accepted 0 a ≡ Accepted 0 b → ⊥
@@ -86,7 +86,7 @@ alone-stale = record { vm-ok = refl; page-ok = refl; held = refl; unshared = ref
 private-stale : PrivateTo 1 (stale .tables) 0
 private-stale = private-to 1 0 (stale .tables) (λ w h. carried-valid started at-start beforeStale .tables .pairs .each w h .filled) alone-stale
 
-asked-incident : Premise (eqb 1) (PrivateTo 1) (from stale) (from stale) (incidentRows 5) (incidentRows 6) 2
+asked-incident : Premise (eqb 1) (PrivateTo 1) (beginning stale []) (beginning stale []) (incidentRows 5) (incidentRows 6) 2
 unfolding incidentRows after operationIn
 asked-incident zero h = asked-write (eqb 1) (PrivateTo 1) Cpu stale stale 0 16 0 0 5 6 may-write-stale private-stale
 asked-incident (suc zero) h = asked-same _ _ _ _ _ refl
@@ -107,7 +107,7 @@ lodged-valid page value =
 readRow : List ℕ
 readRow = 21 ∷ 1 ∷ 16 ∷ 0 ∷ 0 ∷ 0 ∷ 0 ∷ 0 ∷ []
 
-asked-read : (s s′ : State) → Premise (eqb 1) (PrivateTo 1) (from s) (from s′) readRow readRow 1
+asked-read : (s s′ : State) → Premise (eqb 1) (PrivateTo 1) (beginning s []) (beginning s′ []) readRow readRow 1
 unfolding readRow after operationIn
 asked-read s s′ zero h = asked-same _ _ _ _ _ refl
 asked-read s s′ (suc k) h = absurd (omega arith)
@@ -147,7 +147,7 @@ lastRows =
     22 ∷ 0 ∷ 16 ∷ 0 ∷ 0 ∷ 0 ∷ 0 ∷ 0 ∷
     []
 
-asked-last : (s s′ : State) → Premise (eqb 1) (PrivateTo 1) (from s) (from s′) lastRows lastRows 2
+asked-last : (s s′ : State) → Premise (eqb 1) (PrivateTo 1) (beginning s []) (beginning s′ []) lastRows lastRows 2
 unfolding lastRows after operationIn
 asked-last s s′ zero h = asked-same _ _ _ _ _ refl
 asked-last s s′ (suc zero) h = asked-same _ _ _ _ _ refl
@@ -191,17 +191,17 @@ addRows =
     1 ∷ 3 ∷ 0 ∷ 0 ∷ 0 ∷ 0 ∷ 0 ∷ 0 ∷
     []
 
-pub shape-needed : Statement (λ s s′. Valid s × AlikeOne s s′) (λ s s′ r r′. NearBy (eqb 1) s r r′ × SharesEqual (eqb 1) s s′ r) → ⊥
+pub shape-needed : Statement (λ s s′. Valid s × AlikeOne s s′) (λ s s′ r r′. NearBy (eqb 1) s r r′ × SharesEqual (eqb 1) (s .tables) (operationIn r) (s .memory) (s′ .memory)) → ⊥
 unfolding computes barrierRows addRows
 shape-needed all =
     let stay = all started started (at-start, itself (eqb 1) (PrivateTo 1) started) barrierRows addRows 2 given in
     never-both (sym (stay .answers 1 (lit< tt) .but-word))
   where
     given : (k : ℕ) → k < 2 →
-        NearBy (eqb 1) (after barrierRows k (from started) .state) (rowAt barrierRows k) (rowAt addRows k) ×
-        SharesEqual (eqb 1) (after barrierRows k (from started) .state) (after addRows k (from started) .state) (rowAt barrierRows k)
+        NearBy (eqb 1) (after barrierRows k (beginning started []) .state) (rowAt barrierRows k) (rowAt addRows k) ×
+        SharesEqual (eqb 1) (after barrierRows k (beginning started []) .state .tables) (operationIn (rowAt barrierRows k)) (after barrierRows k (beginning started []) .state .memory) (after addRows k (beginning started []) .state .memory)
     given zero h = (barrier-near (eqb 1) (PrivateTo 1) (started .tables), no-share (eqb 1) started started barrier refl)
-    given (suc zero) h = (alike, no-share (eqb 1) (after barrierRows 1 (from started) .state) (after addRows 1 (from started) .state) addThird refl)
+    given (suc zero) h = (alike, no-share (eqb 1) (after barrierRows 1 (beginning started []) .state) (after addRows 1 (beginning started []) .state) addThird refl)
     given (suc (suc k)) h = absurd (omega arith)
 
 -- ---- without `near`: VM 1 writes the value to page 0, which it has shared, and VM 2 maps it and reads it
@@ -244,8 +244,7 @@ module _ (t : Tables) (v : ValidTables t) where
   own-stores vm r stop = stop
   own-stores vm r (same near) = same (own-stores vm (λ page o. r page (inr o)) near)
   own-stores vm r (other {place = place} m p near) =
-      let set : Private (eqb 1) t (place .page) = record { holder = 1; member = refl; holder-ok = p .vm-ok; page-ok = p .page-ok; held = p .held; inside = λ w h on. absurd (p .unshared w h on) } in
-      other (confined (eqb 1) t v vm (place .page) set (r (place .page) (inl refl))) p (own-stores vm (λ page o. r page (inr o)) near)
+      other (confined (eqb 1) t v vm (place .page) (set-of 1 t v (place .page) p) (r (place .page) (inl refl))) p (own-stores vm (λ page o. r page (inr o)) near)
 
   own-effect : {effect effect′ : Effect} → ((bit vm page : ℕ) → Touches bit effect vm page → Reaches bit t vm page) → Near (λ who. true) (PrivateTo 1) t effect effect′ → Near (eqb 1) (PrivateTo 1) t effect effect′
   own-effect r alike = alike
@@ -255,14 +254,14 @@ module _ (t : Tables) (v : ValidTables t) where
   reached none bit vm page z = absurd z
   reached (some operation) bit vm page z = good t v operation .reach bit vm page z
 
-pub writer-follows : Statement (λ s s′. Valid s × AlikeOne s s′) (λ s s′ r r′. (withoutValueIn (operationIn r) ≡ withoutValueIn (operationIn r′)) × NearBy (λ who. true) s r r′ × SharesEqual (eqb 1) s s′ r)
+pub writer-follows : Statement (λ s s′. Valid s × AlikeOne s s′) (λ s s′ r r′. (withoutValueIn (operationIn r) ≡ withoutValueIn (operationIn r′)) × NearBy (λ who. true) s r r′ × SharesEqual (eqb 1) (s .tables) (operationIn r) (s .memory) (s′ .memory))
 writer-follows s s′ (v, like) rows rows′ count given = with-all s s′ (v, like) rows rows′ count asked
   where
-    asked : Premise (eqb 1) (PrivateTo 1) (from s) (from s′) rows rows′ count
+    asked : Premise (eqb 1) (PrivateTo 1) (beginning s []) (beginning s′ []) rows rows′ count
     asked k h =
         let (shape, near, shares) = given k h in
-        let t = after rows k (from s) .state .tables in
-        let valid = after-valid rows k (from s) v .tables in
+        let t = after rows k (beginning s []) .state .tables in
+        let valid = after-valid rows k (beginning s []) v .tables in
         record { differ = record { shape = shape; near = own-effect t valid (reached t valid (operationIn (rowAt rows k))) near }; shares-equal = shares }
 
 -- ---- without `shares-equal`: VM 1 writes the value to page 0 and shares it, and VM 2 maps it and reads it

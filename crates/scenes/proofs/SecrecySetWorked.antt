@@ -18,7 +18,7 @@ use Rattle.table.specs.Table.{Has}
 use Rattle.model.specs.State.{Tables, State}
 use Rattle.model.specs.Views.{onPage}
 use Rattle.model.specs.EarlyLaws.{both}
-use Rattle.model.specs.Sequence.{operationIn, stepRow, rowAt, Progress, after}
+use Rattle.model.specs.Sequence.{operationIn, stepRow, rowAt, Progress, after, beginning}
 use Rattle.model.specs.Valid.{Valid}
 use Rattle.model.specs.Good.{holdsPage, Sharing}
 use Rattle.model.specs.Secrecy.{PrivateTo, Private, effectIn, alike, Seen, Asked, Premise, StayAlike}
@@ -27,7 +27,7 @@ use Rattle.model.proofs.Worked.{Line, row, _⟼_, heardIn, answers, started}
 use Rattle.model.proofs.ViewLaws.{on-page}
 use Rattle.model.proofs.Kept.{after-valid}
 use Rattle.model.proofs.Secrecy.{secrecy}
-use Rattle.scenes.proofs.SecrecyWorked.{carried, itself, MayWrite, asked-same, asked-write, at-start, carried-valid, from}
+use Rattle.scenes.proofs.SecrecyWorked.{carried, itself, MayWrite, asked-same, asked-write, at-start, carried-valid}
 
 -- ---- the set
 abbrev pub oneOrTwo : ℕ → Bool
@@ -125,7 +125,7 @@ preparedSet =
     (15 ∷ 0 ∷ 1 ∷ []) ∷ (15 ∷ 1 ∷ 2 ∷ []) ∷ (15 ∷ 2 ∷ 3 ∷ []) ∷ []
 
 abbrev pub begunSet : Progress
-begunSet = from (carried started preparedSet)
+begunSet = beginning (carried started preparedSet) []
 
 begun-set-valid : Valid (begunSet .state)
 begun-set-valid = carried-valid started at-start preparedSet

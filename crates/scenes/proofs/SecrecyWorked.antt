@@ -27,11 +27,11 @@ use Rattle.model.specs.EarlyLaws.{never-both}
 use Rattle.model.specs.MemoryLaws.{store-elsewhere}
 use Rattle.model.specs.Ports.{vmOn}
 use Rattle.model.specs.Step.{control, step}
-use Rattle.model.specs.Sequence.{guestPage, operationIn, stepRow, Progress, after}
+use Rattle.model.specs.Sequence.{guestPage, operationIn, stepRow, Progress, after, beginning}
 use Rattle.model.specs.Valid.{Valid}
 use Rattle.model.specs.Good.{holdsPage, Sharing}
 use Rattle.model.specs.Access.{accessAnswer, accessPlace}
-use Rattle.model.specs.Secrecy.{PrivateTo, answerIn, sharingIn, Shared, stop, other, Near, alike, stores, Differ, Alike, Asked, Premise, StayAlike}
+use Rattle.model.specs.Secrecy.{PrivateTo, answerIn, sharingIn, Shared, stop, other, Near, alike, stores, Differ, Alike, Asked, Premise, StayAlike, SharesEqual}
 use Rattle.model.proofs.Computes.{computes}
 use Rattle.model.proofs.Worked.{Line, row, _⟼_, heardIn, answers, eightPages, lent, started}
 use Rattle.model.proofs.ViewLaws.{no-edge-on}
@@ -271,14 +271,8 @@ abbrev pub writeRow : Side → ℕ → ℕ → ℕ → ℕ → List ℕ
 writeRow Cpu port guest word value = 23 ∷ port ∷ guest ∷ word ∷ value ∷ 0 ∷ 0 ∷ 0 ∷ []
 writeRow Dma port guest word value = 24 ∷ port ∷ guest ∷ word ∷ value ∷ 0 ∷ 0 ∷ 0 ∷ []
 
--- a page that a member shares with a VM outside holds equal words
-abbrev pub SharesEqual : (ℕ → Bool) → State → State → List ℕ → Type 0
-SharesEqual members a b ns =
-    (left right page word : ℕ) → Shared (a .tables) (operationIn ns) left right page → members left ≡ true → members right ≡ false → word < PAGE-WORDS →
-    wordIn (a .memory) page word ≡ wordIn (b .memory) page word
-
 -- a row that shares nothing
-pub no-share : (members : ℕ → Bool) (a b : State) (ns : List ℕ) → sharingIn (operationIn ns) ≡ none → SharesEqual members a b ns
+pub no-share : (members : ℕ → Bool) (a b : State) (ns : List ℕ) → sharingIn (operationIn ns) ≡ none → SharesEqual members (a .tables) (operationIn ns) (a .memory) (b .memory)
 no-share members a b ns n left right page word e = absurd (none-some (sym n ∙ e .share))
 
 -- a member on the port may write the word, and it lies in this page
@@ -334,9 +328,6 @@ pub carried-valid : (s : State) → Valid s → (rs : List (List ℕ)) → Valid
 carried-valid s v [] = v
 carried-valid s v (r ∷ rs) = carried-valid (stepRow s r .state) (row-valid s v r) rs
 
-abbrev pub from : State → Progress
-from s = record { state = s; room = [] }
-
 -- the VM holds the page and no edge names it, by computing
 pub record Alone (vm page : ℕ) (t : Tables) : Type 0 where
   pub vm-ok : ltb vm VMS ≡ true
@@ -353,7 +344,7 @@ abbrev pub prepared : List (List ℕ)
 prepared = (1 ∷ 1 ∷ []) ∷ (1 ∷ 2 ∷ []) ∷ (11 ∷ 1 ∷ 16 ∷ 0 ∷ 3 ∷ 3 ∷ []) ∷ (15 ∷ 0 ∷ 1 ∷ []) ∷ []
 
 abbrev pub begun : Progress
-begun = from (carried started prepared)
+begun = beginning (carried started prepared) []
 
 pub begun-valid : Valid (begun .state)
 begun-valid = carried-valid started at-start prepared
@@ -465,7 +456,7 @@ preparedDma =
     (1 ∷ 1 ∷ []) ∷ (1 ∷ 2 ∷ []) ∷ (11 ∷ 1 ∷ 16 ∷ 0 ∷ 3 ∷ 3 ∷ []) ∷ (13 ∷ 1 ∷ 16 ∷ 0 ∷ 3 ∷ 3 ∷ []) ∷ (15 ∷ 0 ∷ 1 ∷ []) ∷ (15 ∷ 1 ∷ 2 ∷ []) ∷ (16 ∷ 0 ∷ 1 ∷ []) ∷ []
 
 abbrev pub begunDma : Progress
-begunDma = from (carried started preparedDma)
+begunDma = beginning (carried started preparedDma) []
 
 begun-dma-valid : Valid (begunDma .state)
 begun-dma-valid = carried-valid started at-start preparedDma
