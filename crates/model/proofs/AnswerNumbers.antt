@@ -23,8 +23,8 @@ use Rattle.table.specs.ScanLaws.{any-below-false, lowest-found}
 use Rattle.model.specs.State.{Tables, State}
 use Rattle.model.specs.Effect.{Effect, reads, writes, clears, Control, decided, refused, accepted, acceptedDropping, andThen}
 use Rattle.model.specs.Ledger.{addVmAnswer, removeVmAnswer, assignAnswer, reclaimAnswer, shareAnswer, unshareAnswer}
-use Rattle.model.specs.Maps.{mapAnswer, unmapAnswer}
-use Rattle.model.specs.Regions.{clashAt, insertAnswer, removeAnswer}
+use Rattle.model.specs.Maps.{mapMay, mapAnswer, unmapMay, unmapAnswer}
+use Rattle.model.specs.Regions.{clashAt, insertAnswer, removeMay, removeAnswer}
 use Rattle.model.specs.Ports.{portAnswer, fillAnswer, emptyAnswer}
 use Rattle.model.specs.Access.{accessAnswer}
 use Rattle.model.specs.Step.{Stepped, carriedOut, control, step}
@@ -222,7 +222,7 @@ module _ {n count : ℕ} {s : State} where
 
 -- all of them: every answer is made of the parts above
 every-number : (s : State) (n a b c d e : ℕ) → Known n d s (operationOf n a b c d e)
-unfolding refusalLists control addVmAnswer removeVmAnswer assignAnswer reclaimAnswer shareAnswer unshareAnswer mapAnswer unmapAnswer insertAnswer removeAnswer portAnswer fillAnswer emptyAnswer accessAnswer
+unfolding refusalLists control addVmAnswer removeVmAnswer assignAnswer reclaimAnswer shareAnswer unshareAnswer mapMay mapAnswer unmapMay unmapAnswer insertAnswer removeMay removeAnswer portAnswer fillAnswer emptyAnswer accessAnswer
 every-number s n a b c d e = search (numbered, unknown, told, check, early, unsearched, searched, dropping, done, tt {0}) depth 60 fits 5000
 
 -- ---- the four numbers

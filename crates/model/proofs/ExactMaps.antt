@@ -25,12 +25,12 @@ use Rattle.model.specs.State.{Tables, route}
 use Rattle.model.specs.Views.{knows}
 use Rattle.model.specs.Valid.{ValidTables}
 use Rattle.model.specs.EarlyLaws.{both}
-use Rattle.model.specs.Maps.{mapEarly, unmapEarly, mapAnswer, unmapAnswer}
+use Rattle.model.specs.Maps.{mapEarly, unmapEarly, mapAnswer, unmapAnswer, mapMay, unmapMay}
 use Rattle.model.specs.Ports.{isTarget, knowsTarget, portAnswer, vmOn, fillAnswer, emptyAnswer}
 use Rattle.model.specs.Access.{translate, allows, accessAnswer}
 use Rattle.model.specs.Conditions.{accepts, Maps, Mapped, TargetGood, MapsPage, UnmapsPage, GivesPort, Fills, EmptiesSlot, Accesses}
 use Rattle.model.proofs.OneRoute.{route-of}
-use Rattle.model.proofs.ExactLaws.{unless, where-so, after-early, after-check}
+use Rattle.model.proofs.ExactLaws.{unless, where-so, after-early, after-check, dropping-exact}
 use Rattle.model.proofs.ExactViews.{place-exact, mapped-exact, lookup-mapped, mapped-lookup, may-exact}
 
 -- ---- early checks
@@ -73,24 +73,26 @@ module _ (side : Side) (t : Tables) (v : ValidTables t) where
 
   pub map-exact : (vm guest page access generation : ℕ) →
       Decides (accepts (mapAnswer side (t .known) (t .setup .pages) (t .sets) (t .pairs) (route side t .map) (route side t .cache) vm guest page access generation)) (MapsPage side t vm guest page access generation)
-  unfolding mapAnswer
+  unfolding mapAnswer mapMay
   map-exact vm guest page access generation =
-      decides-as
+      dropping-exact (mapMay side (t .known) (t .setup .pages) (t .sets) (t .pairs) (route side t .map) vm guest page access generation) _
+      (decides-as
       (after-early (mapEarly (t .known) (t .setup .pages) vm guest page access generation) _ (map-early (t .known) (t .setup .pages) vm guest page access generation)
       (λ (((((a, g), p), x), n), _). where-so _ _ _ _ (may-exact t v side vm page) (where-so _ _ _ _ (room-exact vm guest g) always)))
       (λ ((((((a, g), p), x), n), (k, _)), (may, (room, _))).
       record { vm-ok = a; guest-ok = g; page-ok = p; access-ok = x; generation-ok = n; known = k; may = may; room = room })
-      (λ c. ((((((c .vm-ok, c .guest-ok), c .page-ok), c .access-ok), c .generation-ok), (c .known, tt)), (c .may, (c .room, tt))))
+      (λ c. ((((((c .vm-ok, c .guest-ok), c .page-ok), c .access-ok), c .generation-ok), (c .known, tt)), (c .may, (c .room, tt)))))
 
   -- ---- 9, 10
   pub unmap-exact : (vm guest : ℕ) → Decides (accepts (unmapAnswer (t .known) (route side t .map) (route side t .cache) vm guest)) (UnmapsPage side t vm guest)
-  unfolding unmapAnswer
+  unfolding unmapAnswer unmapMay
   unmap-exact vm guest =
-      decides-as
+      dropping-exact (unmapMay (t .known) (route side t .map) vm guest) _
+      (decides-as
       (after-early (unmapEarly (t .known) vm guest) _ (unmap-early (t .known) vm guest)
       (λ ((a, g), _). where-so _ _ _ _ (mapped-exact (route-of side t v .map) vm guest g) always))
       (λ (((a, g), (k, _)), (m, _)). record { vm-ok = a; guest-ok = g; known = k; mapped = m })
-      (λ c. (((c .vm-ok, c .guest-ok), (c .known, tt)), (c .mapped, tt)))
+      (λ c. (((c .vm-ok, c .guest-ok), (c .known, tt)), (c .mapped, tt))))
 
   -- ---- 17, 18
   pub fill-exact : (port guest : ℕ) → Decides (accepts (fillAnswer (route side t .ports) (route side t .walker) port guest)) (Fills side t port guest)

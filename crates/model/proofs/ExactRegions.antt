@@ -24,10 +24,10 @@ use Rattle.model.specs.State.{Tables, route}
 use Rattle.model.specs.Views.{knows, inPool, inShared, targeted, butKey}
 use Rattle.model.specs.Valid.{ValidTables}
 use Rattle.model.specs.Start.{unitRegion}
-use Rattle.model.specs.Regions.{pageIn, guestIn, keyIn, regionEntry, regionEarly, notFree, claimed, inUse, insertAnswer, removeAnswer}
+use Rattle.model.specs.Regions.{pageIn, guestIn, keyIn, regionEntry, regionEarly, notFree, claimed, inUse, insertAnswer, removeMay, removeAnswer}
 use Rattle.model.specs.Conditions.{accepts, Claims, Edge, Maps, Mapped, IsUnit, RegionGood, Insertable, Inserts, Unshared, Removes}
 use Rattle.model.proofs.OneRoute.{route-of}
-use Rattle.model.proofs.ExactLaws.{where-so, after-early, after-check, no-clash, some-below}
+use Rattle.model.proofs.ExactLaws.{where-so, after-early, after-check, no-clash, some-below, dropping-exact}
 use Rattle.model.proofs.ExactViews.{claimed-exact, mapped-exact, targets-exact, edge-on-exact, map-key, whole, mapped-lookup, mapping}
 
 -- ---- units
@@ -220,9 +220,10 @@ unused Dma t v region k n u = n
 
 pub remove-exact : (side : Side) (t : Tables) (v : ValidTables t) (region : Region) →
     Decides (accepts (removeAnswer side (t .known) (t .setup .pages) (t .setup .units) (t .setup .unitCount) (t .sets) (t .pairs) (route side t .map) (route side t .cache) region)) (Removes side t region)
-unfolding removeAnswer
+unfolding removeAnswer removeMay
 remove-exact side t v region =
-    decides-as
+    dropping-exact (removeMay side (t .known) (t .setup .pages) (t .setup .units) (t .setup .unitCount) (t .sets) (t .pairs) (route side t .map) region) _
+    (decides-as
     (after-early (regionEarly (t .known) (t .setup .pages) region) _ (early-exact side t region)
     (λ early.
     after-check _ _ _ _ (unit-exact side t region)
@@ -230,7 +231,7 @@ remove-exact side t v region =
     no-clash _ (λ k. Claims side t (region .vm .0) (pageIn region k) → ⊥) region _ _ (λ k h. decides-not (decides-itself _))
     (no-clash _ (λ k. Stands side t v region k → ⊥) region _ _ (λ k h. decides-not (stands-exact side t v region (region-good side t v region early unit) k h))
     (no-clash _ (λ k. Used side t v region k) region _ _ (λ k h. used-exact side t v region k) always)))))
-    to fro
+    to fro)
   where
     Passed : Type 0
     Passed =

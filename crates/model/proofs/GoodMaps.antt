@@ -19,7 +19,7 @@ use Rattle.table.specs.TableLaws.{found-at}
 use Rattle.table.specs.declared.Found.the-variants.{At}
 use Rattle.model.specs.State.{Tables, route}
 use Rattle.model.specs.Views.{mayMap}
-use Rattle.model.specs.Maps.{mapEarly, mapAnswer, mapTable, unmapTable, withoutSlots}
+use Rattle.model.specs.Maps.{mapEarly, mapMay, mapAnswer, mapTable, unmapTable, withoutSlots}
 use Rattle.model.specs.Step.{mapRoute, unmapRoute, answerOf}
 use Rattle.model.specs.EarlyLaws.{past, then-passed, MapPassed, map-passed}
 use Rattle.model.specs.ShapeLaws.{same-mapped, same-unmapped}
@@ -36,15 +36,21 @@ pub record MapAllPassed (side : Side) (known pages : ℕ) (sets pairs map : List
   pub spot : ℕ
   pub placed : place keyOf map (key vm guest) ≡ At spot
 
-pub map-all-passed : (side : Side) (known pages : ℕ) (sets pairs map cache : List ℕ) (vm guest page access generation : ℕ) {dropped word : ℕ} →
-    mapAnswer side known pages sets pairs map cache vm guest page access generation ≡ Accepted dropped word → MapAllPassed side known pages sets pairs map vm guest page access generation
-unfolding mapAnswer
-map-all-passed side known pages sets pairs map cache vm guest page access generation e =
+pub map-may-passed : (side : Side) (known pages : ℕ) (sets pairs map : List ℕ) (vm guest page access generation : ℕ) {dropped word : ℕ} →
+    mapMay side known pages sets pairs map vm guest page access generation ≡ Accepted dropped word → MapAllPassed side known pages sets pairs map vm guest page access generation
+unfolding mapMay
+map-may-passed side known pages sets pairs map vm guest page access generation e =
     let (d, w, early, a) = then-passed (mapEarly known pages vm guest page access generation) _ e in
     let (may, b) = past (not (mayMap side sets pairs vm page)) _ _ _ a in
     let (found, c) = past (not (isFound (place keyOf map (key vm guest)))) _ _ _ b in
     let (i, p) = found-at _ (not-false _ found) in
     record { early = map-passed known pages vm guest page access generation early; may = not-false _ may; spot = i; placed = p }
+
+pub map-all-passed : (side : Side) (known pages : ℕ) (sets pairs map cache : List ℕ) (vm guest page access generation : ℕ) {dropped word : ℕ} →
+    mapAnswer side known pages sets pairs map cache vm guest page access generation ≡ Accepted dropped word → MapAllPassed side known pages sets pairs map vm guest page access generation
+unfolding mapAnswer
+map-all-passed side known pages sets pairs map cache vm guest page access generation e =
+    let (d, w, may, a) = then-passed (mapMay side known pages sets pairs map vm guest page access generation) _ e in map-may-passed side known pages sets pairs map vm guest page access generation may
 
 map-kept : (side : Side) (t : Tables) → ValidTables t → (vm guest page access generation : ℕ) →
     MapAllPassed side (t .known) (t .setup .pages) (t .sets) (t .pairs) (route side t .map) vm guest page access generation → GoodRoute side t (mapRoute (route side t) vm guest page access generation)

@@ -29,7 +29,7 @@ use Rattle.model.specs.Valid.{SameMap, CacheGood, ValidTables}
 use Rattle.model.specs.EarlyLaws.{past, both, then-passed, unmap-passed}
 use Rattle.model.specs.Step.{mapRoute, unmapRoute, answerOf}
 use Rattle.model.specs.Effect.{apply, clearedPages}
-use Rattle.model.specs.Maps.{mapTable, unmapEarly, unmapAnswer, unmapTable, withoutSlots}
+use Rattle.model.specs.Maps.{mapTable, unmapEarly, unmapAnswer, unmapTable, withoutSlots, unmapMay}
 use Rattle.model.specs.Upstream.{S2Entry, isSome, mapAt, flushed, seen, mapSeen, tlbSeen, softwareView, SameS2Map, SameTlb}
 use Rattle.model.specs.UpstreamStep.{MapStep, UnmapStep, UnmapInvalidateStep, HardwareMapStep}
 use Rattle.model.specs.UpstreamRun.{entryOf, mapCalls, HardwareRun, stop, go}
@@ -221,11 +221,12 @@ module _ (side : Side) (s : State) (valid : ValidTables (s .tables)) where
 
   pub unmap-follows : (vm : VmId) (guest : GuestPage) {dropped word : ℕ} → answerOf (s .tables) (op.On side (sided.UnmapPage vm guest)) ≡ Accepted dropped word →
       AcceptedFollows s (op.On side (sided.UnmapPage vm guest))
-  unfolding unmapAnswer apply clearedPages
+  unfolding unmapAnswer unmapMay apply clearedPages
   unmap-follows vm guest e =
       let t = s .tables in
       let r = route side t in
-      let (d, w, early, a) = then-passed (unmapEarly (t .known) (vm .0) (guest .0)) _ e in
+      let (n, k, may, _) = then-passed (unmapMay (t .known) (r .map) (vm .0) (guest .0)) _ e in
+      let (d, w, early, a) = then-passed (unmapEarly (t .known) (vm .0) (guest .0)) _ may in
       let g = unmap-passed (t .known) (vm .0) (guest .0) early .guest-ok in
       let (found, b) = past (not (isFound (find keyOf (r .map) (key (vm .0) (guest .0))))) _ _ _ a in
       record {

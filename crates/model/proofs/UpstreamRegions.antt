@@ -25,7 +25,7 @@ use Rattle.model.specs.State.{Tables, Route, State, route, withSide, wit
 use Rattle.model.specs.Maps.{mapTable}
 use Rattle.model.specs.Views.{inPool, inShared, claims, claimedElsewhere, paired, edgeOn, targeted, butKey}
 use Rattle.model.specs.EarlyLaws.{past, then-passed, RegionPassed}
-use Rattle.model.specs.Regions.{guestIn, pageIn, keyIn, regionEntry, regionEarly, present, claimed, notHeld, differs, insertAnswer, insertSets, insertTable, removeAnswer, removeSets, removeClears}
+use Rattle.model.specs.Regions.{guestIn, pageIn, keyIn, regionEntry, regionEarly, present, claimed, notHeld, differs, insertAnswer, insertSets, insertTable, removeMay, removeAnswer, removeSets, removeClears}
 use Rattle.model.specs.Step.{insertRoute, removeRoute, answerOf}
 use Rattle.model.specs.Effect.{apply, clearedPages}
 use Rattle.model.specs.Valid.{SameMap, MapGood, ValidTables}
@@ -195,9 +195,10 @@ module _ (side : Side) (t : Tables) (memory : List ℕ) (r : Route) (known pages
 -- ---- remove: what upstream asks for
 remove-unit : (side : Side) (known pages : ℕ) (units : List Unit) (n : ℕ) (sets pairs map cache : List ℕ) (region : Region) {dropped word : ℕ} →
     removeAnswer side known pages units n sets pairs map cache region ≡ Accepted dropped word → assignable units n side region ≡ true
-unfolding removeAnswer
+unfolding removeAnswer removeMay
 remove-unit side known pages units n sets pairs map cache region e =
-    let (d, w, early, a) = then-passed (regionEarly known pages region) _ e in
+    let (k, r, may, _) = then-passed (removeMay side known pages units n sets pairs map region) _ e in
+    let (d, w, early, a) = then-passed (regionEarly known pages region) _ may in
     not-false _ (past (not (assignable units n side region)) _ _ _ a .0)
 
 module _ (t : Tables) (valid : ValidTables t) (region : Region) (early : RegionPassed (t .known) (t .setup .pages) region) where
