@@ -2,6 +2,7 @@
 
 use crate::side::{Function, Kind, Named, Side};
 use crate::tokens::{bare, block, number, parts, tokens};
+use crate::value::evaluated;
 
 /// An operation as the header names it: its number, its name, and how many arguments its comment
 /// lists.
@@ -26,7 +27,7 @@ pub fn read(text: &str) -> Header {
     let mut side = Side::default();
     for line in code.lines().filter_map(|line| line.strip_prefix("#define TILIGORMIS_")) {
         let (name, value) = line.split_once(' ').unwrap_or((line, ""));
-        if let Some(value) = number(value) {
+        if let Some(value) = evaluated(&value.replace("TILIGORMIS_", ""), &side.numbers) {
             side.numbers.insert(name.to_string(), value);
         }
     }

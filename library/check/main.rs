@@ -11,6 +11,7 @@ mod rattle;
 mod rust;
 mod side;
 mod tokens;
+mod value;
 
 use std::path::Path;
 use std::{env, fs, process};

@@ -106,9 +106,9 @@ const PLANTED: &[(Where, &str, &str, &str)] = &[
     (Header, "TILIGORMIS_PAIRS 128", "TILIGORMIS_PAIRS 256", "PAIRS"),
     (Header, "#define TILIGORMIS_VMS 16", "", "VMS"),
     (Header, "TILIGORMIS_EXECUTE 4", "TILIGORMIS_EXECUTE 8", "EXECUTE"),
-    (Numbers, "GENERATIONS: u64 = 65_536", "GENERATIONS: u64 = 65_535", "GENERATIONS"),
-    (Crate("numbers"), "const SLOTS: u64 = 64", "const SLOTS: u64 = 32", "SLOTS"),
-    (Crate("access"), "const WRITE: u64 = 2", "const WRITE: u64 = 3", "WRITE"),
+    (Numbers, "GENERATIONS: u64 = ", "GENERATIONS: u64 = 1 + ", "GENERATIONS"),
+    (Crate("numbers"), "const SLOTS: u64 = ", "const SLOTS: u64 = 1 + ", "SLOTS"),
+    (Crate("access"), "const WRITE: u64 = ", "const WRITE: u64 = 1 + ", "WRITE"),
     (
         Crate("header"),
         "const NO_PAGE: u64 = 18446744073709551615",
@@ -117,7 +117,7 @@ const PLANTED: &[(Where, &str, &str, &str)] = &[
     ),
     // refusals and marks
     (Header, "TILIGORMIS_VM_KNOWN = 5", "TILIGORMIS_VM_KNOWN = 4", "VM_KNOWN"),
-    (Numbers, "PORT_IDLE: u64 = 15", "PORT_IDLE: u64 = 16", "PORT_IDLE"),
+    (Numbers, "PORT_IDLE: u64 = ", "PORT_IDLE: u64 = 1 + ", "PORT_IDLE"),
     (Crate("numbers"), "VmUnknown,\n    VmKnown,", "VmKnown,\n    VmUnknown,", "refusal 4"),
     (Crate("numbers"), "Refusal::NoRoom => 14", "Refusal::NoRoom => 13", "NO_ROOM"),
     (Crate("numbers"), "    AccessLacking,\n", "", "refusals"),
@@ -134,7 +134,7 @@ const PLANTED: &[(Where, &str, &str, &str)] = &[
     (Header, "/* vm, page */", "/* vm */", "operation 3, arguments"),
     (Manual, "CPU, DMA fill", "DMA, CPU fill", "operation 17"),
     (Crate("rows"), "26 =>", "27 =>", "operation 26"),
-    (Numbers, "DMA_READ: u64 = 22", "DMA_READ: u64 = 21", "DMA_READ"),
+    (Numbers, "DMA_READ: u64 = ", "DMA_READ: u64 = 1 + ", "DMA_READ"),
     // structs, sizes and places
     (Header, "uint32_t entry;", "uint64_t entry;", "bytes of Slot"),
     (Header, "uint64_t cpu_hand;", "", "bytes of Machine"),
@@ -145,19 +145,24 @@ const PLANTED: &[(Where, &str, &str, &str)] = &[
     (Crate("slots"), "pub vm: u8", "pub vm: u16", "Slot, field 2"),
     (
         Crate("header"),
-        "MACHINE_NUMBERS: usize = 215",
-        "MACHINE_NUMBERS: usize = 216",
+        "MACHINE_NUMBERS: usize = ",
+        "MACHINE_NUMBERS: usize = 1 + ",
         "bytes of Machine",
     ),
     (
         Crate("header"),
-        "DEVICES_AT: usize = 15",
-        "DEVICES_AT: usize = 16",
+        "DEVICES_AT: usize = ",
+        "DEVICES_AT: usize = 1 + ",
         "place of Machine.devices",
     ),
-    (Crate("numbers"), "ANSWER_NUMBERS: usize = 4", "ANSWER_NUMBERS: usize = 5", "bytes of Answer"),
-    (Crate("cores"), "FREE_NUMBERS: usize = 2", "FREE_NUMBERS: usize = 3", "bytes of FreePages"),
-    (Crate("start"), "UNIT_NUMBERS: usize = 6", "UNIT_NUMBERS: usize = 7", "bytes of Unit"),
+    (
+        Crate("numbers"),
+        "ANSWER_NUMBERS: usize = ",
+        "ANSWER_NUMBERS: usize = 1 + ",
+        "bytes of Answer",
+    ),
+    (Crate("cores"), "FREE_NUMBERS: usize = ", "FREE_NUMBERS: usize = 1 + ", "bytes of FreePages"),
+    (Crate("start"), "UNIT_NUMBERS: usize = ", "UNIT_NUMBERS: usize = 1 + ", "bytes of Unit"),
     // the box
     (
         Header,

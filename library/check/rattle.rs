@@ -3,6 +3,7 @@
 
 use crate::side::{Function, Kind, Named, Side};
 use crate::tokens::{bare, block, number, parts, tokens};
+use crate::value::evaluated;
 use std::collections::{BTreeMap, BTreeSet};
 
 /// The text of each crate's src/.
@@ -57,7 +58,7 @@ pub fn read(crates: &Crates) -> Source {
     }
 }
 
-/// `const NAME: TYPE = NUMBER;`
+/// `const NAME: TYPE = VALUE;`
 fn constants(code: &str, side: &mut Side) {
     for (at, word) in code.match_indices("const ") {
         let rest = &code[at + word.len()..];
@@ -66,7 +67,7 @@ fn constants(code: &str, side: &mut Side) {
         else {
             continue;
         };
-        if let Some(value) = number(value) {
+        if let Some(value) = evaluated(value, &side.numbers) {
             side.numbers.insert(name.to_string(), value);
         }
     }

@@ -1,7 +1,8 @@
 //! The declarations of the Rust crate over the library, read: ffi.rs, numbers.rs and structs.rs.
 
 use crate::side::{Function, Kind, Named, Side};
-use crate::tokens::{bare, block, number, parts, tokens};
+use crate::tokens::{bare, block, parts, tokens};
+use crate::value::evaluated;
 
 pub fn read(ffi: &str, numbers: &str, structs: &str) -> Side {
     let mut side = Side::default();
@@ -9,7 +10,7 @@ pub fn read(ffi: &str, numbers: &str, structs: &str) -> Side {
     let list = list.find("\nnumbers! {").and_then(|at| block(&list[at..], "{")).unwrap_or("");
     for part in parts(list, ';') {
         let Some((head, value)) = part.split_once('=') else { continue };
-        if let (Some(name), Some(value)) = (tokens(head).first(), number(value)) {
+        if let (Some(name), Some(value)) = (tokens(head).first(), evaluated(value, &side.numbers)) {
             side.numbers.insert(name.to_string(), value);
         }
     }

@@ -1,5 +1,6 @@
 //! What a side says of the library: its functions, numbers and structs.
 
+use crate::value::Numbers;
 use std::collections::BTreeMap;
 use std::fmt;
 
@@ -59,7 +60,7 @@ pub struct Function {
 #[derive(Clone, Default)]
 pub struct Side {
     pub functions: BTreeMap<String, Function>,
-    pub numbers: BTreeMap<String, u64>,
+    pub numbers: Numbers,
     pub structs: BTreeMap<String, Vec<Named>>,
 }
 
