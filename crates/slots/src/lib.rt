@@ -8,13 +8,16 @@ ghost use Rattle.slots.specs.Calls.{findSlot, change, fillWord, emptyWor
 ghost use Rattle.slots.specs.Slots.{wordOf, slotOf, slotAt, loaded, stored, AllFit};
 use numbers::ACCESSES;
 use numbers::GENERATIONS;
+use numbers::GUEST_FIELD;
 use numbers::GUEST_PAGES;
 use numbers::GuestPage;
 use numbers::PAGES;
+use numbers::PORT_FIELD;
 use numbers::PORTS;
 use numbers::PhysPage;
 use numbers::Refusal;
 use numbers::SLOTS;
+use numbers::VM_FIELD;
 use numbers::VMS;
 use numbers::VmId;
 use table::Found;
@@ -27,13 +30,6 @@ pub struct Slot {
     pub guest: u16,
     pub entry: u32,
 }
-
-// What a slot's field of 8 bits for the port can hold.
-const PORT_FIELD: u64 = 256;
-// Its field of 8 bits for the VM.
-const VM_FIELD: u64 = 256;
-// Its field of 16 bits for the guest page.
-const GUEST_FIELD: u64 = 65536;
 
 pub fn word_of(slot: Slot) -> u64
     ensures { λ r. ⌜ r ≡ wordOf slot ⌝ }
