@@ -81,7 +81,10 @@ const POINTS: &[(&[u64], &[&str])] = &[
     (&[13], &["0 on its own CPU pages", "0 on pool pages", "0 on its own DMA pages"]),
     (&[15, 16], &["0 to idle", "0 from one VM to another"]),
     (&[17, 18], &["0 key held", "0 key held, cache full", "0 lowest empty below a filled slot"]),
-    (&[17, 18], &["0 slot at the hand", "0 hand from the last slot to 0", "0 empty slot, hand not 0"]),
+    (
+        &[17, 18],
+        &["0 slot at the hand", "0 hand from the last slot to 0", "0 empty slot, hand not 0"],
+    ),
     (&[17, 18], &["0 same guest on another port"]),
     (&[19, 20], &["0 filled slot", "0 empty slot"]),
     (&[21, 22, 23, 24], &["0 by a slot", "0 by the walker", "16 by a slot", "16 by the walker"]),
@@ -207,7 +210,7 @@ impl Coverage {
     fn start_accepted(&mut self, setup: &Setup) {
         let (pages, shared, units) = (setup.pages, setup.shared, &setup.units);
         self.sizes.insert(pages);
-        let two = |alike: fn(&[u64; UNIT_NUMBERS], &[u64; UNIT_NUMBERS]) -> bool| {
+        let two = |alike: fn(&UnitNumbers, &UnitNumbers) -> bool| {
             (0..units.len()).any(|i| units[..i].iter().any(|unit| alike(unit, &units[i])))
         };
         let only_mark = two(|a, b| a[..5] == b[..5] && a[5] != b[5]);
@@ -222,8 +225,9 @@ impl Coverage {
 
     fn start_refused_2(&mut self, setup: &Setup) {
         let units = &setup.units;
-        let bad =
-            |unit: &[u64; UNIT_NUMBERS]| unit[0] >= VMS || unit[4] >= ACCESSES || !(1..=3).contains(&unit[5]);
+        let bad = |unit: &UnitNumbers| {
+            unit[0] >= VMS || unit[4] >= ACCESSES || !(1..=3).contains(&unit[5])
+        };
         let order = units.len() > 1 && bad(&units[units.len() - 1]) && units[0][3] == 0;
         self.hit(0, "start 2, a unit too many", units.len() > UNITS);
         self.hit(0, "start 2, unit VM", units.iter().any(|unit| unit[0] >= VMS));
@@ -234,7 +238,7 @@ impl Coverage {
 
     fn start_refused_3(&mut self, setup: &Setup) {
         let (pages, shared, units) = (setup.pages, setup.shared, &setup.units);
-        let wraps = |unit: &[u64; UNIT_NUMBERS]| unit[2].checked_add(unit[3]).is_none();
+        let wraps = |unit: &UnitNumbers| unit[2].checked_add(unit[3]).is_none();
         let past = |base, count, limit| count > 0 && !Span { base, count }.fits(limit);
         let guest_span = units.iter().any(|unit| past(unit[1], unit[3], GUESTS));
         let page_span = units.iter().any(|unit| past(unit[2], unit[3], pages));
@@ -474,7 +478,8 @@ impl Coverage {
         self.hit(operation, "0 one page", region.count == 1);
         self.hit(operation, "0 several pages", region.count > 1);
         if operation == 11 || operation == 13 {
-            self.hit(operation, "0 fills the map", map.len() as u64 + region.count == ENTRIES as u64);
+            let filled = map.len() as u64 + region.count;
+            self.hit(operation, "0 fills the map", filled == ENTRIES as u64);
         }
         match operation {
             11 => self.hit(11, "0 on its own DMA pages", own(&m.dma)),
@@ -621,7 +626,8 @@ impl fmt::Display for Coverage {
         writeln!(f, "\nanswers of each operation, number:times (times above index 0)")?;
         for operation in 1..=OPERATIONS {
             write!(f, "{operation:>3} ")?;
-            for (&(_, number), times) in self.answers.range((operation, 0)..=(operation, REFUSALS)) {
+            for (&(_, number), times) in self.answers.range((operation, 0)..=(operation, REFUSALS))
+            {
                 write!(f, " {number}:{times}")?;
                 if let Some(above) = self.above.get(&(operation, number)) {
                     write!(f, "({above})")?;

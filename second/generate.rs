@@ -200,7 +200,7 @@ impl Writer {
     }
 
     /// The numbers of a box line, and the units.
-    fn configuration(&mut self, pages: u64) -> ([u64; 3], Vec<[u64; UNIT_NUMBERS]>) {
+    fn configuration(&mut self, pages: u64) -> ([u64; 3], Vec<UnitNumbers>) {
         let (base, count) = match self.rng.below(4) {
             0 => (self.rng.below(pages + 1), 0),
             1 => (pages - 1, 1),
@@ -210,7 +210,7 @@ impl Writer {
             }
         };
         let wanted = if self.rng.chance(20) { UNITS as u64 } else { 2 + self.rng.below(14) };
-        let mut units: Vec<[u64; UNIT_NUMBERS]> = Vec::new();
+        let mut units: Vec<UnitNumbers> = Vec::new();
         for _ in 0..wanted {
             let unit = self.unit(pages, &units);
             units.push(unit);
@@ -220,7 +220,7 @@ impl Writer {
 
     /// A unit, often close to one before it, so that units overlap and differ
     /// in one field alone.
-    fn unit(&mut self, pages: u64, before: &[[u64; UNIT_NUMBERS]]) -> [u64; UNIT_NUMBERS] {
+    fn unit(&mut self, pages: u64, before: &[UnitNumbers]) -> UnitNumbers {
         let mut unit = match self.rng.pick(before) {
             Some(unit) if self.rng.chance(40) => unit,
             _ => {
@@ -242,7 +242,7 @@ impl Writer {
     }
 
     /// Puts an odd number into the box line or a unit, or adds a unit.
-    fn spoil_start(&mut self, size: &mut [u64; 3], units: &mut Vec<[u64; UNIT_NUMBERS]>) {
+    fn spoil_start(&mut self, size: &mut [u64; 3], units: &mut Vec<UnitNumbers>) {
         let wrong = self.odd();
         match self.rng.below(4) {
             0 => size[self.rng.below(3) as usize] = wrong,

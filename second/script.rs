@@ -2,7 +2,9 @@
 
 use std::io::{self, BufRead, Write};
 
-use crate::machine::{Free, Lent, Machine, Span, IDLE, UNITS};
+use crate::machine::{
+    Free, Lent, Machine, Span, UnitNumbers, ANSWER_NUMBERS, IDLE, ROW_NUMBERS, UNITS,
+};
 use crate::operate::{Answer, Row};
 use crate::valid;
 
@@ -11,7 +13,7 @@ use crate::valid;
 enum Line {
     Blank,
     Box([u64; 3]),
-    Unit([u64; UNIT_NUMBERS]),
+    Unit(UnitNumbers),
     Row(Row),
     Free,
 }
@@ -21,7 +23,7 @@ enum Line {
 pub struct Setup {
     pub pages: u64,
     pub shared: Span,
-    pub units: Vec<[u64; UNIT_NUMBERS]>,
+    pub units: Vec<UnitNumbers>,
 }
 
 impl Setup {

@@ -1,7 +1,7 @@
 //! The test for validity, clause by clause. It uses no operation; it shares
 //! with them only the helpers that say what a VM may map and what fits.
 //!
-//! Some clauses can't be broken in these forms: caches have 64 slots by type,
+//! Some clauses can't be broken in these forms: caches have SLOTS slots by type,
 //! a map has no key twice, a set no pair twice, a mark is one of three, and
 //! the set of shared pages is the span itself.
 
