@@ -3,12 +3,15 @@
 use Prim.Native.Nat.{ℕ, _+_, _*_, _/_, _%_, min, max}
 
 -- ---- fields: how many numbers each can hold, and its lowest bit, which stands right above the field below it
--- generation, whose lowest bit is that of the word
+-- generation, the lowest field
+abbrev pub GENERATION-BIT : ℕ
+GENERATION-BIT = 1
+
 abbrev pub GENERATION-FIELD : ℕ
 GENERATION-FIELD = 65536
 
 abbrev pub ACCESS-BIT : ℕ
-ACCESS-BIT = GENERATION-FIELD
+ACCESS-BIT = GENERATION-BIT * GENERATION-FIELD
 
 abbrev pub ACCESS-FIELD : ℕ
 ACCESS-FIELD = 8

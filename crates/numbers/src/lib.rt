@@ -43,10 +43,12 @@ pub const ANSWER_NUMBERS: usize = 4;
 // ---- Fields of a packed word (docs/MACHINE.md, 3): how many numbers each can hold, and its lowest bit, which stands right
 // above the field below it. Each has the same name in specs/Packing.antt.
 
-// Generation, from the word's lowest bit on.
+// Generation, the lowest field.
+pub const GENERATION_BIT: u64 = 1;
+
 pub const GENERATION_FIELD: u64 = 65536;
 
-pub const ACCESS_BIT: u64 = GENERATION_FIELD;
+pub const ACCESS_BIT: u64 = GENERATION_BIT * GENERATION_FIELD;
 
 pub const ACCESS_FIELD: u64 = 8;
 
