@@ -284,7 +284,8 @@ impl Writer {
 
     /// Any operation with any numbers at all.
     fn noise(&mut self) -> Row {
-        let operation = if self.rng.chance(90) { self.rng.below(28) } else { self.odd() };
+        let operation =
+            if self.rng.chance(90) { self.rng.below(OPERATIONS + 2) } else { self.odd() };
         let mut row = Row::default();
         row[0] = operation;
         for number in &mut row[1..] {

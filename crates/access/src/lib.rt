@@ -49,7 +49,7 @@ pub const READ: u64 = 1;
 pub const WRITE: u64 = 2;
 
 // The VM on a port; nobody is on one that there is not.
-pub fn vm_on(ports: [u64; 8], port: u64) -> u64
+pub fn vm_on(ports: [u64; PORTS as usize], port: u64) -> u64
     ensures { λ r. ⌜ r ≡ vmOn ports port ⌝ }
 {
     if port < PORTS {
@@ -86,7 +86,7 @@ enum Reached {
 
 // The refusals in their order; past them the place of the word.
 fn reach(
-    ports: [u64; 8],
+    ports: [u64; PORTS as usize],
     cache: &[u64],
     walker: &[u64],
     bit: u64,
@@ -118,7 +118,7 @@ fn reach(
 
 // Operations 21 and 22. A word past the end of memory reads as 0.
 pub fn read_word(
-    ports: [u64; 8],
+    ports: [u64; PORTS as usize],
     cache: &[u64],
     walker: &[u64],
     memory: &[u64],
@@ -148,7 +148,7 @@ pub fn read_word(
 
 // Operations 23 and 24. A place past the end of memory is not written.
 pub fn write_word(
-    ports: [u64; 8],
+    ports: [u64; PORTS as usize],
     cache: &[u64],
     walker: &[u64],
     memory: &mut [u64],

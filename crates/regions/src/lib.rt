@@ -10,6 +10,7 @@ use numbers::ACCESSES;
 use numbers::Answer;
 use numbers::Refusal;
 use numbers::Side;
+use numbers::UNITS;
 use numbers::VMS;
 use numbers::accept;
 use numbers::refuse;
@@ -40,7 +41,7 @@ pub fn insert_region(
     side: Side,
     known: u64,
     pages: u64,
-    units: [Unit; 32],
+    units: [Unit; UNITS],
     unit_count: u64,
     sets: &mut [u64],
     map: &mut [u64],
@@ -87,7 +88,7 @@ pub fn remove_region(
     side: Side,
     known: u64,
     pages: u64,
-    units: [Unit; 32],
+    units: [Unit; UNITS],
     unit_count: u64,
     sets: &mut [u64],
     pairs: &[u64],
