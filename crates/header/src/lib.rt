@@ -24,14 +24,14 @@ const KNOWN_AT: usize = 4;
 
 const CPUS_AT: usize = 7;
 
-const DEVICES_AT: usize = 15;
+const DEVICES_AT: usize = CPUS_AT + PORTS as usize;
 
-const UNITS_AT: usize = 23;
+const UNITS_AT: usize = DEVICES_AT + PORTS as usize;
 
 // Of a unit's numbers, its mark.
 const MARK_AT: usize = 5;
 
-pub const MACHINE_NUMBERS: usize = 215;
+pub const MACHINE_NUMBERS: usize = UNITS_AT + UNITS * UNIT_NUMBERS;
 
 // The lowest free page where none is free.
 pub const NO_PAGE: u64 = 18446744073709551615;
