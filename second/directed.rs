@@ -662,7 +662,7 @@ fn regions_full(a: &mut Author) {
 }
 
 /// For CPU the whole box, whose page 500 is taken; for DMA a region still in.
-fn late_region(insert: u64) -> UnitNumbers {
+fn late_region(insert: u64) -> [u64; 6] {
     if insert == 11 {
         [11, 1, 0, 0, PAGES, 3]
     } else {
@@ -930,37 +930,10 @@ fn clearing_by_reclaim(a: &mut Author) {
 /// Boxes of many sizes, above all those near whole 64-bit words of pages.
 fn sizes(a: &mut Author) {
     let all = [
-        1,
-        2,
-        3,
-        5,
-        31,
-        63,
-        64,
-        65,
-        100,
-        127,
-        128,
-        129,
-        191,
-        192,
-        193,
-        255,
-        256,
-        257,
-        319,
-        320,
-        511,
-        512,
-        513,
-        700,
-        767,
-        960,
-        1000,
-        PAGES - 1,
-        PAGES,
+        1, 2, 3, 5, 31, 63, 64, 65, 100, 127, 128, 129, 191, 192, 193, 255, 256, 257, 319, 320,
+        511, 512, 513, 700, 767, 960, 1000,
     ];
-    for n in all {
+    for n in all.into_iter().chain([PAGES - 1, PAGES]) {
         let count = n.min(ENTRY_COUNT);
         open(a, n, n, 0, &[[1, 16, 0, count, 3, 3], [2, 0, n - 1, 1, 7, 3]]);
         add(a, &[1, 2]);

@@ -5,7 +5,7 @@
 
 /* A row of another length is answered, an answer of another length is not written. */
 bool row_lengths(void) {
-    static const size_t lengths[] = {0, 1, TILIGORMIS_ROW_NUMBERS - 1, TILIGORMIS_ROW_NUMBERS + 1, 2 * TILIGORMIS_ROW_NUMBERS};
+    static const size_t lengths[] = {0, 1, TILIGORMIS_ROW_NUMBERS - 1, TILIGORMIS_ROW_NUMBERS + 1, ROWS_LENGTH};
     bool good = true;
     for (size_t k = 0; k < 5; k++) {
         expected = room = whole;
@@ -17,7 +17,7 @@ bool row_lengths(void) {
 }
 
 bool answer_lengths(void) {
-    static const size_t lengths[] = {0, 1, TILIGORMIS_ANSWER_NUMBERS - 1, TILIGORMIS_ANSWER_NUMBERS + 1, 2 * TILIGORMIS_ANSWER_NUMBERS};
+    static const size_t lengths[] = {0, 1, TILIGORMIS_ANSWER_NUMBERS - 1, TILIGORMIS_ANSWER_NUMBERS + 1, ANSWERS_LENGTH};
     bool good = true;
     expected = room;
     for (size_t k = 0; k < 5; k++) {

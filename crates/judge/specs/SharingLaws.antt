@@ -1,5 +1,5 @@
 -- Pairs by their borrowers: two good pairs have the same key where they lend the same page to the same VM.
-use Prim.Native.Nat.{ℕ, _+_, _*_, _/_, _<_, min, max}
+use Prim.Native.Nat.{ℕ, _<_}
 use mathlib.Core.Bool.{true, false, true≢false}
 use mathlib.Core.List.{List}
 use mathlib.Core.Logic.{_⊎_, inl, inr, ⊎-elim}
