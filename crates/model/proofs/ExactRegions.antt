@@ -11,7 +11,7 @@ use Rattle.numbers.specs.CaseLaws.{cases, equal}
 use Rattle.numbers.specs.Limits.{VMS, GUEST-PAGES, ACCESSES}
 use Rattle.numbers.specs.Decides.{Decides}
 use Rattle.numbers.specs.DecidesLaws.{says-no, always, decides-as, decides-itself, decides-less, decides-most, decides-equal, decides-not, decides-and, decides-or, twice-not}
-use Rattle.numbers.specs.Packing.{vmOf, guestOf, pageOf, accessOf, generationOf, entry, keyOf}
+use Rattle.numbers.specs.Packing.{vmOf, guestOf, pageOf, accessOf, generationOf, entry, keyOf, EntryFits, WordFits}
 use Rattle.numbers.specs.PackingLaws.{entry-fits, entry-page, entry-access, entry-generation, word-vm, word-guest, word-page, word-access, word-generation, key-same}
 use Rattle.numbers.specs.declared.Side.{Side}
 use Rattle.numbers.specs.declared.Side.the-variants.{Cpu, Dma}
@@ -143,17 +143,11 @@ module _ (side : Side) (t : Tables) (v : ValidTables t) (region : Region) where
   stands-exact : RegionGood side t region → (k : ℕ) → k < region .count → Decides (eqb (lookup keyOf (route side t .map) (keyIn region k)) (regionEntry region k)) (Stands k)
   stands-exact g k h = decides-as (decides-equal _ _) to fro
     where
-      vm : region .vm .0 < 256
-      vm = omega (arith, g .vm-ok)
+      entry-ok : EntryFits (pageIn region k) (region .access) 0
+      entry-ok = record { page-fits = omega (arith, g .pages-ok, v .setup .most-pages); access-fits = g .access-ok; generation-fits = omega arith }
 
-      guest : guestIn region k < 65536
-      guest = omega (arith, g .guests-ok)
-
-      page : pageIn region k < 4096
-      page = omega (arith, g .pages-ok, v .setup .most-pages)
-
-      low : entry (pageIn region k) (region .access) 0 < 4294967296
-      low = entry-fits (pageIn region k) (region .access) 0 page (g .access-ok) (omega arith)
+      word-ok : WordFits (region .vm .0) (guestIn region k) (entry (pageIn region k) (region .access) 0)
+      word-ok = record { vm-fits = omega (arith, g .vm-ok); guest-fits = omega (arith, g .guests-ok); low-fits = entry-fits entry-ok }
 
       filled : regionEntry region k ≡ 0 → ⊥
       filled z = omega arith
@@ -163,11 +157,11 @@ module _ (side : Side) (t : Tables) (v : ValidTables t) (region : Region) where
           record {
             word = regionEntry region k;
             stored = rw e at (lookup-has keyOf (route side t .map) (keyIn region k) (λ z. filled (sym e ∙ z)) .0);
-            vm-of = word-vm 0 (region .vm .0) (guestIn region k) _ vm guest low;
-            guest-of = word-guest 0 (region .vm .0) (guestIn region k) _ vm guest low;
-            page-of = word-page 0 (region .vm .0) (guestIn region k) _ vm guest low ∙ entry-page (pageIn region k) (region .access) 0 page (g .access-ok) (omega arith);
-            access-of = word-access 0 (region .vm .0) (guestIn region k) _ vm guest low ∙ entry-access (pageIn region k) (region .access) 0 page (g .access-ok) (omega arith);
-            generation-of = word-generation 0 (region .vm .0) (guestIn region k) _ vm guest low ∙ entry-generation (pageIn region k) (region .access) 0 page (g .access-ok) (omega arith);
+            vm-of = word-vm 0 word-ok;
+            guest-of = word-guest 0 word-ok;
+            page-of = word-page 0 word-ok ∙ entry-page entry-ok;
+            access-of = word-access 0 word-ok ∙ entry-access entry-ok;
+            generation-of = word-generation 0 word-ok ∙ entry-generation entry-ok;
           }
 
       fro : Stands k → lookup keyOf (route side t .map) (keyIn region k) ≡ regionEntry region k

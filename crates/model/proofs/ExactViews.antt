@@ -14,7 +14,7 @@ use Rattle.numbers.specs.Limits.{VMS, GUEST-PAGES, PAGES, PORTS, IDLE}
 use Rattle.numbers.specs.Decides.{Decides}
 use Rattle.numbers.specs.DecidesLaws.{says-yes, says-no, always, decides-as, decides-itself, decides-equal, decides-not, decides-and, decides-or}
 use Rattle.numbers.specs.Packing.{portOf, vmOf, guestOf, filledOf, pageOf, accessOf, generationOf, leftOf, rightOf, entryOf, entry, mapWord, slotWord, slotKey, key, keyOf, pairKey, pairKeyOf}
-use Rattle.numbers.specs.PackingLaws.{entry-whole, word-key, word-whole, key-same, key-filled, pair-same, pair-either}
+use Rattle.numbers.specs.PackingLaws.{entry-whole, word-key, word-whole, key-same, key-filled, pair-same, pair-either, parts-fit}
 use Rattle.numbers.specs.declared.Side.{Side}
 use Rattle.numbers.specs.declared.Side.the-variants.{Cpu, Dma}
 use Rattle.table.specs.ScanLaws.{any-at, any-here}
@@ -86,7 +86,7 @@ either-order a b c d l g = ⊎-elim (λ t. pick (leb-true a b t) (cases (leb c d
 -- a map's filled word has the key of its VM and guest page
 pub map-key : (w : ℕ) → portOf w ≡ 0 → filledOf w ≡ 1 → keyOf w ≡ key (vmOf w) (guestOf w)
 map-key w p f =
-    let e : keyOf (slotWord 0 (vmOf w) (guestOf w) (entryOf w)) ≡ slotKey 0 (vmOf w) (guestOf w) = word-key 0 (vmOf w) (guestOf w) (entryOf w) (omega arith) (omega arith) (omega arith) (omega arith) in
+    let e : keyOf (slotWord 0 (vmOf w) (guestOf w) (entryOf w)) ≡ slotKey 0 (vmOf w) (guestOf w) = word-key 0 (parts-fit w) (omega arith) in
     let z = rw p at (word-whole w) in
     sym (ap keyOf z) ∙ e ∙ omega arith
 

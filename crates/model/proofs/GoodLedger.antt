@@ -10,7 +10,7 @@ use lib.ListN.{length}
 use borrow.Author.Tests.{eqb-false, ne-eqb, ltb-true, not-false}
 use Rattle.numbers.specs.CaseLaws.{cases, equal}
 use Rattle.numbers.specs.Limits.{VMS, PAIRS}
-use Rattle.numbers.specs.Packing.{filledOf, pageOf, vmOf, leftOf, rightOf, pairWord, pairKey, pairKeyOf}
+use Rattle.numbers.specs.Packing.{filledOf, pageOf, vmOf, leftOf, rightOf, pairWord, pairKey, pairKeyOf, PairFits, GUEST-FIELD, PAGE-FIELD}
 use Rattle.numbers.specs.PackingLaws.{pair-left, pair-right, pair-page, pair-filled, pair-port, pair-access, pair-generation, pair-key, pair-same}
 use Rattle.numbers.specs.declared.Answer.{Answer}
 use Rattle.numbers.specs.declared.Answer.the-variants.{Accepted}
@@ -254,53 +254,52 @@ share-keeps pairs left right page vm page′ e = share-case pairs left right pag
         let other : pairKeyOf w ≡ pairKey left right page → ⊥ = λ q. not-paired pairs left right page w f (record { there = r .there; key = q }) in
         lends-shares _ vm page′ w (record { there = has-put-keep pairKeyOf pairs (pairKey left right page) _ w (r .there) other; filled = r .filled; same = r .same; end = r .end })
 
-module _ (t : Tables) (v : ValidTables t) (left right page : ℕ) (answer : Answer) (p : SharePassed t left right page answer) (l : left < 256) (r : right < 65536) (s : page < 4096) where
+module _ (t : Tables) (v : ValidTables t) (left right page : ℕ) (answer : Answer) (p : SharePassed t left right page answer) (f : PairFits left right page) where
   share-pair : PairGood (t .setup .pages) (t .known) (t .sets) (pairWord left right page)
   share-pair =
       record {
-        port = pair-port left right page l r s;
-        filled = pair-filled left right page l r s;
-        access = pair-access left right page l r s;
-        generation = pair-generation left right page l r s;
-        page = rw (pair-page left right page l r s) (p .early .page-ok);
-        apart = rw (pair-left left right page l r s, pair-right left right page l r s) (p .apart);
-        left = rw (pair-left left right page l r s) (p .early .knows-left);
-        right = rw (pair-right left right page l r s) (p .early .knows-right);
-        owned = inl (rw (pair-left left right page l r s, pair-page left right page l r s) (p .owned));
+        port = pair-port f;
+        filled = pair-filled f;
+        access = pair-access f;
+        generation = pair-generation f;
+        page = rw (pair-page f) (p .early .page-ok);
+        apart = rw (pair-left f, pair-right f) (p .apart);
+        left = rw (pair-left f) (p .early .knows-left);
+        right = rw (pair-right f) (p .early .knows-right);
+        owned = inl (rw (pair-left f, pair-page f) (p .owned));
       }
 
   share-valid : ValidTables (withPairs t (sharePairs (t .pairs) left right page))
   share-valid =
       pairs-valid t v (sharePairs (t .pairs) left right page)
-      (share-case (t .pairs) left right page (λ pairs. length pairs ≡ PAIRS) (v .lengths .pairs) (λ f. length-put pairKeyOf (t .pairs) _ _ ∙ v .lengths .pairs))
+      (share-case (t .pairs) left right page (λ pairs. length pairs ≡ PAIRS) (v .lengths .pairs) (λ new. length-put pairKeyOf (t .pairs) _ _ ∙ v .lengths .pairs))
       (share-case (t .pairs) left right page (PairsGood (t .setup .pages) (t .known) (t .sets)) (v .pairs)
-      (λ f.
+      (λ new.
       record {
         each = λ w h. ⊎-elim (λ q. rw q share-pair) (v .pairs .each w) (has-put-inv pairKeyOf (t .pairs) _ _ w h);
-        once = distinct-put pairKeyOf (t .pairs) _ _ (pair-key left right page l r s) (omega arith) (v .pairs .once);
+        once = distinct-put pairKeyOf (t .pairs) _ _ (pair-key f) (omega arith) (v .pairs .once);
       }))
-      (λ w h f e. may-lent Cpu (t .sets) _ (vmOf w) (pageOf w) (share-keeps (t .pairs) left right page (vmOf w) (pageOf w) e))
+      (λ w h filled e. may-lent Cpu (t .sets) _ (vmOf w) (pageOf w) (share-keeps (t .pairs) left right page (vmOf w) (pageOf w) e))
 
   share-made : Made t (op.SharePage (vmId left) (vmId right) (physPage page)) answer (pairWord left right page)
   share-made =
       record {
-        share = rw (pair-left left right page l r s, pair-right left right page l r s, pair-page left right page l r s);
+        share = rw (pair-left f, pair-right f, pair-page f);
         agreed = p .agreed;
-        owned = rw (pair-left left right page l r s, pair-page left right page l r s) (p .owned);
+        owned = rw (pair-left f, pair-page f) (p .owned);
       }
 
   share-edges : (w : ℕ) → Has (sharePairs (t .pairs) left right page) w → Has (t .pairs) w ⊎ Made t (op.SharePage (vmId left) (vmId right) (physPage page)) answer w
   share-edges w =
       share-case (t .pairs) left right page (λ pairs. Has pairs w → Has (t .pairs) w ⊎ Made t (op.SharePage (vmId left) (vmId right) (physPage page)) answer w) inl
-      (λ f h. ⊎-elim (λ q. inr (rw q share-made)) inl (has-put-inv pairKeyOf (t .pairs) _ _ w h))
+      (λ new h. ⊎-elim (λ q. inr (rw q share-made)) inl (has-put-inv pairKeyOf (t .pairs) _ _ w h))
 
 pub share-good : (t : Tables) → ValidTables t → (left right : VmId) (page : PhysPage) {dropped word : ℕ} → answerOf t (op.SharePage left right page) ≡ Accepted dropped word → AcceptedGood t (op.SharePage left right page)
 share-good t v left right page e =
     let p = share-passed t (left .0) (right .0) (page .0) e in
-    let l : left .0 < 256 = omega (arith, p .early .left-ok) in
-    let r : right .0 < 65536 = omega (arith, p .early .right-ok) in
-    let s : page .0 < 4096 = omega (arith, v .setup .most-pages, p .early .page-ok) in
-    quiet-good t (op.SharePage left right page) _ _ (share-valid t v (left .0) (right .0) (page .0) _ p l r s) (λ other page′ o b h. h) (share-edges t v (left .0) (right .0) (page .0) _ p l r s)
+    let f : PairFits (left .0) (right .0) (page .0) =
+    record { left-fits = omega (arith, p .early .left-ok); right-fits = omega (arith, p .early .right-ok); page-fits = omega (arith, v .setup .most-pages, p .early .page-ok) } in
+    quiet-good t (op.SharePage left right page) _ _ (share-valid t v (left .0) (right .0) (page .0) _ p f) (λ other page′ o b h. h) (share-edges t v (left .0) (right .0) (page .0) _ p f)
 
 -- ---- 6: unshare, of a pair whose borrower maps the page no longer
 record UnsharePassed (t : Tables) (left right page : ℕ) : Type 0 where
@@ -330,8 +329,8 @@ module _ (t : Tables) (v : ValidTables t) (left right page : ℕ) (p : UnsharePa
   -- an entry whose pair goes is of an end that owns the page
   owner-left : (w u : ℕ) → Has (t .cpu .map) w → filledOf w ≡ 1 → Lends (t .pairs) (vmOf w) (pageOf w) u → pairKeyOf u ≡ pairKey left right page → owns (t .sets) (vmOf w) (pageOf w) ≡ true
   owner-left w u h f r k =
-      let right-ok : right < 65536 = omega (arith, p .early .right-ok) in
-      let page-ok : page < 4096 = omega (arith, v .setup .most-pages, p .early .page-ok) in
+      let right-ok : right < GUEST-FIELD = omega (arith, p .early .right-ok) in
+      let page-ok : page < PAGE-FIELD = omega (arith, v .setup .most-pages, p .early .page-ok) in
       let e = pair-same (leftOf u) (rightOf u) (pageOf u) left right page (omega arith) (omega arith) (omega arith) (omega (arith, p .early .left-ok)) right-ok page-ok (rw (r .filled) at k) in
       let q : pageOf w ≡ page = sym (r .same) ∙ e .0 in
       ⊎-elim (λ l. not-borrower (t .sets) (t .cpu .map) left page w (p .no-left) h f l q) (λ l. not-borrower (t .sets) (t .cpu .map) right page w (p .no-right) h f l q)

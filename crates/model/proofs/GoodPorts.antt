@@ -9,7 +9,7 @@ use borrow.Author.Tests.{ltb-true, not-false}
 use Rattle.numbers.specs.CaseLaws.{cases}
 use Rattle.numbers.specs.Limits.{VMS, GUEST-PAGES, PORTS, SLOTS, IDLE}
 use Rattle.numbers.specs.Meaning.{targetNumber}
-use Rattle.numbers.specs.Packing.{keyOf, key, slotKey, entryOf}
+use Rattle.numbers.specs.Packing.{keyOf, key, slotKey, entryOf, WordFits}
 use Rattle.numbers.specs.PackingLaws.{word-key, word-filled}
 use Rattle.numbers.specs.declared.Answer.the-variants.{Accepted}
 use Rattle.numbers.specs.declared.Operation.the-variants as op
@@ -84,11 +84,9 @@ fill-cache : (cache : List ℕ) (hand : ℕ) (ports walker : List ℕ) (port gue
 unfolding fillCache
 fill-cache cache hand ports walker port guest a g =
     let vm = vmOn ports port in
-    let low = entryOf (lookup keyOf walker (key (vmOn ports port) guest)) in
-    let v : vmOn ports port < 256 = omega (arith, a .vm-ok) in
-    let l : entryOf (lookup keyOf walker (key (vmOn ports port) guest)) < 4294967296 = omega arith in
+    let f : WordFits (vmOn ports port) guest (entryOf (lookup keyOf walker (key (vmOn ports port) guest))) = record { vm-fits = omega (arith, a .vm-ok); guest-fits = a .guest-ok; low-fits = omega arith } in
     let s = slot-made walker port vm guest (a .port-ok) (a .vm-ok) (a .guest-ok) (a .walks) in
-    cache-fill walker cache g hand (slotKey port vm guest) _ s (word-key port vm guest low v (a .guest-ok) l (sym (word-filled port vm guest low v (a .guest-ok) l) ∙ s .filled))
+    cache-fill walker cache g hand (slotKey port vm guest) _ s (word-key port f (sym (word-filled port f) ∙ s .filled))
 
 fill-hand : (cache : List ℕ) (hand : ℕ) (ports : List ℕ) (port guest : ℕ) → hand < SLOTS → fillHand cache hand ports port guest < SLOTS
 unfolding fillHand

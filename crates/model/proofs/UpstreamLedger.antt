@@ -130,7 +130,7 @@ module _ (pairs : List ℕ) (left right page : ℕ) (a : left < VMS) (b : right 
       new f =
           let (i, at) = place-room pairKeyOf pairs (pairKey left right page) (λ q. room f) in
           rw (f, ← e) (found-put-same pairKeyOf refl pairs (pairKey left right page) (pairWord left right page) i (omega arith)
-          (pair-key left right page (omega arith) (omega arith) (omega arith)) at)
+          (pair-key {left = left} {right = right} {page = page} (record { left-fits = omega arith; right-fits = omega arith; page-fits = omega arith })) at)
 
   put-other : (l r p : ℕ) → (pairKey left right page ≡ pairKey l r p → ⊥) → paired (sharePairs pairs left right page) l r p ≡ paired pairs l r p
   unfolding sharePairs paired
@@ -140,7 +140,7 @@ module _ (pairs : List ℕ) (left right page : ℕ) (a : left < VMS) (b : right 
       new f =
           rw f
           (found-put-other pairKeyOf refl pairs (pairKey left right page) (pairWord left right page) (pairKey l r p)
-          (pair-key left right page (omega arith) (omega arith) (omega arith)) (omega arith) n)
+          (pair-key {left = left} {right = right} {page = page} (record { left-fits = omega arith; right-fits = omega arith; page-fits = omega arith })) (omega arith) n)
 
   pub share-seen : (paired pairs left right page ≡ false → 0 < freeEntries pairs) → (l r p : ℕ) → l < VMS → r < VMS → p < PAGES →
       paired (sharePairs pairs left right page) l r p ≡ plusEdge (paired pairs) left right page l r p

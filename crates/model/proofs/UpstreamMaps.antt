@@ -34,7 +34,7 @@ use Rattle.model.specs.Upstream.{S2Entry, isSome, mapAt, flushed, seen, 
 use Rattle.model.specs.UpstreamStep.{MapStep, UnmapStep, UnmapInvalidateStep, HardwareMapStep}
 use Rattle.model.specs.UpstreamRun.{entryOf, mapCalls, HardwareRun, stop, go}
 use Rattle.model.proofs.ViewLaws.{not-so}
-use Rattle.model.proofs.RoutesKept.{entry-key}
+use Rattle.model.proofs.RoutesKept.{entry-key, entry-ok, word-ok}
 use Rattle.model.proofs.OneRoute.{route-of, maps-of}
 use Rattle.model.proofs.GoodMaps.{MapAllPassed, map-all-passed}
 use Rattle.model.proofs.UpstreamLaws.{seen-is, key-test, of-slot-key, map-found, not-some, found-erase-same}
@@ -47,12 +47,11 @@ use Rattle.model.proofs.UpstreamRoutes.{shown, with-own, map-of, walk-o
 pub entry-shown : (vm gpa page access generation : ℕ) → vm < VMS → gpa < GUEST-PAGES → page < PAGES → access < ACCESSES → generation < GENERATIONS →
     seen (mapWord vm gpa (entry page access generation)) ≡ some (entryOf page access generation)
 entry-shown vm gpa page access generation v g p a n =
-    let v′ : vm < 256 = omega arith in
-    let p′ : page < 4096 = omega arith in
-    let l = entry-fits page access generation p′ a n in
-    let i = word-page 0 vm gpa (entry page access generation) v′ g l ∙ entry-page page access generation p′ a n in
-    let j = word-access 0 vm gpa (entry page access generation) v′ g l ∙ entry-access page access generation p′ a n in
-    let k = word-generation 0 vm gpa (entry page access generation) v′ g l ∙ entry-generation page access generation p′ a n in
+    let e = entry-ok vm gpa page access generation v g p a n in
+    let f = word-ok vm gpa page access generation v g p a n in
+    let i = word-page 0 f ∙ entry-page e in
+    let j = word-access 0 f ∙ entry-access e in
+    let k = word-generation 0 f ∙ entry-generation e in
     seen-is (mapWord vm gpa (entry page access generation)) (λ z. omega arith) ∙ rw (i, j, k)
 
 -- a table with one key's word replaced

@@ -12,7 +12,7 @@ use borrow.Author.Tests.{eq-eqb, ne-eqb, ltb-true, lt-ltb, not-false}
 use Rattle.numbers.specs.CaseLaws.{equal}
 use Rattle.numbers.specs.Choice.{if_then_else_}
 use Rattle.numbers.specs.Limits.{VMS, GUEST-PAGES, PORTS, SLOTS, IDLE}
-use Rattle.numbers.specs.Packing.{key, keyOf, slotKey, slotWord, entryOf, portOf, vmOf, guestOf, filledOf}
+use Rattle.numbers.specs.Packing.{key, keyOf, slotKey, slotWord, entryOf, portOf, vmOf, guestOf, filledOf, WordFits, VM-FIELD}
 use Rattle.numbers.specs.PackingLaws.{word-entry, word-filled, word-key, key-filled}
 use Rattle.numbers.specs.declared.Answer.the-variants.{Accepted}
 use Rattle.numbers.specs.declared.GuestPage.{GuestPage}
@@ -77,7 +77,7 @@ module _ (ws : List ℕ) (i : ℕ) (once : Distinct keyOf ws) (h : i < length ws
 
 -- ---- what a cache shows after an edit
 -- with one key's slot replaced
-at-slot : (cache cache′ : List ℕ) (port vm gpa : ℕ) (answer : Option S2Entry) → vm < 256 → gpa < GUEST-PAGES → seen (lookup keyOf cache′ (slotKey port vm gpa)) ≡ answer →
+at-slot : (cache cache′ : List ℕ) (port vm gpa : ℕ) (answer : Option S2Entry) → vm < VM-FIELD → gpa < GUEST-PAGES → seen (lookup keyOf cache′ (slotKey port vm gpa)) ≡ answer →
     ((other : ℕ) → 0 < other → (slotKey port vm gpa ≡ other → ⊥) → lookup keyOf cache′ other ≡ lookup keyOf cache other) →
     SameTlb (tlbSeen cache′) (tlbAt (tlbSeen cache) port vm gpa answer)
 at-slot cache cache′ port vm gpa answer v g here there c u q c′ u′ q′ =
@@ -106,11 +106,10 @@ fill-seen : (walker cache : List ℕ) (port vm gpa i : ℕ) → port < PORTS →
 fill-seen walker cache port vm gpa i c v g walks made at =
     let u = lookup keyOf walker (key vm gpa) in
     let w = slotWord port vm gpa (entryOf u) in
-    let v′ : vm < 256 = omega arith in
-    let l : entryOf u < 4294967296 = omega arith in
-    let k = word-key port vm gpa (entryOf u) v′ g l (sym (word-filled port vm gpa (entryOf u) v′ g l) ∙ made .filled) in
-    at-slot cache (set cache i w) port vm gpa (mapSeen walker vm gpa) v′ g
-    (rw (lookup-set-same keyOf cache (slotKey port vm gpa) i w k at) (seen-same w u (λ z. omega (arith, made .filled)) walks (word-entry port vm gpa (entryOf u) v′ g l)))
+    let f : WordFits vm gpa (entryOf (lookup keyOf walker (key vm gpa))) = record { vm-fits = omega arith; guest-fits = g; low-fits = omega arith } in
+    let k = word-key port f (sym (word-filled port f) ∙ made .filled) in
+    at-slot cache (set cache i w) port vm gpa (mapSeen walker vm gpa) (f .vm-fits) g
+    (rw (lookup-set-same keyOf cache (slotKey port vm gpa) i w k at) (seen-same w u (λ z. omega (arith, made .filled)) walks (word-entry port f)))
     (λ other o d. lookup-set-other keyOf refl cache (slotKey port vm gpa) i w other k (at .fits) o d)
 
 -- ---- steps of a side's cache

@@ -1,6 +1,6 @@
 -- How entries, slots and pairs stand in one 64-bit word (docs/MACHINE.md, 3): from the lowest bit, generation 16,
 -- access 3, page 12, one that says filled, guest page 16, VM 8, port 8. The word 0 is empty.
-use Prim.Native.Nat.{ℕ, _+_, _*_, _/_, _%_, min, max}
+use Prim.Native.Nat.{ℕ, _+_, _*_, _/_, _%_, _<_, min, max}
 
 -- ---- fields: how many numbers each can hold, and its lowest bit, which stands right above the field below it
 -- generation, the lowest field
@@ -49,6 +49,22 @@ PORT-FIELD = 256
 -- what VM, guest page and the bit that says filled can be together
 abbrev pub ADDRESS-FIELD : ℕ
 ADDRESS-FIELD = VM-FIELD * GUEST-FIELD * 2
+
+-- ---- numbers that fit their fields: of an entry, of a word over any low half, of a pair
+pub record EntryFits (page access generation : ℕ) : Type 0 where
+  pub page-fits : page < PAGE-FIELD
+  pub access-fits : access < ACCESS-FIELD
+  pub generation-fits : generation < GENERATION-FIELD
+
+pub record WordFits (vm guest low : ℕ) : Type 0 where
+  pub vm-fits : vm < VM-FIELD
+  pub guest-fits : guest < GUEST-FIELD
+  pub low-fits : low < GUEST-BIT
+
+pub record PairFits (left right page : ℕ) : Type 0 where
+  pub left-fits : left < VM-FIELD
+  pub right-fits : right < GUEST-FIELD
+  pub page-fits : page < PAGE-FIELD
 
 -- ---- packing
 -- an entry's low half: what a translation gives

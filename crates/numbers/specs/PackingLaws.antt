@@ -35,10 +35,13 @@ use Rattle.numbers.specs.Packing.{
   leftOf,
   rightOf,
   pairKeyOf,
+  EntryFits,
+  WordFits,
+  PairFits,
 }
 
 -- ---- an entry
-module _ (page access generation : ℕ) (p : page < PAGE-FIELD) (a : access < ACCESS-FIELD) (g : generation < GENERATION-FIELD) where
+module _ {page access generation : ℕ} (f : EntryFits page access generation) where
   pub entry-fits : entry page access generation < GUEST-BIT
   entry-fits = omega arith
 
@@ -55,7 +58,7 @@ module _ (page access generation : ℕ) (p : page < PAGE-FIELD) (a : access < AC
   entry-generation = omega arith
 
 -- ---- a word over any low half
-module _ (port vm guest low : ℕ) (v : vm < VM-FIELD) (g : guest < GUEST-FIELD) (l : low < GUEST-BIT) where
+module _ (port : ℕ) {vm guest low : ℕ} (f : WordFits vm guest low) where
   pub word-port : portOf (slotWord port vm guest low) ≡ port
   word-port = omega arith
 
@@ -83,10 +86,10 @@ module _ (port vm guest low : ℕ) (v : vm < VM-FIELD) (g : guest < GUEST-FIELD)
 
   -- the keys of a filled word
   pub word-key : filledOf low ≡ 1 → keyOf (slotWord port vm guest low) ≡ slotKey port vm guest
-  word-key f = omega arith
+  word-key filled = omega arith
 
   pub word-address : filledOf low ≡ 1 → addressOf (slotWord port vm guest low) ≡ key vm guest
-  word-address f = omega arith
+  word-address filled = omega arith
 
 -- ---- any word is the packing of its four parts
 pub word-whole : (w : ℕ) → slotWord (portOf w) (vmOf w) (guestOf w) (entryOf w) ≡ w
@@ -105,11 +108,15 @@ abbrev pub unported : ℕ → ℕ
 unported w = mapWord (vmOf w) (guestOf w) (entryOf w)
 
 module _ (w : ℕ) where
+  -- what is unpacked fits
+  pub parts-fit : WordFits (vmOf w) (guestOf w) (entryOf w)
+  parts-fit = record { vm-fits = omega arith; guest-fits = omega arith; low-fits = omega arith }
+
   pub unported-vm : vmOf (unported w) ≡ vmOf w
-  unported-vm = word-vm 0 (vmOf w) (guestOf w) (entryOf w) (omega arith) (omega arith) (omega arith)
+  unported-vm = word-vm 0 parts-fit
 
   pub unported-guest : guestOf (unported w) ≡ guestOf w
-  unported-guest = word-guest 0 (vmOf w) (guestOf w) (entryOf w) (omega arith) (omega arith) (omega arith)
+  unported-guest = word-guest 0 parts-fit
 
   pub unported-filled : filledOf (unported w) ≡ filledOf w
   unported-filled = omega arith
@@ -141,10 +148,10 @@ pub key-whole : (port vm guest w : ℕ) → keyOf w ≡ slotKey port vm guest �
 key-whole port vm guest w e = omega arith
 
 pub key-vm : (port vm guest w : ℕ) → vm < VM-FIELD → guest < GUEST-FIELD → keyOf w ≡ slotKey port vm guest → vmOf w ≡ vm
-key-vm port vm guest w v g e = ap vmOf (sym (key-whole port vm guest w e)) ∙ word-vm port vm guest (entryOf w) v g (omega arith)
+key-vm port vm guest w v g e = ap vmOf (sym (key-whole port vm guest w e)) ∙ word-vm port (record { vm-fits = v; guest-fits = g; low-fits = omega arith })
 
 pub key-guest : (port vm guest w : ℕ) → vm < VM-FIELD → guest < GUEST-FIELD → keyOf w ≡ slotKey port vm guest → guestOf w ≡ guest
-key-guest port vm guest w v g e = ap guestOf (sym (key-whole port vm guest w e)) ∙ word-guest port vm guest (entryOf w) v g (omega arith)
+key-guest port vm guest w v g e = ap guestOf (sym (key-whole port vm guest w e)) ∙ word-guest port (record { vm-fits = v; guest-fits = g; low-fits = omega arith })
 
 -- a filled word's key is never that of an empty one
 pub key-filled : (w : ℕ) → filledOf w ≡ 1 → 0 < keyOf w
@@ -162,7 +169,7 @@ pub address-key : (w : ℕ) → portOf w ≡ 0 → addressOf w ≡ keyOf w
 address-key w p = omega arith
 
 -- ---- pairs
-module _ (left right page : ℕ) (l : left < VM-FIELD) (r : right < GUEST-FIELD) (p : page < PAGE-FIELD) where
+module _ {left right page : ℕ} (f : PairFits left right page) where
   pub pair-left : leftOf (pairWord left right page) ≡ left
   pair-left = omega arith
 
