@@ -24,7 +24,7 @@ withRegisters m r = record { pages = m .pages; «shared_base» = m .«shared_bas
 abbrev pub withKnownIn : Registers → ℕ → Registers
 withKnownIn r v = record { known = v; cpus = r .cpus; devices = r .devices; «cpu_hand» = r .«cpu_hand»; «dma_hand» = r .«dma_hand» }
 
--- one side's ports and hand
+-- the ports and the hand of one side
 abbrev pub withSideIn : Side → Registers → List ℕ → ℕ → Registers
 withSideIn Cpu r ports hand = record { known = r .known; cpus = ports; devices = r .devices; «cpu_hand» = hand; «dma_hand» = r .«dma_hand» }
 withSideIn Dma r ports hand = record { known = r .known; cpus = r .cpus; devices = ports; «cpu_hand» = r .«cpu_hand»; «dma_hand» = hand }

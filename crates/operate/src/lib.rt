@@ -64,7 +64,7 @@ fn with_known(registers: Registers, known: u64) -> Registers
     next
 }
 
-// One side's ports and hand.
+// Registers with the ports and the hand of one side replaced.
 fn with_side(registers: Registers, side: Side, ports: [u64; 8], hand: u64) -> Registers
     ensures { λ r. ⌜ r ≡ withSideIn side registers ports hand ⌝ }
 {
@@ -83,7 +83,8 @@ fn with_side(registers: Registers, side: Side, ports: [u64; 8], hand: u64) -> Re
     }
 }
 
-// One operation. Each arm hands on the slices that it touches and sets the register that it changes.
+// One operation. Each arm hands on the slices that it touches and sets the registers that it changes; an operation of a side gets that
+// side's tables and never the other's.
 pub fn step(
     fixed: Machine,
     registers: Registers,
