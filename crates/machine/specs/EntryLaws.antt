@@ -7,7 +7,7 @@ use Rattle.numbers.specs.Limits.{PAGES, SET-WORDS}
 use Rattle.model.specs.Header.{stateOf}
 use Rattle.model.specs.Valid.{Valid}
 use Rattle.model.specs.declared.Machine.{Machine}
-use Rattle.operate.specs.Outcome.{Fit}
+use Rattle.sides.specs.Sides.{Fit}
 
 module _ (m : Machine) (sets pairs cpuMap cpuWalker cpuCache dmaMap dmaWalker dmaCache memory : List ℕ) (v : Valid (stateOf m sets pairs cpuMap cpuWalker cpuCache dmaMap dmaWalker dmaCache memory)) where
   -- the joined operation may be given it

@@ -2,11 +2,11 @@
 ghost use mathlib.Core.Path.{_≡_};
 ghost use Rattle.model.specs.Header.{stateOf};
 ghost use Rattle.model.specs.Step.{step};
-ghost use Rattle.operate.specs.Outcome.{outcome, Fit, registersOf, withRegisters, withKnownIn, withCpusIn, withDevicesIn, withCpuHandIn, withDmaHandIn};
+ghost use Rattle.sides.specs.Sides.{Fit};
+ghost use Rattle.operate.specs.Outcome.{outcome, registersOf, withRegisters, withKnownIn, withSideIn};
 use model::Machine;
 use numbers::Answer;
 use numbers::Operation;
-use numbers::Region;
 use numbers::Side;
 
 pub struct Done {
@@ -64,39 +64,27 @@ fn with_known(registers: Registers, known: u64) -> Registers
     next
 }
 
-fn with_cpus(registers: Registers, cpus: [u64; 8]) -> Registers
-    ensures { λ r. ⌜ r ≡ withCpusIn registers cpus ⌝ }
+// Registers with the ports and the hand of one side replaced.
+fn with_side(registers: Registers, side: Side, ports: [u64; 8], hand: u64) -> Registers
+    ensures { λ r. ⌜ r ≡ withSideIn side registers ports hand ⌝ }
 {
     let mut next = registers;
-    next.cpus = cpus;
-    next
+    match side {
+        Side::Cpu => {
+            next.cpus = ports;
+            next.cpu_hand = hand;
+            next
+        }
+        Side::Dma => {
+            next.devices = ports;
+            next.dma_hand = hand;
+            next
+        }
+    }
 }
 
-fn with_devices(registers: Registers, devices: [u64; 8]) -> Registers
-    ensures { λ r. ⌜ r ≡ withDevicesIn registers devices ⌝ }
-{
-    let mut next = registers;
-    next.devices = devices;
-    next
-}
-
-fn with_cpu_hand(registers: Registers, hand: u64) -> Registers
-    ensures { λ r. ⌜ r ≡ withCpuHandIn registers hand ⌝ }
-{
-    let mut next = registers;
-    next.cpu_hand = hand;
-    next
-}
-
-fn with_dma_hand(registers: Registers, hand: u64) -> Registers
-    ensures { λ r. ⌜ r ≡ withDmaHandIn registers hand ⌝ }
-{
-    let mut next = registers;
-    next.dma_hand = hand;
-    next
-}
-
-// One operation. Each arm hands on the slices that it touches and sets the register that it changes.
+// One operation. Each arm hands on the slices that it touches and sets the registers that it changes; an operation of a side gets that
+// side's tables and never the other's.
 pub fn step(
     fixed: Machine,
     registers: Registers,
@@ -197,350 +185,54 @@ pub fn step(
                 registers: registers,
             }
         }
-        Operation::CpuMap {
-            vm,
-            guest,
-            page,
-            access,
-            generation,
-        } => {
-            let answer = maps::map_page(
-                Side::Cpu,
-                registers.known,
-                fixed.pages,
-                sets,
-                pairs,
-                cpu_map,
-                cpu_walker,
-                cpu_cache,
-                vm,
-                guest,
-                page,
-                access,
-                generation,
-            );
-            Stepped {
-                answer: answer,
-                registers: registers,
-            }
-        }
-        Operation::DmaMap {
-            vm,
-            guest,
-            page,
-            access,
-            generation,
-        } => {
-            let answer = maps::map_page(
-                Side::Dma,
-                registers.known,
-                fixed.pages,
-                sets,
-                pairs,
-                dma_map,
-                dma_walker,
-                dma_cache,
-                vm,
-                guest,
-                page,
-                access,
-                generation,
-            );
-            Stepped {
-                answer: answer,
-                registers: registers,
-            }
-        }
-        Operation::CpuUnmap(vm, guest) => {
-            let answer = maps::unmap_page(
-                registers.known,
-                cpu_map,
-                cpu_walker,
-                cpu_cache,
-                vm,
-                guest,
-            );
-            Stepped {
-                answer: answer,
-                registers: registers,
-            }
-        }
-        Operation::DmaUnmap(vm, guest) => {
-            let answer = maps::unmap_page(
-                registers.known,
-                dma_map,
-                dma_walker,
-                dma_cache,
-                vm,
-                guest,
-            );
-            Stepped {
-                answer: answer,
-                registers: registers,
-            }
-        }
-        Operation::InsertRegion {
-            vm,
-            guest,
-            page,
-            count,
-            access,
-        } => {
-            let units = fixed.units;
-            let region = Region {
-                vm: vm,
-                guest: guest,
-                page: page,
-                count: count,
-                access: access,
-            };
-            let answer = regions::insert_region(
-                Side::Cpu,
-                registers.known,
-                fixed.pages,
-                units,
-                fixed.unit_count,
-                sets,
-                cpu_map,
-                cpu_walker,
-                region,
-            );
-            Stepped {
-                answer: answer,
-                registers: registers,
-            }
-        }
-        Operation::RemoveRegion {
-            vm,
-            guest,
-            page,
-            count,
-            access,
-        } => {
-            let units = fixed.units;
-            let region = Region {
-                vm: vm,
-                guest: guest,
-                page: page,
-                count: count,
-                access: access,
-            };
-            let answer = regions::remove_region(
-                Side::Cpu,
-                registers.known,
-                fixed.pages,
-                units,
-                fixed.unit_count,
-                sets,
-                pairs,
-                cpu_map,
-                cpu_walker,
-                cpu_cache,
-                memory,
-                region,
-            );
-            Stepped {
-                answer: answer,
-                registers: registers,
-            }
-        }
-        Operation::DmaInsertRegion {
-            vm,
-            guest,
-            page,
-            count,
-            access,
-        } => {
-            let units = fixed.units;
-            let region = Region {
-                vm: vm,
-                guest: guest,
-                page: page,
-                count: count,
-                access: access,
-            };
-            let answer = regions::insert_region(
-                Side::Dma,
-                registers.known,
-                fixed.pages,
-                units,
-                fixed.unit_count,
-                sets,
-                dma_map,
-                dma_walker,
-                region,
-            );
-            Stepped {
-                answer: answer,
-                registers: registers,
-            }
-        }
-        Operation::DmaRemoveRegion {
-            vm,
-            guest,
-            page,
-            count,
-            access,
-        } => {
-            let units = fixed.units;
-            let region = Region {
-                vm: vm,
-                guest: guest,
-                page: page,
-                count: count,
-                access: access,
-            };
-            let answer = regions::remove_region(
-                Side::Dma,
-                registers.known,
-                fixed.pages,
-                units,
-                fixed.unit_count,
-                sets,
-                pairs,
-                dma_map,
-                dma_walker,
-                dma_cache,
-                memory,
-                region,
-            );
-            Stepped {
-                answer: answer,
-                registers: registers,
-            }
-        }
-        Operation::SwitchCpu(port, target) => {
-            let cpus = registers.cpus;
-            let given = maps::give_port(registers.known, cpus, port, target);
-            let answer = given.answer;
-            let next = given.ports;
-            Stepped {
-                answer: answer,
-                registers: with_cpus(registers, next),
-            }
-        }
-        Operation::BindDevice(port, target) => {
-            let devices = registers.devices;
-            let given = maps::give_port(registers.known, devices, port, target);
-            let answer = given.answer;
-            let next = given.ports;
-            Stepped {
-                answer: answer,
-                registers: with_devices(registers, next),
-            }
-        }
-        Operation::CpuFill(port, guest) => {
-            let cpus = registers.cpus;
-            let filled = maps::fill_slot(
-                cpus,
-                cpu_walker,
-                cpu_cache,
-                registers.cpu_hand,
-                port,
-                guest,
-            );
-            let answer = filled.answer;
-            Stepped {
-                answer: answer,
-                registers: with_cpu_hand(registers, filled.hand),
-            }
-        }
-        Operation::DmaFill(port, guest) => {
-            let devices = registers.devices;
-            let filled = maps::fill_slot(
-                devices,
-                dma_walker,
-                dma_cache,
-                registers.dma_hand,
-                port,
-                guest,
-            );
-            let answer = filled.answer;
-            Stepped {
-                answer: answer,
-                registers: with_dma_hand(registers, filled.hand),
-            }
-        }
-        Operation::EmptyCpuSlot(slot) => {
-            let answer = maps::empty_slot(cpu_cache, slot);
-            Stepped {
-                answer: answer,
-                registers: registers,
-            }
-        }
-        Operation::EmptyDmaSlot(slot) => {
-            let answer = maps::empty_slot(dma_cache, slot);
-            Stepped {
-                answer: answer,
-                registers: registers,
-            }
-        }
-        Operation::CpuRead { port, guest, word } => {
-            let cpus = registers.cpus;
-            let answer = access::read_word(cpus, cpu_cache, cpu_walker, memory, port, guest, word);
-            Stepped {
-                answer: answer,
-                registers: registers,
-            }
-        }
-        Operation::DmaRead { port, guest, word } => {
-            let devices = registers.devices;
-            let answer = access::read_word(
-                devices,
-                dma_cache,
-                dma_walker,
-                memory,
-                port,
-                guest,
-                word,
-            );
-            Stepped {
-                answer: answer,
-                registers: registers,
-            }
-        }
-        Operation::CpuWrite {
-            port,
-            guest,
-            word,
-            value,
-        } => {
-            let cpus = registers.cpus;
-            let answer = access::write_word(
-                cpus,
-                cpu_cache,
-                cpu_walker,
-                memory,
-                port,
-                guest,
-                word,
-                value,
-            );
-            Stepped {
-                answer: answer,
-                registers: registers,
-            }
-        }
-        Operation::DmaWrite {
-            port,
-            guest,
-            word,
-            value,
-        } => {
-            let devices = registers.devices;
-            let answer = access::write_word(
-                devices,
-                dma_cache,
-                dma_walker,
-                memory,
-                port,
-                guest,
-                word,
-                value,
-            );
-            Stepped {
-                answer: answer,
-                registers: registers,
+        Operation::On(side, operation) => {
+            match side {
+                Side::Cpu => {
+                    let ports = registers.cpus;
+                    let done = sides::side_step(
+                        Side::Cpu,
+                        fixed,
+                        registers.known,
+                        ports,
+                        registers.cpu_hand,
+                        sets,
+                        pairs,
+                        cpu_map,
+                        cpu_walker,
+                        cpu_cache,
+                        memory,
+                        operation,
+                    );
+                    let answer = done.answer;
+                    let next = done.ports;
+                    Stepped {
+                        answer: answer,
+                        registers: with_side(registers, Side::Cpu, next, done.hand),
+                    }
+                }
+                Side::Dma => {
+                    let ports = registers.devices;
+                    let done = sides::side_step(
+                        Side::Dma,
+                        fixed,
+                        registers.known,
+                        ports,
+                        registers.dma_hand,
+                        sets,
+                        pairs,
+                        dma_map,
+                        dma_walker,
+                        dma_cache,
+                        memory,
+                        operation,
+                    );
+                    let answer = done.answer;
+                    let next = done.ports;
+                    Stepped {
+                        answer: answer,
+                        registers: with_side(registers, Side::Dma, next, done.hand),
+                    }
+                }
             }
         }
         Operation::DataBarrier => Stepped {

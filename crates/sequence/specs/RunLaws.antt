@@ -13,7 +13,7 @@ use Rattle.numbers.specs.declared.Operation.{Operation}
 use Rattle.table.specs.Loops.{Repeating, repeat-start, repeat-next, repeat-end}
 use Rattle.model.specs.State.{State, Tables, Route}
 use Rattle.model.specs.declared.Machine.{Machine}
-use Rattle.operate.specs.Outcome.{Fit}
+use Rattle.sides.specs.Sides.{Fit}
 use Rattle.numbers.specs.declared.Answer.{Answer}
 use Rattle.numbers.specs.declared.Answer.the-variants.{Accepted, Refused}
 use Rattle.numbers.specs.declared.Refusal.{Refusal}
