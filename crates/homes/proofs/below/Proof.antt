@@ -5,7 +5,7 @@ use native.Mathlib.Omega.{arith}
 use borrow.Author.Needs.{needs}
 use lib.Pow.{pow-pos}
 use Rattle.pages.specs.BitLaws.{shl-one}
-use Rattle.homes.specs.Columns.{belowWord}
+use Rattle.pages.specs.Columns.{belowWord}
 use Rattle.homes.proofs.below.Statement.{statement}
 use Rattle.homes.proofs.below.Tie as tie
 

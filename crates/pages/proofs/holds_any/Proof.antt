@@ -7,7 +7,8 @@ use borrow.Author.Tests.{ne-eqb, eq-eqb}
 use lib.ListN.{getD}
 use Rattle.numbers.specs.Limits.{SET-WORDS}
 use Rattle.table.specs.Loops.{Trying, try-start, try-next, try-yes, try-no}
-use Rattle.pages.specs.WordLaws.{notEmpty, holds-any}
+use Rattle.pages.specs.Columns.{notEmpty}
+use Rattle.pages.specs.ColumnLaws.{holds-any}
 use Rattle.pages.proofs.holds_any.Statement.{statement}
 use Rattle.pages.proofs.holds_any.Tie as tie
 
