@@ -29,17 +29,17 @@ abbrev pub CPUS-AT : ℕ
 CPUS-AT = 7
 
 abbrev pub DEVICES-AT : ℕ
-DEVICES-AT = 15
+DEVICES-AT = CPUS-AT + PORTS
 
 abbrev pub UNITS-AT : ℕ
-UNITS-AT = 23
+UNITS-AT = DEVICES-AT + PORTS
 
 -- of a unit's numbers, its mark
 abbrev pub MARK-AT : ℕ
 MARK-AT = 5
 
 abbrev pub MACHINE-NUMBERS : ℕ
-MACHINE-NUMBERS = 215
+MACHINE-NUMBERS = UNITS-AT + UNITS * UNIT-NUMBERS
 
 abbrev pub part : List ℕ → ℕ → ℕ → List ℕ
 part numbers at count = take count (drop at numbers)

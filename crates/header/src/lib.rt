@@ -12,6 +12,7 @@ ghost use Rattle.header.specs.Numbers.{MACHINE-NUMBERS, machineOf, Heade
 use model::Machine;
 use numbers::Answer;
 use numbers::Lowest;
+use numbers::PORTS;
 use numbers::UNITS;
 use start::UNIT_NUMBERS;
 use units::Unit;
@@ -23,14 +24,14 @@ const KNOWN_AT: usize = 4;
 
 const CPUS_AT: usize = 7;
 
-const DEVICES_AT: usize = 15;
+const DEVICES_AT: usize = CPUS_AT + PORTS as usize;
 
-const UNITS_AT: usize = 23;
+const UNITS_AT: usize = DEVICES_AT + PORTS as usize;
 
 // Of a unit's numbers, its mark.
 const MARK_AT: usize = 5;
 
-pub const MACHINE_NUMBERS: usize = 215;
+pub const MACHINE_NUMBERS: usize = UNITS_AT + UNITS * UNIT_NUMBERS;
 
 // The lowest free page where none is free.
 pub const NO_PAGE: u64 = 18446744073709551615;
@@ -64,7 +65,7 @@ pub fn is_header(numbers: &[u64]) -> bool
 }
 
 // Eight numbers by value: the ports of a side, or a row.
-pub fn eight(numbers: &[u64]) -> [u64; 8]
+pub fn eight(numbers: &[u64]) -> [u64; PORTS as usize]
     requires { ⌜ length (now numbers) ≡ PORTS ⌝ }
     ensures { λ r. ⌜ r ≡ now (numbers .entry) ⌝ }
 {
@@ -128,7 +129,7 @@ pub fn put_changed(numbers: &mut [u64], m: Machine)
     put_numbers(numbers, DEVICES_AT, &devices);
 }
 
-fn unit_numbers(unit: Unit) -> [u64; 6]
+fn unit_numbers(unit: Unit) -> [u64; UNIT_NUMBERS]
     ensures { λ r. ⌜ r ≡ unitNumbers unit ⌝ }
 {
     let mark = unit.mark;
@@ -142,7 +143,7 @@ fn unit_numbers(unit: Unit) -> [u64; 6]
     ]
 }
 
-fn put_units(numbers: &mut [u64], units: [Unit; 32])
+fn put_units(numbers: &mut [u64], units: [Unit; UNITS])
     requires { ⌜ length (now numbers) ≡ MACHINE-NUMBERS ⌝ }
     ensures { λ _. ⌜ now (numbers .exit) ≡ repeat (unitWritten units) 0 UNITS (now (numbers .entry)) ⌝ }
 {

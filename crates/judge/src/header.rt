@@ -66,7 +66,7 @@ fn unit_good(unit: Unit, pages: u64) -> bool
 }
 
 // Units past the count are not judged.
-fn units_good(units: [Unit; 32], count: u64, pages: u64) -> bool
+fn units_good(units: [Unit; UNITS], count: u64, pages: u64) -> bool
     requires { ⌜ count ≤ UNITS ⌝ }
     ensures { λ r. ⌜ Decides r ((k : ℕ) → k < count → UnitGood pages (getD units k noUnit)) ⌝ }
 {
@@ -94,7 +94,7 @@ pub fn setup(
     pages: u64,
     shared_base: u64,
     shared_count: u64,
-    units: [Unit; 32],
+    units: [Unit; UNITS],
     unit_count: u64,
 ) -> bool
     ensures { λ r. ⌜ Decides r (SetupGood (setupWith pages «shared_base» «shared_count» units «unit_count»)) ⌝ }

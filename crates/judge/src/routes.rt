@@ -163,7 +163,7 @@ fn port_good(known: u64, vm: u64) -> bool
     (vm == IDLE) | is_known(known, VmId(vm))
 }
 
-fn ports(known: u64, ports: [u64; 8]) -> bool
+fn ports(known: u64, ports: [u64; PORTS as usize]) -> bool
     requires { ⌜ KnownGood known ⌝ }
     ensures { λ r. ⌜ Decides r (PortsGood known ports) ⌝ }
 {
@@ -189,7 +189,7 @@ pub fn route(
     lent: &[u64],
     pages: u64,
     known: u64,
-    on_ports: [u64; 8],
+    on_ports: [u64; PORTS as usize],
     hand: u64,
 ) -> bool
     requires { ⌜ (length (now map) ≡ ENTRIES) × (length (now walker) ≡ ENTRIES) × (length (now cache) ≡ SLOTS) × Ground pages known (now sets) (now pairs) (now lent) ⌝ }

@@ -7,6 +7,7 @@ ghost use Rattle.model.specs.Effect.{kept};
 ghost use Rattle.model.specs.Ledger.{addVmAnswer, addVmKnown, removeVmAnswer, removeVmKnown};
 use super::vm_early;
 use numbers::Answer;
+use numbers::PORTS;
 use numbers::Refusal;
 use numbers::Side;
 use numbers::VMS;
@@ -44,8 +45,8 @@ pub fn remove_vm(
     pairs: &[u64],
     cpu_map: &[u64],
     dma_map: &[u64],
-    cpus: [u64; 8],
-    devices: [u64; 8],
+    cpus: [u64; PORTS as usize],
+    devices: [u64; PORTS as usize],
     vm: VmId,
 ) -> Changed
     requires { ⌜ length (now sets) ≡ SETS * SET-WORDS ⌝ }

@@ -8,6 +8,7 @@ ghost use Rattle.machine.specs.Query.{freeOf};
 use model::Machine;
 use numbers::Answer;
 use numbers::Lowest;
+use numbers::ROW_NUMBERS;
 use numbers::Refusal;
 use operate::Done;
 use rows::Decoded;
@@ -25,7 +26,7 @@ pub fn operation(
     dma_walker: &mut [u64],
     dma_cache: &mut [u64],
     memory: &mut [u64],
-    row: [u64; 8],
+    row: [u64; ROW_NUMBERS],
 ) -> Done
     ensures { λ r. ⌜ JudgedRow (stateOf m (now (sets .entry)) (now (pairs .entry)) (now («cpu_map» .entry)) (now («cpu_walker» .entry)) (now («cpu_cache» .entry)) (now («dma_map» .entry)) (now («dma_walker» .entry)) (now («dma_cache» .entry)) (now (memory .entry))) row
         (outcome (r .answer) (r .machine) (now (sets .exit)) (now (pairs .exit)) (now («cpu_map» .exit)) (now («cpu_walker» .exit)) (now («cpu_cache» .exit)) (now («dma_map» .exit)) (now («dma_walker» .exit)) (now («dma_cache» .exit)) (now (memory .exit))) ⌝ }

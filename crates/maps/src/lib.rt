@@ -144,7 +144,7 @@ pub fn unmap_page(
 // What a switch leaves: the answer, and who is on each port.
 pub struct Given {
     pub answer: Answer,
-    pub ports: [u64; 8],
+    pub ports: [u64; PORTS as usize],
 }
 
 // What a switch decides.
@@ -167,7 +167,7 @@ fn port_answer(known: u64, port: u64, target: Target) -> Answer
 }
 
 // Operations 15 and 16. A VM may be on several ports.
-pub fn give_port(known: u64, ports: [u64; 8], port: u64, target: Target) -> Given
+pub fn give_port(known: u64, ports: [u64; PORTS as usize], port: u64, target: Target) -> Given
     ensures { λ r. ⌜ (r .answer ≡ portAnswer known port target)
         × (r .ports ≡ kept (portAnswer known port target) ports (portPorts ports port target)) ⌝ }
 {
@@ -231,7 +231,7 @@ pub struct Filled {
 
 // Operations 17 and 18. The slot gets what the walker has for the port's VM and the guest page.
 pub fn fill_slot(
-    ports: [u64; 8],
+    ports: [u64; PORTS as usize],
     walker: &[u64],
     cache: &mut [u64],
     hand: u64,

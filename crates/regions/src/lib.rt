@@ -3,13 +3,14 @@
 ghost use mathlib.Core.Path.{_≡_};
 ghost use Prim.Native.Nat.{_*_, _≤_};
 ghost use lib.ListN.{length};
-ghost use Rattle.numbers.specs.Limits.{PAGES, SETS, SET-WORDS, PAGE-WORDS};
+ghost use Rattle.numbers.specs.Limits.{PAGES, UNITS, SETS, SET-WORDS, PAGE-WORDS};
 ghost use Rattle.model.specs.Effect.{kept, apply, clears, quiet};
 ghost use Rattle.model.specs.Regions.{regionEarly, insertAnswer, insertSets, insertTable, removeAnswer, removeSets, removeTable, removeClears};
 use numbers::ACCESSES;
 use numbers::Answer;
 use numbers::Refusal;
 use numbers::Side;
+use numbers::UNITS;
 use numbers::VMS;
 use numbers::accept;
 use numbers::refuse;
@@ -40,14 +41,14 @@ pub fn insert_region(
     side: Side,
     known: u64,
     pages: u64,
-    units: [Unit; 32],
+    units: [Unit; UNITS],
     unit_count: u64,
     sets: &mut [u64],
     map: &mut [u64],
     walker: &mut [u64],
     region: Region,
 ) -> Answer
-    requires { ⌜ (pages ≤ PAGES) × («unit_count» ≤ 32) × (length (now sets) ≡ SETS * SET-WORDS) ⌝ }
+    requires { ⌜ (pages ≤ PAGES) × («unit_count» ≤ UNITS) × (length (now sets) ≡ SETS * SET-WORDS) ⌝ }
     ensures { λ r. ⌜ (r ≡ insertAnswer side known pages units «unit_count» (now (sets .entry)) (now (map .entry)) region)
         × (now (sets .exit) ≡ kept (insertAnswer side known pages units «unit_count» (now (sets .entry)) (now (map .entry)) region) (now (sets .entry)) (insertSets side (now (sets .entry)) region))
         × (now (map .exit) ≡ kept (insertAnswer side known pages units «unit_count» (now (sets .entry)) (now (map .entry)) region) (now (map .entry)) (insertTable (now (map .entry)) region))
@@ -87,7 +88,7 @@ pub fn remove_region(
     side: Side,
     known: u64,
     pages: u64,
-    units: [Unit; 32],
+    units: [Unit; UNITS],
     unit_count: u64,
     sets: &mut [u64],
     pairs: &[u64],
@@ -97,7 +98,7 @@ pub fn remove_region(
     memory: &mut [u64],
     region: Region,
 ) -> Answer
-    requires { ⌜ (pages ≤ PAGES) × («unit_count» ≤ 32) × (length (now sets) ≡ SETS * SET-WORDS) × (length (now memory) ≡ PAGE-WORDS * pages) ⌝ }
+    requires { ⌜ (pages ≤ PAGES) × («unit_count» ≤ UNITS) × (length (now sets) ≡ SETS * SET-WORDS) × (length (now memory) ≡ PAGE-WORDS * pages) ⌝ }
     ensures { λ r. ⌜ (r ≡ removeAnswer side known pages units «unit_count» (now (sets .entry)) (now (pairs .entry)) (now (map .entry)) (now (cache .entry)) region)
         × (now (sets .exit) ≡ kept (removeAnswer side known pages units «unit_count» (now (sets .entry)) (now (pairs .entry)) (now (map .entry)) (now (cache .entry)) region) (now (sets .entry)) (removeSets side (now (sets .entry)) region))
         × (now (map .exit) ≡ kept (removeAnswer side known pages units «unit_count» (now (sets .entry)) (now (pairs .entry)) (now (map .entry)) (now (cache .entry)) region) (now (map .entry)) (removeTable (now (map .entry)) region))

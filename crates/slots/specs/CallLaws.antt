@@ -13,7 +13,7 @@ use Rattle.numbers.specs.Decides.{Decides}
 use Rattle.numbers.specs.DecidesLaws.{decides-as, decides-and, decides-equal, decides-less, refutes}
 use Rattle.numbers.specs.Limits.{SLOTS, PORTS, VMS, GUEST-PAGES, PAGES, ACCESSES, GENERATIONS}
 use Rattle.numbers.specs.Meaning.{refusalNumber}
-use Rattle.numbers.specs.Packing.{entry, slotWord, slotKey, portOf, vmOf, guestOf, entryOf, filledOf, keyOf}
+use Rattle.numbers.specs.Packing.{PORT-FIELD, VM-FIELD, GUEST-FIELD, GUEST-BIT, entry, slotWord, slotKey, portOf, vmOf, guestOf, entryOf, filledOf, keyOf}
 use Rattle.numbers.specs.PackingLaws.{word-port, word-filled, word-key, word-whole, key-whole, key-vm, key-guest}
 use Rattle.numbers.specs.declared.Refusal.the-variants.{StateNotValid, OutOfRange}
 use Rattle.table.specs.Scan.{lowest, lowestFrom}
@@ -95,11 +95,11 @@ module _ (slots : List Slot) (port vm guest : ℕ) where
 -- ---- the search over words, by their keys
 -- numbers that fit the fields of a slot
 abbrev pub InFields : ℕ → ℕ → ℕ → Type 0
-InFields port vm guest = (port < 256) × (vm < 256) × (guest < 65536)
+InFields port vm guest = (port < PORT-FIELD) × (vm < VM-FIELD) × (guest < GUEST-FIELD)
 
-pub fields-decides : (port vm guest : ℕ) → Decides (ltb port 256 && ltb vm 256 && ltb guest 65536) (InFields port vm guest)
+pub fields-decides : (port vm guest : ℕ) → Decides (ltb port PORT-FIELD && ltb vm VM-FIELD && ltb guest GUEST-FIELD) (InFields port vm guest)
 fields-decides port vm guest =
-    decides-as (decides-and (decides-and (decides-less port 256) (decides-less vm 256)) (decides-less guest 65536)) (λ h. (h .0 .0, h .0 .1, h .1)) (λ h. ((h .0, h .1), h .2))
+    decides-as (decides-and (decides-and (decides-less port PORT-FIELD) (decides-less vm VM-FIELD)) (decides-less guest GUEST-FIELD)) (λ h. (h .0 .0, h .0 .1, h .1)) (λ h. ((h .0, h .1), h .2))
 
 module _ (ws : List ℕ) (port vm guest : ℕ) where
   slot-at : (i : ℕ) → getD (map slotOf ws) i empty ≡ slotOf (getD ws i 0)
@@ -134,7 +134,7 @@ module _ (ws : List ℕ) (port vm guest : ℕ) where
     key-holds i l e =
         let w = getD ws i 0 in
         let (p, v, g) = fit in
-        let low : entryOf w < 4294967296 = omega arith in
+        let low : entryOf w < GUEST-BIT = omega arith in
         let whole : slotWord port vm guest (entryOf w) ≡ w = key-whole port vm guest w e in
         record {
           there = rw length-map l;

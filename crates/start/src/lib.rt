@@ -18,6 +18,7 @@ use numbers::IDLE;
 use numbers::PAGE_WORDS;
 use numbers::PAGES;
 use numbers::PAIRS;
+use numbers::PORTS;
 use numbers::PhysPage;
 use numbers::Refusal;
 use numbers::SET_WORDS;
@@ -63,7 +64,7 @@ fn unit_told(units: &[u64], k: usize) -> Unit
     }
 }
 
-fn no_units() -> [Unit; 32]
+fn no_units() -> [Unit; UNITS]
     ensures { λ r. ⌜ r ≡ replicate UNITS noUnit ⌝ }
 {
     let unit = Unit {
@@ -74,11 +75,11 @@ fn no_units() -> [Unit; 32]
         access: 0,
         mark: Mark::Cpu,
     };
-    [unit; 32]
+    [unit; UNITS]
 }
 
 // The units that are told, and no unit past them.
-pub fn units_told(units: &[u64]) -> [Unit; 32]
+pub fn units_told(units: &[u64]) -> [Unit; UNITS]
     requires { ⌜ countTold (now units) ≤ UNITS ⌝ }
     ensures { λ r. ⌜ r ≡ unitsTold (now (units .entry)) ⌝ }
 {
@@ -305,8 +306,8 @@ fn fresh_machine(pages: u64, shared_base: u64, shared_count: u64, units: &[u64])
         units: all,
         unit_count: (units.len() / UNIT_NUMBERS) as u64,
         known: 0,
-        cpus: [IDLE; 8],
-        devices: [IDLE; 8],
+        cpus: [IDLE; PORTS as usize],
+        devices: [IDLE; PORTS as usize],
         cpu_hand: hand,
         dma_hand: hand,
     }
@@ -324,8 +325,8 @@ pub fn empty_machine() -> Machine
         units: none,
         unit_count: 0,
         known: 0,
-        cpus: [IDLE; 8],
-        devices: [IDLE; 8],
+        cpus: [IDLE; PORTS as usize],
+        devices: [IDLE; PORTS as usize],
         cpu_hand: 0,
         dma_hand: 0,
     }
