@@ -66,6 +66,54 @@ pub record PairFits (left right page : ℕ) : Type 0 where
   pub right-fits : right < GUEST-FIELD
   pub page-fits : page < PAGE-FIELD
 
+-- ---- fields: how many numbers each can hold, and its lowest bit, which stands right above the field below it
+-- generation, the lowest field
+abbrev pub GENERATION-BIT : ℕ
+GENERATION-BIT = 1
+
+abbrev pub GENERATION-FIELD : ℕ
+GENERATION-FIELD = 65536
+
+abbrev pub ACCESS-BIT : ℕ
+ACCESS-BIT = GENERATION-BIT * GENERATION-FIELD
+
+abbrev pub ACCESS-FIELD : ℕ
+ACCESS-FIELD = 8
+
+abbrev pub PAGE-BIT : ℕ
+PAGE-BIT = ACCESS-BIT * ACCESS-FIELD
+
+abbrev pub PAGE-FIELD : ℕ
+PAGE-FIELD = 4096
+
+-- the one bit that says filled
+abbrev pub FILLED-BIT : ℕ
+FILLED-BIT = PAGE-BIT * PAGE-FIELD
+
+-- below it stands the entry
+abbrev pub GUEST-BIT : ℕ
+GUEST-BIT = FILLED-BIT * 2
+
+abbrev pub GUEST-FIELD : ℕ
+GUEST-FIELD = 65536
+
+abbrev pub VM-BIT : ℕ
+VM-BIT = GUEST-BIT * GUEST-FIELD
+
+abbrev pub VM-FIELD : ℕ
+VM-FIELD = 256
+
+abbrev pub PORT-BIT : ℕ
+PORT-BIT = VM-BIT * VM-FIELD
+
+-- the highest field, up to bit 63
+abbrev pub PORT-FIELD : ℕ
+PORT-FIELD = 256
+
+-- what VM, guest page and the bit that says filled can be together
+abbrev pub ADDRESS-FIELD : ℕ
+ADDRESS-FIELD = VM-FIELD * GUEST-FIELD * 2
+
 -- ---- packing
 -- an entry's low half: what a translation gives
 abbrev pub entry : ℕ → ℕ → ℕ → ℕ
