@@ -2,7 +2,7 @@
 // the cache and the walker of its side.
 ghost use mathlib.Core.Path.{_≡_};
 ghost use Prim.Native.Nat.{_+_, _*_, _<_, _≤_};
-ghost use lib.ListN.{length, replicate};
+ghost use lib.ListN.{length};
 ghost use Rattle.numbers.specs.Limits.{PAGE-WORDS, WRITE};
 ghost use Rattle.numbers.specs.Packing.{PORT-FIELD, VM-FIELD, GUEST-FIELD};
 ghost use Rattle.model.specs.Access.{translate, allows, accessAnswer};
@@ -22,23 +22,13 @@ use numbers::VmId;
 
 // ---- Clearing.
 
-pub fn clear_words(words: &mut [u64])
-    ensures { λ _. ⌜ now (words .exit) ≡ replicate (length (now (words .entry))) 0 ⌝ }
-{
-    let mut i = 0;
-    while i < words.len() {
-        words[i] = 0;
-        i += 1;
-    }
-}
-
 // The page's words become 0. They are lent alone, so that no other word can change.
 pub fn clear_page(memory: &mut [u64], page: PhysPage)
     requires { ⌜ page .0 * PAGE-WORDS + PAGE-WORDS ≤ length (now memory) ⌝ }
     ensures { λ _. ⌜ now (memory .exit) ≡ clearPage (now (memory .entry)) (page .0) ⌝ }
 {
     let start = (page.0 * PAGE_WORDS) as usize;
-    clear_words(&mut memory[start..start + PAGE_WORDS as usize]);
+    table::clear_words(&mut memory[start..start + PAGE_WORDS as usize]);
 }
 
 // ---- Access.

@@ -273,7 +273,7 @@ fn fresh_sets(sets: &mut [u64], pages: u64, shared_base: u64, shared_count: u64)
     requires { ⌜ (pages ≤ PAGES) × («shared_base» + «shared_count» ≤ pages) × (length (now sets) ≡ SETS * SET-WORDS) ⌝ }
     ensures { λ _. ⌜ now (sets .exit) ≡ repeat (firstHome «shared_base» «shared_count») 0 pages (zeros (now (sets .entry))) ⌝ }
 {
-    access::clear_words(sets);
+    table::clear_words(sets);
     let mut page = 0;
     while page < pages {
         first_home(sets, shared_base, shared_count, PhysPage(page));
@@ -285,9 +285,9 @@ fn fresh_sets(sets: &mut [u64], pages: u64, shared_base: u64, shared_count: u64)
 fn clear_route(map: &mut [u64], walker: &mut [u64], cache: &mut [u64])
     ensures { λ _. ⌜ (now (map .exit) ≡ zeros (now (map .entry))) × (now (walker .exit) ≡ zeros (now (walker .entry))) × (now (cache .exit) ≡ zeros (now (cache .entry))) ⌝ }
 {
-    access::clear_words(map);
-    access::clear_words(walker);
-    access::clear_words(cache);
+    table::clear_words(map);
+    table::clear_words(walker);
+    table::clear_words(cache);
 }
 
 // ---- The two headers that start gives. Crate `header` reads one from numbers, and `changes` has its own to be damaged.
@@ -382,10 +382,10 @@ pub fn start(
         };
     }
     fresh_sets(sets, pages, shared_base, shared_count);
-    access::clear_words(pairs);
+    table::clear_words(pairs);
     clear_route(cpu_map, cpu_walker, cpu_cache);
     clear_route(dma_map, dma_walker, dma_cache);
-    access::clear_words(memory);
+    table::clear_words(memory);
     let machine = fresh_machine(pages, shared_base, shared_count, units);
     Started { answer, machine }
 }

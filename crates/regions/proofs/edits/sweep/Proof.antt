@@ -59,7 +59,7 @@ returns : tie.Need-returns Inv-loop μ-loop
 unfolding removeTable
 returns c =
     let r = c .before .loop .inv in
-    (tally-end _ _ _ _ (r .1) (omega arith), wipe-end _ _ _ _ (r .0) (c .loop-test .left))
+    record { dropped = tally-end _ _ _ _ (r .1) (omega arith); words = wipe-end _ _ _ _ (r .0) (c .loop-test .left) }
 
 pub sweep-spec : {M : Type 1} → statement M
 sweep-spec =

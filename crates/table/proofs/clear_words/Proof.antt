@@ -1,10 +1,10 @@
--- `access::clear_words` meets its contract. The loop has set the words that it passed to 0.
+-- `table::clear_words` meets its contract. The loop has set the words that it passed to 0.
 use borrow.Author.Needs.{needs}
 use Prim.Native.Nat.{_-_}
 use lib.ListN.{length}
 use Rattle.table.specs.Loops.{Filling, fill-start, fill-next, fill-end}
-use Rattle.access.proofs.clear_words.Statement.{statement}
-use Rattle.access.proofs.clear_words.Tie as tie
+use Rattle.table.proofs.clear_words.Statement.{statement}
+use Rattle.table.proofs.clear_words.Tie as tie
 
 abbrev Inv-loop : tie.InvT-loop
 Inv-loop words₀ i₀ words i = Filling 0 words₀ words i
