@@ -8,7 +8,8 @@ ghost use Rattle.numbers.specs.Limits.{PAGES, SETS, SET-WORDS};
 ghost use Rattle.numbers.specs.Packing.{keyOf};
 ghost use Rattle.table.specs.Table.{place, isFound, setAt};
 ghost use Rattle.model.specs.Effect.{kept};
-ghost use Rattle.model.specs.Maps.{mapEarly, unmapEarly, mapAnswer, mapTable, withoutSlots, unmapAnswer, unmapTable};
+ghost use Rattle.maps.specs.Parts.{MapMay, MapReady, MapDone, MapLeft, UnmapReady, UnmapDone, UnmapLeft};
+ghost use Rattle.model.specs.Maps.{mapEarly, unmapEarly, mapMay, mapAnswer, unmapMay, unmapAnswer};
 ghost use Rattle.model.specs.Ports.{portAnswer, portPorts, fillAnswer, fillPlace, fillCache, nextHand, fillHand, emptyAnswer, emptyCache};
 use numbers::ACCESSES;
 use numbers::Answer;
@@ -67,8 +68,72 @@ pub fn unmap_early(known: u64, vm: VmId, guest: GuestPage) -> Answer
     accept(0)
 }
 
-// Operations 7 and 8. The entry goes over the one of its key, else into the lowest empty place, and the slots of its VM and
-// guest page are dropped.
+// Whether map may be done, and the place for its entry.
+pub struct MapPlace {
+    pub answer: Answer,
+    pub at: usize,
+}
+
+// What map decides: the entry's place is the one of its key, else the lowest empty one.
+pub fn map_may(
+    side: Side,
+    known: u64,
+    pages: u64,
+    sets: &[u64],
+    pairs: &[u64],
+    map: &[u64],
+    vm: VmId,
+    guest: GuestPage,
+    page: PhysPage,
+    access: u64,
+    generation: u64,
+) -> MapPlace
+    requires { ⌜ (pages ≤ PAGES) × (length (now sets) ≡ SETS * SET-WORDS) ⌝ }
+    ensures { λ r. ⌜ MapMay (mapMay side known pages (now (sets .entry)) (now (pairs .entry)) (now (map .entry)) (vm .0) (guest .0) (page .0) access generation)
+        (now (map .entry)) (vm .0) (guest .0) (page .0) access generation (r .answer) (r .at) ⌝ }
+{
+    let early = map_early(known, pages, vm, guest, page, access, generation);
+    if let Answer::Refused { refusal, index } = early {
+        let answer = Answer::Refused { refusal, index };
+        return MapPlace { answer, at: 0 };
+    }
+    if !views::may_map(side, sets, pairs, vm, page) {
+        let answer = refuse(Refusal::PageNotHeld, 0);
+        return MapPlace { answer, at: 0 };
+    }
+    let spot = table::place(map, numbers::key(vm, guest));
+    let Found::At(at) = spot else {
+        let answer = refuse(Refusal::NoRoom, 0);
+        return MapPlace { answer, at: 0 };
+    };
+    let answer = accept(0);
+    MapPlace { answer, at }
+}
+
+// What map does: the entry goes to its place and to the walker, and the slots of its VM and guest page go. Answers how many
+// they were.
+pub fn map_do(
+    map: &mut [u64],
+    walker: &mut [u64],
+    cache: &mut [u64],
+    at: usize,
+    vm: VmId,
+    guest: GuestPage,
+    page: PhysPage,
+    access: u64,
+    generation: u64,
+) -> u64
+    requires { ⌜ MapReady (now map) (vm .0) (guest .0) (page .0) access generation at ⌝ }
+    ensures { λ r. ⌜ MapDone (now (map .entry)) (now (walker .entry)) (now (cache .entry)) (vm .0) (guest .0) (page .0) access generation r (now (map .exit)) (now (walker .exit)) (now (cache .exit)) ⌝ }
+{
+    let key = numbers::key(vm, guest);
+    let word = numbers::map_word(vm, guest, numbers::entry(page, access, generation));
+    map[at] = word;
+    table::put(walker, key, word);
+    table::drop_slots(cache, key)
+}
+
+// Operations 7 and 8.
 pub fn map_page(
     side: Side,
     known: u64,
@@ -85,30 +150,70 @@ pub fn map_page(
     generation: u64,
 ) -> Answer
     requires { ⌜ (pages ≤ PAGES) × (length (now sets) ≡ SETS * SET-WORDS) ⌝ }
-    ensures { λ r. ⌜ (r ≡ mapAnswer side known pages (now (sets .entry)) (now (pairs .entry)) (now (map .entry)) (now (cache .entry)) (vm .0) (guest .0) (page .0) access generation)
-        × (now (map .exit) ≡ kept (mapAnswer side known pages (now (sets .entry)) (now (pairs .entry)) (now (map .entry)) (now (cache .entry)) (vm .0) (guest .0) (page .0) access generation)
-        (now (map .entry)) (mapTable (now (map .entry)) (vm .0) (guest .0) (page .0) access generation))
-        × (now (walker .exit) ≡ kept (mapAnswer side known pages (now (sets .entry)) (now (pairs .entry)) (now (map .entry)) (now (cache .entry)) (vm .0) (guest .0) (page .0) access generation)
-        (now (walker .entry)) (mapTable (now (walker .entry)) (vm .0) (guest .0) (page .0) access generation))
-        × (now (cache .exit) ≡ kept (mapAnswer side known pages (now (sets .entry)) (now (pairs .entry)) (now (map .entry)) (now (cache .entry)) (vm .0) (guest .0) (page .0) access generation)
-        (now (cache .entry)) (withoutSlots (now (cache .entry)) (vm .0) (guest .0))) ⌝ }
+    ensures { λ r. ⌜ MapLeft (mapAnswer side known pages (now (sets .entry)) (now (pairs .entry)) (now (map .entry)) (now (cache .entry)) (vm .0) (guest .0) (page .0) access generation)
+        (now (map .entry)) (now (walker .entry)) (now (cache .entry)) (vm .0) (guest .0) (page .0) access generation r (now (map .exit)) (now (walker .exit)) (now (cache .exit)) ⌝ }
 {
-    let early = map_early(known, pages, vm, guest, page, access, generation);
+    let may = map_may(
+        side,
+        known,
+        pages,
+        sets,
+        pairs,
+        map,
+        vm,
+        guest,
+        page,
+        access,
+        generation,
+    );
+    let answer = may.answer;
+    if let Answer::Refused { refusal, index } = answer {
+        return Answer::Refused { refusal, index };
+    }
+    let dropped = map_do(
+        map,
+        walker,
+        cache,
+        may.at,
+        vm,
+        guest,
+        page,
+        access,
+        generation,
+    );
+    accept(dropped)
+}
+
+// What unmap decides.
+pub fn unmap_may(known: u64, map: &[u64], vm: VmId, guest: GuestPage) -> Answer
+    ensures { λ r. ⌜ r ≡ unmapMay known (now (map .entry)) (vm .0) (guest .0) ⌝ }
+{
+    let early = unmap_early(known, vm, guest);
     if let Answer::Refused { refusal, index } = early {
         return Answer::Refused { refusal, index };
     }
-    if !views::may_map(side, sets, pairs, vm, page) {
-        return refuse(Refusal::PageNotHeld, 0);
+    let spot = table::find(map, numbers::key(vm, guest));
+    if let Found::Nothing = spot {
+        return refuse(Refusal::MappingDiffers, 0);
     }
+    accept(0)
+}
+
+// What unmap does: the entry of the VM and guest page goes from map and walker, and their slots go. Answers how many they were.
+pub fn unmap_do(
+    map: &mut [u64],
+    walker: &mut [u64],
+    cache: &mut [u64],
+    vm: VmId,
+    guest: GuestPage,
+) -> u64
+    requires { ⌜ UnmapReady (vm .0) (guest .0) ⌝ }
+    ensures { λ r. ⌜ UnmapDone (now (map .entry)) (now (walker .entry)) (now (cache .entry)) (vm .0) (guest .0) r (now (map .exit)) (now (walker .exit)) (now (cache .exit)) ⌝ }
+{
     let key = numbers::key(vm, guest);
-    let spot = table::place(map, key);
-    let Found::At(at) = spot else {
-        return refuse(Refusal::NoRoom, 0);
-    };
-    let word = numbers::map_word(vm, guest, numbers::entry(page, access, generation));
-    map[at] = word;
-    table::put(walker, key, word);
-    accept(table::drop_slots(cache, key))
+    table::erase(map, key);
+    table::erase(walker, key);
+    table::drop_slots(cache, key)
 }
 
 // Operations 9 and 10. No claim ends, so nothing is cleared.
@@ -120,23 +225,14 @@ pub fn unmap_page(
     vm: VmId,
     guest: GuestPage,
 ) -> Answer
-    ensures { λ r. ⌜ (r ≡ unmapAnswer known (now (map .entry)) (now (cache .entry)) (vm .0) (guest .0))
-        × (now (map .exit) ≡ kept (unmapAnswer known (now (map .entry)) (now (cache .entry)) (vm .0) (guest .0)) (now (map .entry)) (unmapTable (now (map .entry)) (vm .0) (guest .0)))
-        × (now (walker .exit) ≡ kept (unmapAnswer known (now (map .entry)) (now (cache .entry)) (vm .0) (guest .0)) (now (walker .entry)) (unmapTable (now (walker .entry)) (vm .0) (guest .0)))
-        × (now (cache .exit) ≡ kept (unmapAnswer known (now (map .entry)) (now (cache .entry)) (vm .0) (guest .0)) (now (cache .entry)) (withoutSlots (now (cache .entry)) (vm .0) (guest .0))) ⌝ }
+    ensures { λ r. ⌜ UnmapLeft (unmapAnswer known (now (map .entry)) (now (cache .entry)) (vm .0) (guest .0))
+        (now (map .entry)) (now (walker .entry)) (now (cache .entry)) (vm .0) (guest .0) r (now (map .exit)) (now (walker .exit)) (now (cache .exit)) ⌝ }
 {
-    let early = unmap_early(known, vm, guest);
-    if let Answer::Refused { refusal, index } = early {
+    let may = unmap_may(known, map, vm, guest);
+    if let Answer::Refused { refusal, index } = may {
         return Answer::Refused { refusal, index };
     }
-    let key = numbers::key(vm, guest);
-    let spot = table::find(map, key);
-    if let Found::Nothing = spot {
-        return refuse(Refusal::MappingDiffers, 0);
-    }
-    table::erase(map, key);
-    table::erase(walker, key);
-    accept(table::drop_slots(cache, key))
+    accept(unmap_do(map, walker, cache, vm, guest))
 }
 
 // ---- Ports.
