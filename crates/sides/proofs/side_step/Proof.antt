@@ -71,7 +71,7 @@ same-length-4 : tie.Need-same-length-4
 same-length-4 c = search needs
 
 returns : tie.Need-returns
-returns c = rw (c .before .before .before .before .before .before .before .before .before .before .before .before .operation .given .1) (side-same (c .before .before .before .before .before .before .map-page .ensures .0) refl (c .before .before .before .before .before .before .map-page .ensures .1) (c .before .before .before .before .before .before .map-page .ensures .2) (c .before .before .before .before .before .before .map-page .ensures .3) refl refl refl ∙ map-arm _ _ _ _ _ _ _ _ _ _ _ _ _ _ _ _)
+returns c = rw (c .before .before .before .before .before .before .before .before .before .before .before .before .operation .given .1) (side-same (c .before .before .before .before .before .before .map-page .ensures .answer) refl (c .before .before .before .before .before .before .map-page .ensures .map) (c .before .before .before .before .before .before .map-page .ensures .walker) (c .before .before .before .before .before .before .map-page .ensures .cache) refl refl refl ∙ map-arm _ _ _ _ _ _ _ _ _ _ _ _ _ _ _ _)
 
 same-length-5 : tie.Need-same-length-5
 same-length-5 c = search needs
@@ -83,7 +83,7 @@ same-length-7 : tie.Need-same-length-7
 same-length-7 c = search needs
 
 returns-2 : tie.Need-returns-2
-returns-2 c = rw (c .before .before .before .before .before .before .before .before .before .before .before .operation2 .given .1) (side-same (c .before .before .before .before .before .before .unmap-page .ensures .0) refl (c .before .before .before .before .before .before .unmap-page .ensures .1) (c .before .before .before .before .before .before .unmap-page .ensures .2) (c .before .before .before .before .before .before .unmap-page .ensures .3) refl refl refl ∙ unmap-arm _ _ _ _ _ _ _ _ _ _ _ _ _)
+returns-2 c = rw (c .before .before .before .before .before .before .before .before .before .before .before .operation2 .given .1) (side-same (c .before .before .before .before .before .before .unmap-page .ensures .answer) refl (c .before .before .before .before .before .before .unmap-page .ensures .map) (c .before .before .before .before .before .before .unmap-page .ensures .walker) (c .before .before .before .before .before .before .unmap-page .ensures .cache) refl refl refl ∙ unmap-arm _ _ _ _ _ _ _ _ _ _ _ _ _)
 
 same-length-8 : tie.Need-same-length-8
 same-length-8 c = search needs
@@ -95,7 +95,7 @@ same-length-10 : tie.Need-same-length-10
 same-length-10 c = search needs
 
 returns-3 : tie.Need-returns-3
-returns-3 c = rw (c .before .before .before .before .before .before .before .before .before .before .before .before .operation3 .given .1) (side-same (c .before .before .before .before .before .before .insert-region .ensures .0) (c .before .before .before .before .before .before .insert-region .ensures .1) (c .before .before .before .before .before .before .insert-region .ensures .2) (c .before .before .before .before .before .before .insert-region .ensures .3) refl refl refl refl ∙ insert-arm _ _ _ _ _ _ _ _ _ _ _ _)
+returns-3 c = rw (c .before .before .before .before .before .before .before .before .before .before .before .before .operation3 .given .1) (side-same (c .before .before .before .before .before .before .insert-region .ensures .answer) (c .before .before .before .before .before .before .insert-region .ensures .sets) (c .before .before .before .before .before .before .insert-region .ensures .map) (c .before .before .before .before .before .before .insert-region .ensures .walker) refl refl refl refl ∙ insert-arm _ _ _ _ _ _ _ _ _ _ _ _)
 
 same-length-11 : tie.Need-same-length-11
 same-length-11 c = search needs
@@ -113,10 +113,10 @@ same-length-15 : tie.Need-same-length-15
 same-length-15 c = search needs
 
 returns-4 : tie.Need-returns-4
-returns-4 c = rw (c .before .before .before .before .before .before .before .before .before .before .before .before .before .before .before .before .before .before .operation4 .given .1) (side-same (c .before .before .before .before .before .before .before .before .before .before .remove-region .ensures .0) (c .before .before .before .before .before .before .before .before .before .before .remove-region .ensures .1) (c .before .before .before .before .before .before .before .before .before .before .remove-region .ensures .2) (c .before .before .before .before .before .before .before .before .before .before .remove-region .ensures .3) (c .before .before .before .before .before .before .before .before .before .before .remove-region .ensures .4) refl refl (c .before .before .before .before .before .before .before .before .before .before .remove-region .ensures .5) ∙ remove-arm _ _ _ _ _ _ _ _ _ _ _ _)
+returns-4 c = rw (c .before .before .before .before .before .before .before .before .before .before .before .before .before .before .before .before .before .before .operation4 .given .1) (side-same (c .before .before .before .before .before .before .before .before .before .before .remove-region .ensures .answer) (c .before .before .before .before .before .before .before .before .before .before .remove-region .ensures .sets) (c .before .before .before .before .before .before .before .before .before .before .remove-region .ensures .map) (c .before .before .before .before .before .before .before .before .before .before .remove-region .ensures .walker) (c .before .before .before .before .before .before .before .before .before .before .remove-region .ensures .cache) refl refl (c .before .before .before .before .before .before .before .before .before .before .remove-region .ensures .memory) ∙ remove-arm _ _ _ _ _ _ _ _ _ _ _ _)
 
 returns-5 : tie.Need-returns-5
-returns-5 c = rw (c .before .before .before .operation5 .given .1) (side-same (c .before .give-port .ensures .0) refl refl refl refl refl (c .before .give-port .ensures .1) refl ∙ give-arm _ _ _ _ _ _ _ _ _ _ _ _ _)
+returns-5 c = rw (c .before .before .before .operation5 .given .1) (side-same (c .before .give-port .ensures .answer) refl refl refl refl refl (c .before .give-port .ensures .ports) refl ∙ give-arm _ _ _ _ _ _ _ _ _ _ _ _ _)
 
 same-length-16 : tie.Need-same-length-16
 same-length-16 c = search needs
@@ -125,13 +125,13 @@ same-length-17 : tie.Need-same-length-17
 same-length-17 c = search needs
 
 returns-6 : tie.Need-returns-6
-returns-6 c = rw (c .before .before .before .before .before .before .operation6 .given .1) (side-same (c .before .before .fill-slot .ensures .0) refl refl refl (c .before .before .fill-slot .ensures .1) (c .before .before .fill-slot .ensures .2) refl refl ∙ fill-arm _ _ _ _ _ _ _ _ _ _ _ _ _)
+returns-6 c = rw (c .before .before .before .before .before .before .operation6 .given .1) (side-same (c .before .before .fill-slot .ensures .answer) refl refl refl (c .before .before .fill-slot .ensures .cache) (c .before .before .fill-slot .ensures .hand) refl refl ∙ fill-arm _ _ _ _ _ _ _ _ _ _ _ _ _)
 
 same-length-18 : tie.Need-same-length-18
 same-length-18 c = search needs
 
 returns-7 : tie.Need-returns-7
-returns-7 c = rw (c .before .before .before .before .before .operation7 .given .1) (side-same (c .before .before .empty-slot .ensures .0) refl refl refl (c .before .before .empty-slot .ensures .1) refl refl refl ∙ empty-arm _ _ _ _ _ _ _ _ _ _ _ _)
+returns-7 c = rw (c .before .before .before .before .before .operation7 .given .1) (side-same (c .before .before .empty-slot .ensures .answer) refl refl refl (c .before .before .empty-slot .ensures .cache) refl refl refl ∙ empty-arm _ _ _ _ _ _ _ _ _ _ _ _)
 
 same-length-19 : tie.Need-same-length-19
 same-length-19 c = search needs
