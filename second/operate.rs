@@ -271,7 +271,7 @@ impl Machine {
         self.half(side).ports[port as usize].ok_or(Answer::refused(15))
     }
 
-    /// The VM has pages, mappings, edges, a CPU or a device.
+    /// Something still names the VM: a page, a mapping, an edge or a port.
     fn vm_in_use(&self, vm: Vm) -> bool {
         let in_use = |half: &Half| {
             half.owned.get(&vm).is_some_and(|pages| !pages.is_empty())

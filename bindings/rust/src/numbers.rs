@@ -87,7 +87,7 @@ numbers! {
     STILL_IN_USE: u64 = 11;
     /// A VM with itself, or no such pair.
     PAIR_WRONG: u64 = 12;
-    /// The VM still has pages, mappings, edges, a CPU or a device.
+    /// The VM holds a page, maps or shares one, or is on a CPU or a device.
     VM_BUSY: u64 = 13;
     /// Not enough free entries.
     NO_ROOM: u64 = 14;

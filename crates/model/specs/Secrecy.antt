@@ -30,7 +30,7 @@ pub record PrivateTo (vm : ℕ) (t : Tables) (page : ℕ) : Type 0 where
   pub held : holdsPage (t .sets) vm page ≡ true
   pub unshared : (w : ℕ) → Has (t .pairs) w → pageOf w ≡ page → ⊥
 
--- to a set of VMs: a member holds the page, and every edge on it joins two members
+-- to a set of VMs: a member holds the page, and no edge on it leads out of the set
 pub record Private (members : ℕ → Bool) (t : Tables) (page : ℕ) : Type 0 where
   pub holder : ℕ
   pub member : members holder ≡ true

@@ -6,7 +6,9 @@ returns : tie.Need-returns
 returns c = rw (← c .before .before .before .empty-answer .ensures, c .before .answer .given .1) (search needs)
 
 returns-2 : tie.Need-returns-2
-returns-2 c = rw (← c .before .before .before .before .before .before .empty-answer .ensures, c .before .before .before .before .enum-told .given .1) (search needs)
+returns-2 c =
+    let c4 = c .before .before .before .before in
+    rw (← c4 .before .before .empty-answer .ensures, c4 .enum-told .given .1) (search needs)
 
 pub empty-slot-spec : {M : Type 1} → statement M
 empty-slot-spec =

@@ -51,23 +51,32 @@ key-requires c κs =
 returns-3 : tie.Need-returns-3
 unfolding fillAnswer
 returns-3 c =
-    let k = c .before .before .before .key .ensures in
-    let n = walk-none (c .before .before .before .before .before .before .before .before .before .args .walker .now) (c .before .before .before .key .result) (omega arith) (sym (c .before .before .lookup .ensures) ∙ c .before .if3 .taken) in
-    rw (on-port (c .before .before .before .before .before .before), c .before .before .before .before .before .before .if1 .left, c .before .before .before .before .if2 .left, ← k, n, c .refuse3 .ensures) (record { answer = refl; given = λ e. never-both e })
+    let c1 = c .before in
+    let c2 = c1 .before in
+    let c3 = c2 .before in
+    let c6 = c3 .before .before .before in
+    let k = c3 .key .ensures in
+    let n = walk-none (c6 .before .before .before .args .walker .now) (c3 .key .result) (omega arith) (sym (c2 .lookup .ensures) ∙ c1 .if3 .taken) in
+    rw (on-port (c6), c6 .if1 .left, c3 .before .if2 .left, ← k, n, c .refuse3 .ensures) (record { answer = refl; given = λ e. never-both e })
 
 returns-4 : tie.Need-returns-4
 unfolding fillAnswer
 returns-4 c =
-    let r = ranged (c .before .before .before .before .before .before) in
-    let k = c .before .before .before .key .ensures in
-    let l = c .before .before .lookup .ensures in
-    let n = walk-some (c .before .before .before .before .before .before .before .before .before .args .walker .now) (c .before .before .before .key .result) (λ z. c .before .if3 .left (l ∙ z)) in
-    rw (on-port (c .before .before .before .before .before .before), c .before .before .before .before .before .before .if1 .left, c .before .before .before .before .if2 .left, ← k, n, c .accept .ensures)
+    let c1 = c .before in
+    let c2 = c1 .before in
+    let c3 = c2 .before in
+    let c4 = c3 .before in
+    let c6 = c4 .before .before in
+    let r = ranged (c6) in
+    let k = c3 .key .ensures in
+    let l = c2 .lookup .ensures in
+    let n = walk-some (c6 .before .before .before .args .walker .now) (c3 .key .result) (λ z. c1 .if3 .left (l ∙ z)) in
+    rw (on-port (c6), c6 .if1 .left, c4 .if2 .left, ← k, n, c .accept .ensures)
     (record {
       answer = refl;
       given = λ e. record {
-        ready = record { port-ok = r .0; vm-ok = in-vms (c .before .before .before .before); guest-ok = r .1 };
-        vm = sym (on-port (c .before .before .before .before .before .before));
+        ready = record { port-ok = r .0; vm-ok = in-vms (c4); guest-ok = r .1 };
+        vm = sym (on-port (c6));
         word = rw (← k) l;
       };
     })

@@ -4,10 +4,11 @@ use Rattle.maps.proofs.fill_do.Tie as tie
 
 returns : tie.Need-returns
 returns c =
-    let k = c .before .before .before .before .before .before .slot-key .ensures in
-    let t = c .before .before .take-slot .ensures in
+    let c2 = c .before .before in
+    let k = c2 .before .before .before .before .slot-key .ensures in
+    let t = c2 .take-slot .ensures in
     record {
-      cache = rw (← c .before .before .before .before .before .entry-of .ensures, ← k, ← c .before .before .before .before .slot-word .ensures) (t .1);
+      cache = rw (← c2 .before .before .before .entry-of .ensures, ← k, ← c2 .before .before .slot-word .ensures) (t .1);
       hand = rw (← k) (t .0);
     }
 

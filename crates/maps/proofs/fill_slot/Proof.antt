@@ -13,8 +13,9 @@ fill-do-requires c κs = c .before .before .before .fill-answer .ensures .given 
 returns-2 : tie.Need-returns-2
 unfolding fillCache fillHand
 returns-2 c =
-    let a = c .before .before .before .before .before .before .fill-answer .ensures in
-    let told = c .before .before .before .before .enum-told .given .1 in
+    let c4 = c .before .before .before .before in
+    let a = c4 .before .before .fill-answer .ensures in
+    let told = c4 .enum-told .given .1 in
     let f = a .given told in
     let d = c .before .before .fill-do .ensures in
     rw (← a .answer, told) (record { answer = refl; cache = rw (← f .vm, ← f .word) (d .cache); hand = rw (← f .vm) (d .hand) })

@@ -18,14 +18,17 @@ mul-map c = let h = within (c .before .before .before .before .before .before) i
 returns : tie.Need-returns
 unfolding mapTable matchingSlots withoutSlots put
 returns c =
-    let k = c .before .before .before .before .before .before .before .before .before .before .key .ensures in
-    let e = c .before .before .before .before .before .before .before .before .before .entry .ensures in
-    let w = c .before .before .before .before .before .before .before .before .map-word .ensures in
-    let d = c .before .before .drop-slots .ensures in
+    let c2 = c .before .before in
+    let c6 = c2 .before .before .before .before in
+    let c8 = c6 .before .before in
+    let k = c8 .before .before .key .ensures in
+    let e = c8 .before .entry .ensures in
+    let w = c8 .map-word .ensures in
+    let d = c2 .drop-slots .ensures in
     record {
       dropped = rw (← k) (d .0);
-      map = rw (c .before .before .before .before .before .before .before .before .before .before .before .before .before .before .pre .spot, ← e, ← w);
-      walker = rw (← e, ← w, ← k) (c .before .before .before .before .before .before .put .ensures);
+      map = rw (c8 .before .before .before .before .before .before .pre .spot, ← e, ← w);
+      walker = rw (← e, ← w, ← k) (c6 .put .ensures);
       cache = rw (← k) (d .1);
     }
 

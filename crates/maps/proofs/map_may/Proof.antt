@@ -26,16 +26,25 @@ key-requires c κs = let r = ranged (c .before .before) in omega arith
 
 returns-3 : tie.Need-returns-3
 unfolding mapMay
-returns-3 c = rw (← c .before .before .before .before .before .before .before .before .before .map-early .ensures, c .before .before .before .before .before .before .before .enum-told .given .1, ← c .before .before .before .before .before .before .may-map .ensures, c .before .before .before .before .before .if1 .left, ← c .before .before .before .before .key .ensures, ← c .before .before .before .place .ensures, c .before .enum-told2 .given .1, c .refuse2 .ensures) (record { answer = refl; ready = λ e. never-both e })
+returns-3 c =
+    let c1 = c .before in
+    let c3 = c1 .before .before in
+    let c5 = c3 .before .before in
+    rw (← c5 .before .before .before .before .map-early .ensures, c5 .before .before .enum-told .given .1, ← c5 .before .may-map .ensures, c5 .if1 .left, ← c3 .before .key .ensures, ← c3 .place .ensures, c1 .enum-told2 .given .1, c .refuse2 .ensures) (record { answer = refl; ready = λ e. never-both e })
 
 returns-4 : tie.Need-returns-4
 unfolding mapMay
 returns-4 c =
-    let r = ranged (c .before .before .before .before .before .before .before .before) in
-    let p = c .before .before .before .before .before .before .before .before .before .before .before .before .before .before .pre in
-    let k = c .before .before .before .before .before .key .ensures in
-    let spot = sym (c .before .before .before .before .place .ensures) ∙ c .before .before .spot .given .1 in
-    rw (← c .before .before .before .before .before .before .before .before .before .before .map-early .ensures, c .before .before .before .before .before .before .before .before .enum-told .given .1, ← c .before .before .before .before .before .before .before .may-map .ensures, c .before .before .before .before .before .before .if1 .left, ← k, spot, c .accept .ensures)
+    let c2 = c .before .before in
+    let c4 = c2 .before .before in
+    let c5 = c4 .before in
+    let c6 = c5 .before in
+    let c8 = c6 .before .before in
+    let r = ranged (c8) in
+    let p = c8 .before .before .before .before .before .before .pre in
+    let k = c5 .key .ensures in
+    let spot = sym (c4 .place .ensures) ∙ c2 .spot .given .1 in
+    rw (← c8 .before .before .map-early .ensures, c8 .enum-told .given .1, ← c6 .before .may-map .ensures, c6 .if1 .left, ← k, spot, c .accept .ensures)
     (record {
       answer = refl;
       ready = λ e. record {

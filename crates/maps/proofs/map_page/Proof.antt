@@ -10,8 +10,9 @@ returns c = rw (← c .before .before .before .map-may .ensures .answer, c .befo
 returns-2 : tie.Need-returns-2
 unfolding mapAnswer
 returns-2 c =
-    let d = c .before .before .before .before .before .before .before .map-do .ensures in
-    rw (← c .before .before .before .before .before .before .before .before .before .before .before .before .before .map-may .ensures .answer, c .before .before .before .before .before .before .before .before .before .before .before .enum-told .given .1, c .accept .ensures, d .dropped) (search needs)
+    let c7 = c .before .before .before .before .before .before .before in
+    let d = c7 .map-do .ensures in
+    rw (← c7 .before .before .before .before .before .before .map-may .ensures .answer, c7 .before .before .before .before .enum-told .given .1, c .accept .ensures, d .dropped) (search needs)
 
 map-do-requires : tie.Need-map-do-requires
 map-do-requires c κs = c .before .before .before .before .before .map-may .ensures .ready (c .before .before .before .enum-told .given .1)

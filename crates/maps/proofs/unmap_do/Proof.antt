@@ -6,12 +6,14 @@ use Rattle.maps.proofs.unmap_do.Tie as tie
 returns : tie.Need-returns
 unfolding unmapTable matchingSlots withoutSlots
 returns c =
-    let k = c .before .before .before .before .before .before .before .before .before .before .before .before .key .ensures in
-    let d = c .before .before .drop-slots .ensures in
+    let c2 = c .before .before in
+    let c6 = c2 .before .before .before .before in
+    let k = c6 .before .before .before .before .before .before .key .ensures in
+    let d = c2 .drop-slots .ensures in
     record {
       dropped = rw (← k) (d .0);
-      map = rw (← k) (c .before .before .before .before .before .before .before .before .before .before .erase .ensures);
-      walker = rw (← k) (c .before .before .before .before .before .before .erase2 .ensures);
+      map = rw (← k) (c6 .before .before .before .before .erase .ensures);
+      walker = rw (← k) (c6 .erase2 .ensures);
       cache = rw (← k) (d .1);
     }
 

@@ -19,11 +19,15 @@ key-requires c κs =
 
 returns-2 : tie.Need-returns-2
 unfolding unmapMay
-returns-2 c = rw (← c .before .before .before .before .before .before .before .unmap-early .ensures, c .before .before .before .before .before .enum-told .given .1, ← c .before .before .before .before .key .ensures, ← c .before .before .before .find .ensures, c .before .enum-told2 .given .1, c .refuse .ensures)
+returns-2 c =
+    let c3 = c .before .before .before in
+    rw (← c3 .before .before .before .before .unmap-early .ensures, c3 .before .before .enum-told .given .1, ← c3 .before .key .ensures, ← c3 .find .ensures, c .before .enum-told2 .given .1, c .refuse .ensures)
 
 returns-3 : tie.Need-returns-3
 unfolding unmapMay
-returns-3 c = rw (← c .before .before .before .before .before .before .before .unmap-early .ensures, c .before .before .before .before .before .enum-told .given .1, ← c .before .before .before .before .key .ensures, ← c .before .before .before .find .ensures, c .before .enum-told3 .given .1, c .accept .ensures)
+returns-3 c =
+    let c3 = c .before .before .before in
+    rw (← c3 .before .before .before .before .unmap-early .ensures, c3 .before .before .enum-told .given .1, ← c3 .before .key .ensures, ← c3 .find .ensures, c .before .enum-told3 .given .1, c .accept .ensures)
 
 pub unmap-may-spec : {M : Type 1} → statement M
 unmap-may-spec =

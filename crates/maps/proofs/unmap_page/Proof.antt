@@ -15,8 +15,9 @@ unmap-do-requires c κs = unmap-ready _ _ _ _ (sym (c .before .before .before .b
 returns-2 : tie.Need-returns-2
 unfolding unmapAnswer
 returns-2 c =
-    let d = c .before .before .before .before .before .before .before .unmap-do .ensures in
-    rw (← c .before .before .before .before .before .before .before .before .before .before .before .before .before .unmap-may .ensures, c .before .before .before .before .before .before .before .before .before .before .before .enum-told .given .1, c .accept .ensures, d .dropped) (search needs)
+    let c7 = c .before .before .before .before .before .before .before in
+    let d = c7 .unmap-do .ensures in
+    rw (← c7 .before .before .before .before .before .before .unmap-may .ensures, c7 .before .before .before .before .enum-told .given .1, c .accept .ensures, d .dropped) (search needs)
 
 pub unmap-page-spec : {M : Type 1} → statement M
 unmap-page-spec =

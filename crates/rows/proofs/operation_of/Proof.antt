@@ -3,24 +3,6 @@ use borrow.Author.Tests.{ne-eqb}
 use Rattle.rows.proofs.operation_of.Statement.{statement}
 use Rattle.rows.proofs.operation_of.Tie as tie
 
-region-of-requires : tie.Need-region-of-requires
-region-of-requires c κs = search needs
-
-region-of-requires-2 : tie.Need-region-of-requires-2
-region-of-requires-2 c κs = search needs
-
-region-of-requires-3 : tie.Need-region-of-requires-3
-region-of-requires-3 c κs = search needs
-
-region-of-requires-4 : tie.Need-region-of-requires-4
-region-of-requires-4 c κs = search needs
-
-target-of-requires : tie.Need-target-of-requires
-target-of-requires c κs = search needs
-
-target-of-requires-2 : tie.Need-target-of-requires-2
-target-of-requires-2 c κs = search needs
-
 returns : tie.Need-returns
 returns c = rw (c .match .keys1)
 
@@ -106,12 +88,12 @@ pub operation-of-spec : {M : Type 1} → statement M
 operation-of-spec =
     tie.close
     (tie.spec
-    region-of-requires
-    region-of-requires-2
-    region-of-requires-3
-    region-of-requires-4
-    target-of-requires
-    target-of-requires-2
+    (λ c κs. search needs)
+    (λ c κs. search needs)
+    (λ c κs. search needs)
+    (λ c κs. search needs)
+    (λ c κs. search needs)
+    (λ c κs. search needs)
     returns
     returns-2
     returns-3

@@ -3,9 +3,6 @@ use Rattle.numbers.specs.DecidesLaws.{decides-as, passed, failed, says-no}
 use Rattle.judge.proofs.header.setup.Statement.{statement}
 use Rattle.judge.proofs.header.setup.Tie as tie
 
-setup-numbers-requires : tie.Need-setup-numbers-requires
-setup-numbers-requires c κs = search needs
-
 returns : tie.Need-returns
 returns c =
     says-no
@@ -23,4 +20,4 @@ returns-2 c =
     (λ s. s .units)
 
 pub setup-spec : {M : Type 1} → statement M
-setup-spec = tie.close (tie.spec setup-numbers-requires returns units-good-requires returns-2)
+setup-spec = tie.close (tie.spec (λ c κs. search needs) returns units-good-requires returns-2)
