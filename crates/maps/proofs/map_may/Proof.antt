@@ -1,5 +1,5 @@
 use borrow.Author.Needs.{needs}
-use mathlib.Core.Path.{_≡_, refl, sym, _∙_}
+use mathlib.Core.Path.{refl, sym, _∙_}
 use native.Mathlib.Omega.{arith}
 use Rattle.model.specs.EarlyLaws.{MapPassed, map-passed, never-both}
 use Rattle.model.specs.Maps.{mapMay}
@@ -19,23 +19,24 @@ may-map-requires c κs = let r = ranged c in search needs
 
 returns-2 : tie.Need-returns-2
 unfolding mapMay
-returns-2 c = rw (← c .before .before .before .before .before .map-early .ensures, c .before .before .before .enum-told .given .1, ← c .before .before .may-map .ensures, c .before .if1 .taken, c .refuse .ensures) (record { answer = refl; ready = λ e. never-both e })
+returns-2 c = let p = c .before .before .before in rw (← p .before .before .map-early .ensures, p .enum-told .given .1, ← c .before .before .may-map .ensures, c .before .if1 .taken, c .refuse .ensures) (record { answer = refl; ready = λ e. never-both e })
 
 key-requires : tie.Need-key-requires
 key-requires c κs = let r = ranged (c .before .before) in omega arith
 
 returns-3 : tie.Need-returns-3
 unfolding mapMay
-returns-3 c = rw (← c .before .before .before .before .before .before .before .before .before .map-early .ensures, c .before .before .before .before .before .before .before .enum-told .given .1, ← c .before .before .before .before .before .before .may-map .ensures, c .before .before .before .before .before .if1 .left, ← c .before .before .before .before .key .ensures, ← c .before .before .before .place .ensures, c .before .enum-told2 .given .1, c .refuse2 .ensures) (record { answer = refl; ready = λ e. never-both e })
+returns-3 c = let p = c .before .before .before .before .before .before .before in rw (← p .before .before .map-early .ensures, p .enum-told .given .1, ← c .before .before .before .before .before .before .may-map .ensures, c .before .before .before .before .before .if1 .left, ← c .before .before .before .before .key .ensures, ← c .before .before .before .place .ensures, c .before .enum-told2 .given .1, c .refuse2 .ensures) (record { answer = refl; ready = λ e. never-both e })
 
 returns-4 : tie.Need-returns-4
 unfolding mapMay
 returns-4 c =
-    let r = ranged (c .before .before .before .before .before .before .before .before) in
-    let p = c .before .before .before .before .before .before .before .before .before .before .before .before .before .before .pre in
+    let p = c .before .before .before .before .before .before .before .before in
+    let r = ranged p in
+    let fit = p .before .before .before .before .before .before .pre in
     let k = c .before .before .before .before .before .key .ensures in
     let spot = sym (c .before .before .before .before .place .ensures) ∙ c .before .before .spot .given .1 in
-    rw (← c .before .before .before .before .before .before .before .before .before .before .map-early .ensures, c .before .before .before .before .before .before .before .before .enum-told .given .1, ← c .before .before .before .before .before .before .before .may-map .ensures, c .before .before .before .before .before .before .if1 .left, ← k, spot, c .accept .ensures)
+    rw (← p .before .before .map-early .ensures, p .enum-told .given .1, ← c .before .before .before .before .before .before .before .may-map .ensures, c .before .before .before .before .before .before .if1 .left, ← k, spot, c .accept .ensures)
     (record {
       answer = refl;
       ready = λ e. record {
