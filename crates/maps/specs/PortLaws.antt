@@ -1,10 +1,8 @@
--- What a switch that passed tells, and what the walker's word of a key tells.
-use Prim.Native.Nat.{ℕ, zero, suc, _<_}
+-- What an unmap or a switch that passed tells, and what the walker's word of a key tells.
+use Prim.Native.Nat.{ℕ, _<_}
 use mathlib.Core.Bool.{true, false, not, _&&_}
-use mathlib.Core.List.{List, [], _∷_}
+use mathlib.Core.List.{List}
 use mathlib.Core.Path.{_≡_, refl}
-use native.Mathlib.Omega.{arith}
-use lib.ListN.{length, getD}
 use borrow.Author.Tests.{ltb-true}
 use Rattle.numbers.specs.Limits.{PORTS}
 use Rattle.numbers.specs.Packing.{keyOf}

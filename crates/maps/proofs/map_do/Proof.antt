@@ -1,4 +1,4 @@
-use borrow.Author.Needs.{needs, scaled-fits}
+use borrow.Author.Needs.{needs}
 use Prim.Native.Nat.{_<_}
 use lib.ListN.{length}
 use Rattle.numbers.specs.Packing.{keyOf}

@@ -1,5 +1,5 @@
 use borrow.Author.Needs.{needs}
-use mathlib.Core.Path.{_≡_, refl, sym, _∙_}
+use mathlib.Core.Path.{refl, sym, _∙_}
 use native.Mathlib.Omega.{arith}
 use Rattle.model.specs.EarlyLaws.{MapPassed, map-passed, never-both}
 use Rattle.model.specs.Maps.{mapMay}
@@ -19,7 +19,7 @@ may-map-requires c κs = let r = ranged c in search needs
 
 returns-2 : tie.Need-returns-2
 unfolding mapMay
-returns-2 c = rw (← c .before .before .before .before .before .map-early .ensures, c .before .before .before .enum-told .given .1, ← c .before .before .may-map .ensures, c .before .if1 .taken, c .refuse .ensures) (record { answer = refl; ready = λ e. never-both e })
+returns-2 c = let p = c .before .before .before in rw (← p .before .before .map-early .ensures, p .enum-told .given .1, ← c .before .before .may-map .ensures, c .before .if1 .taken, c .refuse .ensures) (record { answer = refl; ready = λ e. never-both e })
 
 key-requires : tie.Need-key-requires
 key-requires c κs = let r = ranged (c .before .before) in omega arith
@@ -29,22 +29,19 @@ unfolding mapMay
 returns-3 c =
     let c1 = c .before in
     let c3 = c1 .before .before in
-    let c5 = c3 .before .before in
-    rw (← c5 .before .before .before .before .map-early .ensures, c5 .before .before .enum-told .given .1, ← c5 .before .may-map .ensures, c5 .if1 .left, ← c3 .before .key .ensures, ← c3 .place .ensures, c1 .enum-told2 .given .1, c .refuse2 .ensures) (record { answer = refl; ready = λ e. never-both e })
+    let p = c3 .before .before .before .before in rw (← p .before .before .map-early .ensures, p .enum-told .given .1, ← c3 .before .before .before .may-map .ensures, c3 .before .before .if1 .left, ← c3 .before .key .ensures, ← c3 .place .ensures, c1 .enum-told2 .given .1, c .refuse2 .ensures) (record { answer = refl; ready = λ e. never-both e })
 
 returns-4 : tie.Need-returns-4
 unfolding mapMay
 returns-4 c =
     let c2 = c .before .before in
     let c4 = c2 .before .before in
-    let c5 = c4 .before in
-    let c6 = c5 .before in
-    let c8 = c6 .before .before in
-    let r = ranged (c8) in
-    let p = c8 .before .before .before .before .before .before .pre in
-    let k = c5 .key .ensures in
+    let p = c4 .before .before .before .before in
+    let r = ranged p in
+    let fit = p .before .before .before .before .before .before .pre in
+    let k = c4 .before .key .ensures in
     let spot = sym (c4 .place .ensures) ∙ c2 .spot .given .1 in
-    rw (← c8 .before .before .map-early .ensures, c8 .enum-told .given .1, ← c6 .before .may-map .ensures, c6 .if1 .left, ← k, spot, c .accept .ensures)
+    rw (← p .before .before .map-early .ensures, p .enum-told .given .1, ← c4 .before .before .before .may-map .ensures, c4 .before .before .if1 .left, ← k, spot, c .accept .ensures)
     (record {
       answer = refl;
       ready = λ e. record {

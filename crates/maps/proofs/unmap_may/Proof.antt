@@ -1,7 +1,7 @@
 use borrow.Author.Needs.{needs}
 use mathlib.Core.Path.{sym, _∙_}
 use native.Mathlib.Omega.{arith}
-use Rattle.model.specs.EarlyLaws.{UnmapPassed, unmap-passed}
+use Rattle.model.specs.EarlyLaws.{unmap-passed}
 use Rattle.model.specs.Maps.{unmapMay}
 use Rattle.maps.proofs.unmap_may.Statement.{statement}
 use Rattle.maps.proofs.unmap_may.Tie as tie
@@ -21,13 +21,13 @@ returns-2 : tie.Need-returns-2
 unfolding unmapMay
 returns-2 c =
     let c3 = c .before .before .before in
-    rw (← c3 .before .before .before .before .unmap-early .ensures, c3 .before .before .enum-told .given .1, ← c3 .before .key .ensures, ← c3 .find .ensures, c .before .enum-told2 .given .1, c .refuse .ensures)
+    let p = c3 .before .before in rw (← p .before .before .unmap-early .ensures, p .enum-told .given .1, ← c3 .before .key .ensures, ← c3 .find .ensures, c .before .enum-told2 .given .1, c .refuse .ensures)
 
 returns-3 : tie.Need-returns-3
 unfolding unmapMay
 returns-3 c =
     let c3 = c .before .before .before in
-    rw (← c3 .before .before .before .before .unmap-early .ensures, c3 .before .before .enum-told .given .1, ← c3 .before .key .ensures, ← c3 .find .ensures, c .before .enum-told3 .given .1, c .accept .ensures)
+    let p = c3 .before .before in rw (← p .before .before .unmap-early .ensures, p .enum-told .given .1, ← c3 .before .key .ensures, ← c3 .find .ensures, c .before .enum-told3 .given .1, c .accept .ensures)
 
 pub unmap-may-spec : {M : Type 1} → statement M
 unmap-may-spec =
