@@ -46,7 +46,7 @@ use Rattle.slots.specs.declared.Slot.{Slot}
 use Rattle.slots.specs.declared.Changed.{Changed}
 use Rattle.slots.proofs.AtOnce.{alloc-all, pass-all, free-all, fapart, fwhole, last-eq}
 use Rattle.slots.proofs.SharedLoan.{SharedOut, lends-shared, shared-back}
-use Rattle.slots.proofs.Rows.{R, Row, field-words, field-row, row-makes, row-typed}
+use Rattle.slots.proofs.Rows.{R, Row, field-words, field-row, row-makes, row-typed, at, held}
 use Rattle.slots.proofs.Changed as O
 use Rattle.slots.proofs.Changed.Laws as O′
 use Rattle.slots.proofs.load as load′
@@ -88,13 +88,13 @@ module _ {M : Type 1} (𝓤 : URA M) (H : Heap 𝓤) (A : Atoms 𝓤) (mem : Mem
 
 module _ {M : Type 1} (𝓤 : URA M) (H : Heap 𝓤) (A : Atoms 𝓤) (W : Given 𝓤 H A) (mem : Memory → SProp 𝓤) (run : Routine → Fun 𝓤) (κ₀ : Lft) (q₀ : Share) (b₀ o₀ : ℕ) (γ₀ : GName) (ys₀ : List Slot) (g₀ : Room R (length ys₀)) (place : ℕ) (g-place : Is u64 place (vint w64 place ∷ [])) where
   abbrev Post : Val → SProp 𝓤
-  Post = walkOf 𝓤 H A entry′.ended stayed (entry′.clauses 𝓤 H A mem run) .post (((κ₀, tt), (q₀, tt), tt, (record { ptr = (b₀, o₀); name = γ₀; now = ys₀ }, (place, tt)), (sliceVal (b₀, o₀) (length ys₀) ∷ [], (vint w64 place ∷ [], tt))), tt)
+  Post = walkOf 𝓤 H A entry′.ended stayed (entry′.clauses 𝓤 H A mem run) .post (((κ₀, tt), (q₀, tt), tt, (at b₀ o₀ γ₀ ys₀, (place, tt)), (held b₀ o₀ ys₀, (vint w64 place ∷ [], tt))), tt)
 
   abbrev to-load-1 : ℕ → GName → Load 𝓤 H A mem run .Ghost
-  to-load-1 ν δ = (((ν ∷ [], tt), (fullShare, tt), tt, (record { ptr = (b₀, o₀); name = δ; now = ys₀ }, tt), (sliceVal (b₀, o₀) (length ys₀) ∷ [], tt)), tt)
+  to-load-1 ν δ = (((ν ∷ [], tt), (fullShare, tt), tt, (at b₀ o₀ δ ys₀, tt), (held b₀ o₀ ys₀, tt)), tt)
 
-  goes-1 : (ν : ℕ) (δ : GName) → ent 𝓤 (sep 𝓤 (A .lft (ν ∷ []) fullShare) (sem 𝓤 H A (ShrSlice (named 0) (ν ∷ []) R .own (record { ptr = (b₀, o₀); name = δ; now = ys₀ }) (sliceVal (b₀, o₀) (length ys₀) ∷ [])))) (Load 𝓤 H A mem run .pre (to-load-1 ν δ))
-  goes-1 ν δ = qed W (‵ (flft (ν ∷ []) fullShare) ∷ ‵ (ShrSlice (named 0) (ν ∷ []) R .own (record { ptr = (b₀, o₀); name = δ; now = ys₀ }) (sliceVal (b₀, o₀) (length ys₀) ∷ [])) ∷ []) ∵ nothing ! $ move ! (1 ∷ 0 ∷ []) $ join ! $ nothing ! $ move ! (2 ∷ 0 ∷ []) $ fjoin ! $ move ! (1 ∷ 0 ∷ []) $ join ! $ frame ! $ nothing ! $ done !
+  goes-1 : (ν : ℕ) (δ : GName) → ent 𝓤 (sep 𝓤 (A .lft (ν ∷ []) fullShare) (sem 𝓤 H A (ShrSlice (named 0) (ν ∷ []) R .own (at b₀ o₀ δ ys₀) (held b₀ o₀ ys₀)))) (Load 𝓤 H A mem run .pre (to-load-1 ν δ))
+  goes-1 ν δ = qed W (‵ (flft (ν ∷ []) fullShare) ∷ ‵ (ShrSlice (named 0) (ν ∷ []) R .own (at b₀ o₀ δ ys₀) (held b₀ o₀ ys₀)) ∷ []) ∵ nothing ! $ move ! (1 ∷ 0 ∷ []) $ join ! $ nothing ! $ move ! (2 ∷ 0 ∷ []) $ fjoin ! $ move ! (1 ∷ 0 ∷ []) $ join ! $ frame ! $ nothing ! $ done !
 
   abbrev to-core : (c₁ : List ℕ) (v₁ : Val) (i₁ : Is Row c₁ (v₁ ∷ [])) → Core 𝓤 H A mem run .Ghost
   to-core c₁ v₁ i₁ = ((tt, tt, tt, (length ys₀, (c₁, (place, tt))), (vint w64 (length ys₀) ∷ [], (v₁ ∷ [], (vint w64 place ∷ [], tt)))), tt)
@@ -112,15 +112,15 @@ module _ {M : Type 1} (𝓤 : URA M) (H : Heap 𝓤) (A : Atoms 𝓤) (W : Given
       join ! $ frame ! $ nothing ! $ done !
 
   abbrev to-store-3 : (out : Changed) → Store 𝓤 H A mem run .Ghost
-  to-store-3 out = (((κ₀, tt), (q₀, tt), tt, (record { ptr = (b₀, o₀); name = γ₀; now = ys₀ }, (out .words, tt)), (sliceVal (b₀, o₀) (length ys₀) ∷ [], (array-vals (uint-vals w64) (field-words (out .words)), tt))), tt)
+  to-store-3 out = (((κ₀, tt), (q₀, tt), tt, (at b₀ o₀ γ₀ ys₀, (out .words, tt)), (held b₀ o₀ ys₀, (array-vals (uint-vals w64) (field-words (out .words)), tt))), tt)
 
-  goes-3 : (out : Changed) → Is Row (out .words) (array-vals (uint-vals w64) (field-words (out .words))) → ent 𝓤 (sep 𝓤 (sem 𝓤 H A (flft κ₀ q₀)) (sem 𝓤 H A (MutSlice (named 0) κ₀ R .own (record { ptr = (b₀, o₀); name = γ₀; now = ys₀ }) (sliceVal (b₀, o₀) (length ys₀) ∷ [])))) (Store 𝓤 H A mem run .pre (to-store-3 out))
-  goes-3 out is = qed W (‵ (flft κ₀ q₀) ∷ ‵ (MutSlice (named 0) κ₀ R .own (record { ptr = (b₀, o₀); name = γ₀; now = ys₀ }) (sliceVal (b₀, o₀) (length ys₀) ∷ [])) ∷ []) ∵ nothing ! $ move ! (1 ∷ 0 ∷ []) $ join ! $ nothing ! $ owned ! Row (Is Row) (row-makes 𝓤 H A W) (out .words) _ is $ fjoin ! $ move ! (2 ∷ 0 ∷ []) $ fjoin ! $ move ! (1 ∷ 0 ∷ []) $ join ! $ frame ! $ nothing ! $ done !
+  goes-3 : (out : Changed) → Is Row (out .words) (array-vals (uint-vals w64) (field-words (out .words))) → ent 𝓤 (sep 𝓤 (sem 𝓤 H A (flft κ₀ q₀)) (sem 𝓤 H A (MutSlice (named 0) κ₀ R .own (at b₀ o₀ γ₀ ys₀) (held b₀ o₀ ys₀)))) (Store 𝓤 H A mem run .pre (to-store-3 out))
+  goes-3 out is = qed W (‵ (flft κ₀ q₀) ∷ ‵ (MutSlice (named 0) κ₀ R .own (at b₀ o₀ γ₀ ys₀) (held b₀ o₀ ys₀)) ∷ []) ∵ nothing ! $ move ! (1 ∷ 0 ∷ []) $ join ! $ nothing ! $ owned ! Row (Is Row) (row-makes 𝓤 H A W) (out .words) _ is $ fjoin ! $ move ! (2 ∷ 0 ∷ []) $ fjoin ! $ move ! (1 ∷ 0 ∷ []) $ join ! $ frame ! $ nothing ! $ done !
 
   walk : (𝓣 : Tables 𝓤 H) (fm : FmC 𝓤 H (W .laws) (𝓣 .C)) (known-load : Triple 𝓤 (𝓣 .C #load) (Load 𝓤 H A mem run)) (known-store : Triple 𝓤 (𝓣 .C #store) (Store 𝓤 H A mem run)) (known-core : Triple 𝓤 (𝓣 .C #core) (Core 𝓤 H A mem run))
-      → ent 𝓤 (onEntry 𝓤 H A entry′.signature (κ₀, tt) (q₀, tt) (record { ptr = (b₀, o₀); name = γ₀; now = ys₀ }, (place, tt)) (sliceVal (b₀, o₀) (length ys₀) ∷ [], (vint w64 place ∷ [], tt))) (WpFn 𝓤 H (𝓣 .C) (𝓣 .Λ) code.function (sliceVal (b₀, o₀) (length ys₀) ∷ vint w64 place ∷ []) Post)
+      → ent 𝓤 (onEntry 𝓤 H A entry′.signature (κ₀, tt) (q₀, tt) (at b₀ o₀ γ₀ ys₀, (place, tt)) (held b₀ o₀ ys₀, (vint w64 place ∷ [], tt))) (WpFn 𝓤 H (𝓣 .C) (𝓣 .Λ) code.function (sliceVal (b₀, o₀) (length ys₀) ∷ vint w64 place ∷ []) Post)
   walk 𝓣 fm known-load known-store known-core =
-      qed W ((‵ (flft κ₀ q₀) ⊛ ‵ ftrue) ∷ ‵ (owns (MutSlice (named 0) κ₀ R ∷ u64 ∷ []) (record { ptr = (b₀, o₀); name = γ₀; now = ys₀ }, (place, tt)) (sliceVal (b₀, o₀) (length ys₀) ∷ [], (vint w64 place ∷ [], tt))) ∷ []) ∵ enter ! (𝓣 .C) (𝓣 .Λ) code.function (sliceVal (b₀, o₀) (length ys₀) ∷ vint w64 place ∷ []) _ $
+      qed W ((‵ (flft κ₀ q₀) ⊛ ‵ ftrue) ∷ ‵ (owns (MutSlice (named 0) κ₀ R ∷ u64 ∷ []) (at b₀ o₀ γ₀ ys₀, (place, tt)) (held b₀ o₀ ys₀, (vint w64 place ∷ [], tt))) ∷ []) ∵ enter ! (𝓣 .C) (𝓣 .Λ) code.function (sliceVal (b₀, o₀) (length ys₀) ∷ vint w64 place ∷ []) _ $
       alloc-all ! (λ l₀ l₁ l₂ l₃ l₄ l₅ l₆ l₇ l₈ l₉ l₁₀ Dies dies.
       params1 ! $
       pass-all ! 9 ((refl, (tt, (tt, (record { fits = g₀ .0 }, tt)))), ((refl, (uint-lawful 𝓤 H A W w64 .typed place _ g-place .0)), tt)) $
@@ -136,17 +136,17 @@ module _ {M : Type 1} (𝓤 : URA M) (H : Heap 𝓤) (A : Atoms 𝓤) (W : Given
       assigns ! (agg ! (and-then ! (load ! (from ! (stop !)) (look ! 6 refl)) (and-then ! (load ! (from ! (fld ! refl (stop !))) (look-in ! 11 (sub ! 1 refl (whole !)))) (no-more !)))) (from ! (stop !)) (init ! 5 refl (tt, (tt, (record { fits = g₀ .0 }, tt)))) $
       lft-new ! tt (λ ν₁.
       move ! (1 ∷ 2 ∷ []) $
-      use2 W (later (some (λ (δ : GName). ‵ (ShrSlice (named 0) (ν₁ ∷ []) R .own (record { ptr = (b₀, o₀); name = δ; now = ys₀ }) (sliceVal (b₀, o₀) (length ys₀) ∷ [])) ⊛ ‵ (SharedOut R κ₀ (ν₁ ∷ []) q₀ γ₀ b₀ o₀ ys₀)))) (lends-shared R κ₀ (ν₁ ∷ []) q₀ γ₀ b₀ o₀ ys₀ 𝓤 H A W (named 0) (named 0)) $ await ! tt $ pick ! (λ δ₁. split ! $
+      use2 W (later (some (λ (δ : GName). ‵ (ShrSlice (named 0) (ν₁ ∷ []) R .own (at b₀ o₀ δ ys₀) (held b₀ o₀ ys₀)) ⊛ ‵ (SharedOut R κ₀ (ν₁ ∷ []) q₀ γ₀ b₀ o₀ ys₀)))) (lends-shared R κ₀ (ν₁ ∷ []) q₀ γ₀ b₀ o₀ ys₀ 𝓤 H A W (named 0) (named 0)) $ await ! tt $ pick ! (λ δ₁. split ! $
       move ! (2 ∷ 0 ∷ []) $
       use2 W (raw (Load 𝓤 H A mem run .pre (to-load-1 ν₁ δ₁))) (goes-1 ν₁ δ₁) $
       calls-at ! fm (Load 𝓤 H A mem run) known-load (to-load-1 ν₁ δ₁) (and-then ! (load ! (from ! (stop !)) (look ! 5 refl)) (no-more !)) (λ v₁.
-      use1 W (later (some (λ (r : List ℕ). ((‵ (flft (ν₁ ∷ []) fullShare) ⊛ ‵ ftrue) ⊛ ‵ (Row .own r (v₁ ∷ []))) ⊛ raw (ensured 𝓤 H A load′.ended (load′.clauses 𝓤 H A mem run) (ν₁ ∷ [], tt) (record { ptr = (b₀, o₀); name = δ₁; now = ys₀ }, tt) tt r)))) (id⊢ 𝓤 _) $ await ! tt $ pick ! (λ c₁.
-      split ! $ move ! (1 ∷ []) $ use1 W (raw (fact 𝓤 ((c₁ ≡ loaded ys₀) × AllFit ys₀))) (load-of 𝓤 H A mem run (ν₁ ∷ [], tt) (record { ptr = (b₀, o₀); name = δ₁; now = ys₀ }) c₁) $ heard ! ((c₁ ≡ loaded ys₀) × AllFit ys₀) (λ e₁. split ! $
+      use1 W (later (some (λ (r : List ℕ). ((‵ (flft (ν₁ ∷ []) fullShare) ⊛ ‵ ftrue) ⊛ ‵ (Row .own r (v₁ ∷ []))) ⊛ raw (ensured 𝓤 H A load′.ended (load′.clauses 𝓤 H A mem run) (ν₁ ∷ [], tt) (at b₀ o₀ δ₁ ys₀, tt) tt r)))) (id⊢ 𝓤 _) $ await ! tt $ pick ! (λ c₁.
+      split ! $ move ! (1 ∷ []) $ use1 W (raw (fact 𝓤 ((c₁ ≡ loaded ys₀) × AllFit ys₀))) (load-of 𝓤 H A mem run (ν₁ ∷ [], tt) (at b₀ o₀ δ₁ ys₀) c₁) $ heard ! ((c₁ ≡ loaded ys₀) × AllFit ys₀) (λ e₁. split ! $
       move ! (1 ∷ []) $
       facts ! Row (Is Row) (shows 𝓤 H A Row) c₁ (v₁ ∷ []) (λ i₁. split ! $
       land ! (from ! (stop !)) (init ! 9 refl (row-typed 𝓤 H A W c₁ v₁ i₁)) $ lft-end ! tt $
       move ! (0 ∷ 2 ∷ []) $
-      use2 W (later (‵ (MutSlice (named 0) κ₀ R .own (record { ptr = (b₀, o₀); name = γ₀; now = ys₀ }) (sliceVal (b₀, o₀) (length ys₀) ∷ [])) ⊛ ‵ (flft κ₀ q₀))) (shared-back R κ₀ (ν₁ ∷ []) q₀ γ₀ b₀ o₀ ys₀ 𝓤 H A W (named 0) (named 0) g₀) $ await ! tt $ split ! $
+      use2 W (later (‵ (MutSlice (named 0) κ₀ R .own (at b₀ o₀ γ₀ ys₀) (held b₀ o₀ ys₀)) ⊛ ‵ (flft κ₀ q₀))) (shared-back R κ₀ (ν₁ ∷ []) q₀ γ₀ b₀ o₀ ys₀ 𝓤 H A W (named 0) (named 0) g₀) $ await ! tt $ split ! $
       move ! (2 ∷ []) $
       drop ! $
       use0 W (raw (Core 𝓤 H A mem run .pre (to-core c₁ v₁ i₁))) (goes-core c₁ v₁ i₁) $
@@ -165,8 +165,8 @@ module _ {M : Type 1} (𝓤 : URA M) (H : Heap 𝓤) (A : Atoms 𝓤) (W : Given
       move ! (1 ∷ 0 ∷ []) $
       use2 W (raw (Store 𝓤 H A mem run .pre (to-store-3 out))) (goes-3 out (field-row (out .words) (array-vals (uint-vals w64) (field-words (out .words))) (LL.owed O.the-type O′.the-laws out (vo ∷ []) io .0))) $
       calls-at ! fm (Store 𝓤 H A mem run) known-store (to-store-3 out) (and-then ! (load ! (from ! (stop !)) (look ! 1 refl)) (and-then ! (load ! (from ! (fld ! refl (stop !))) (look-in ! 6 (sub ! 0 refl (whole !)))) (no-more !))) (λ v₃.
-      use1 W (later (some (λ (r : Unit {0}). ((‵ (flft κ₀ q₀) ⊛ ‵ ftrue) ⊛ ‵ (Nothing .own r (v₃ ∷ []))) ⊛ raw (ensured 𝓤 H A store′.ended (store′.clauses 𝓤 H A mem run) (κ₀, tt) (record { ptr = (b₀, o₀); name = γ₀; now = ys₀ }, (out .words, tt)) tt r)))) (id⊢ 𝓤 _) $ await ! tt $ pick ! (λ r₃.
-      split ! $ move ! (1 ∷ []) $ use1 W (some (λ (z₃ : Lasts store′.ended (κ₀, tt) (record { ptr = (b₀, o₀); name = γ₀; now = ys₀ }, (out .words, tt))). ‵ (lasts store′.ended (κ₀, tt) (record { ptr = (b₀, o₀); name = γ₀; now = ys₀ }, (out .words, tt)) z₃) ⊛ raw (fact 𝓤 (z₃ .0 ≡ stored (out .words) ys₀)))) (id⊢ 𝓤 _) $ pick ! (λ z₃. split ! $ move ! (1 ∷ []) $ heard ! (z₃ .0 ≡ stored (out .words) ys₀) (λ e₃.
+      use1 W (later (some (λ (r : Unit {0}). ((‵ (flft κ₀ q₀) ⊛ ‵ ftrue) ⊛ ‵ (Nothing .own r (v₃ ∷ []))) ⊛ raw (ensured 𝓤 H A store′.ended (store′.clauses 𝓤 H A mem run) (κ₀, tt) (at b₀ o₀ γ₀ ys₀, (out .words, tt)) tt r)))) (id⊢ 𝓤 _) $ await ! tt $ pick ! (λ r₃.
+      split ! $ move ! (1 ∷ []) $ use1 W (some (λ (z₃ : Lasts store′.ended (κ₀, tt) (at b₀ o₀ γ₀ ys₀, (out .words, tt))). ‵ (lasts store′.ended (κ₀, tt) (at b₀ o₀ γ₀ ys₀, (out .words, tt)) z₃) ⊛ raw (fact 𝓤 (z₃ .0 ≡ stored (out .words) ys₀)))) (id⊢ 𝓤 _) $ pick ! (λ z₃. split ! $ move ! (1 ∷ []) $ heard ! (z₃ .0 ≡ stored (out .words) ys₀) (λ e₃.
       last-eq ! (λ h₀.
       drop ! $
       move ! (1 ∷ []) $
@@ -180,7 +180,7 @@ module _ {M : Type 1} (𝓤 : URA M) (H : Heap 𝓤) (A : Atoms 𝓤) (W : Given
       returns ! (look ! 12 refl) $
       move ! (13 ∷ 12 ∷ 11 ∷ 10 ∷ 9 ∷ 8 ∷ 7 ∷ 6 ∷ 5 ∷ 4 ∷ 3 ∷ 2 ∷ []) $
       free-all W ! ((_, _, _) ∷ (_, _, _) ∷ (_, _, _) ∷ (_, _, _) ∷ (_, _, _) ∷ (_, _, _) ∷ (_, _, _) ∷ (_, _, _) ∷ (_, _, _) ∷ (_, _, _) ∷ (_, _, _) ∷ []) Dies dies $
-      suffices ! _ (ends-at 𝓤 H A entry′.ended stayed (entry′.clauses 𝓤 H A mem run) W (((κ₀, tt), (q₀, tt), tt, (record { ptr = (b₀, o₀); name = γ₀; now = ys₀ }, (place, tt)), (sliceVal (b₀, o₀) (length ys₀) ∷ [], (vint w64 place ∷ [], tt))), tt) (vint w64 (out .number)) (out .number) (z₃ .0, (tt, tt)) (h₀, (tt, tt))) $ says ! (empty-slots ys₀ c₁ e₁ (out .number) (out .words) (z₃ .0) e₃ place ec) $
+      suffices ! _ (ends-at 𝓤 H A entry′.ended stayed (entry′.clauses 𝓤 H A mem run) W (((κ₀, tt), (q₀, tt), tt, (at b₀ o₀ γ₀ ys₀, (place, tt)), (held b₀ o₀ ys₀, (vint w64 place ∷ [], tt))), tt) (vint w64 (out .number)) (out .number) (z₃ .0, (tt, tt)) (h₀, (tt, tt))) $ says ! (empty-slots ys₀ c₁ e₁ (out .number) (out .words) (z₃ .0) e₃ place ec) $
       nothing ! $
       move ! (1 ∷ 0 ∷ []) $
       join ! $

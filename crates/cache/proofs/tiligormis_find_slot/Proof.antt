@@ -38,7 +38,7 @@ use Rattle.slots.specs.CallLaws.{find-loaded}
 use Rattle.slots.specs.Calls.{findSlot}
 use Rattle.slots.specs.Slots.{slotOf, AllFit, loaded}
 use Rattle.slots.specs.declared.Slot.{Slot}
-use Rattle.slots.proofs.Rows.{R, Row, row-makes, row-typed}
+use Rattle.slots.proofs.Rows.{R, Row, row-makes, row-typed, at, held}
 use Rattle.slots.proofs.load as load′
 use Rattle.slots.proofs.load.Symbol as load-def
 use Rattle.slots.proofs.load.Symbol.{name as #load}
@@ -72,13 +72,13 @@ module _ {M : Type 1} (𝓤 : URA M) (H : Heap 𝓤) (A : Atoms 𝓤) (mem : Mem
 
 module _ {M : Type 1} (𝓤 : URA M) (H : Heap 𝓤) (A : Atoms 𝓤) (W : Given 𝓤 H A) (mem : Memory → SProp 𝓤) (run : Routine → Fun 𝓤) (κ₀ : Lft) (q₀ : Share) (b₀ o₀ : ℕ) (γ₀ : GName) (ys₀ : List Slot) (g₀ : Room R (length ys₀)) (port : ℕ) (g-port : Is u64 port (vint w64 port ∷ [])) (vm : ℕ) (g-vm : Is u64 vm (vint w64 vm ∷ [])) (guest : ℕ) (g-guest : Is u64 guest (vint w64 guest ∷ [])) where
   abbrev Post : Val → SProp 𝓤
-  Post = walkOf 𝓤 H A entry′.ended stayed (entry′.clauses 𝓤 H A mem run) .post (((κ₀, tt), (q₀, tt), tt, (record { ptr = (b₀, o₀); name = γ₀; now = ys₀ }, (port, (vm, (guest, tt)))), (sliceVal (b₀, o₀) (length ys₀) ∷ [], (vint w64 port ∷ [], (vint w64 vm ∷ [], (vint w64 guest ∷ [], tt))))), tt)
+  Post = walkOf 𝓤 H A entry′.ended stayed (entry′.clauses 𝓤 H A mem run) .post (((κ₀, tt), (q₀, tt), tt, (at b₀ o₀ γ₀ ys₀, (port, (vm, (guest, tt)))), (held b₀ o₀ ys₀, (vint w64 port ∷ [], (vint w64 vm ∷ [], (vint w64 guest ∷ [], tt))))), tt)
 
   abbrev to-load-1 : Load 𝓤 H A mem run .Ghost
-  to-load-1 = (((κ₀, tt), (q₀, tt), tt, (record { ptr = (b₀, o₀); name = γ₀; now = ys₀ }, tt), (sliceVal (b₀, o₀) (length ys₀) ∷ [], tt)), tt)
+  to-load-1 = (((κ₀, tt), (q₀, tt), tt, (at b₀ o₀ γ₀ ys₀, tt), (held b₀ o₀ ys₀, tt)), tt)
 
-  goes-1 : ent 𝓤 (sep 𝓤 (sem 𝓤 H A (flft κ₀ q₀)) (sem 𝓤 H A (ShrSlice (named 0) κ₀ R .own (record { ptr = (b₀, o₀); name = γ₀; now = ys₀ }) (sliceVal (b₀, o₀) (length ys₀) ∷ [])))) (Load 𝓤 H A mem run .pre to-load-1)
-  goes-1 = qed W (‵ (flft κ₀ q₀) ∷ ‵ (ShrSlice (named 0) κ₀ R .own (record { ptr = (b₀, o₀); name = γ₀; now = ys₀ }) (sliceVal (b₀, o₀) (length ys₀) ∷ [])) ∷ []) ∵ nothing ! $ move ! (1 ∷ 0 ∷ []) $ join ! $ nothing ! $ move ! (2 ∷ 0 ∷ []) $ fjoin ! $ move ! (1 ∷ 0 ∷ []) $ join ! $ frame ! $ nothing ! $ done !
+  goes-1 : ent 𝓤 (sep 𝓤 (sem 𝓤 H A (flft κ₀ q₀)) (sem 𝓤 H A (ShrSlice (named 0) κ₀ R .own (at b₀ o₀ γ₀ ys₀) (held b₀ o₀ ys₀)))) (Load 𝓤 H A mem run .pre to-load-1)
+  goes-1 = qed W (‵ (flft κ₀ q₀) ∷ ‵ (ShrSlice (named 0) κ₀ R .own (at b₀ o₀ γ₀ ys₀) (held b₀ o₀ ys₀)) ∷ []) ∵ nothing ! $ move ! (1 ∷ 0 ∷ []) $ join ! $ nothing ! $ move ! (2 ∷ 0 ∷ []) $ fjoin ! $ move ! (1 ∷ 0 ∷ []) $ join ! $ frame ! $ nothing ! $ done !
 
   abbrev to-core : (c₁ : List ℕ) (v₁ : Val) (i₁ : Is Row c₁ (v₁ ∷ [])) → Core 𝓤 H A mem run .Ghost
   to-core c₁ v₁ i₁ = ((tt, tt, tt, (c₁, (port, (vm, (guest, tt)))), (v₁ ∷ [], (vint w64 port ∷ [], (vint w64 vm ∷ [], (vint w64 guest ∷ [], tt))))), tt)
@@ -97,9 +97,9 @@ module _ {M : Type 1} (𝓤 : URA M) (H : Heap 𝓤) (A : Atoms 𝓤) (W : Given
       join ! $ frame ! $ nothing ! $ done !
 
   walk : (𝓣 : Tables 𝓤 H) (fm : FmC 𝓤 H (W .laws) (𝓣 .C)) (known-load : Triple 𝓤 (𝓣 .C #load) (Load 𝓤 H A mem run)) (known-core : Triple 𝓤 (𝓣 .C #core) (Core 𝓤 H A mem run))
-      → ent 𝓤 (onEntry 𝓤 H A entry′.signature (κ₀, tt) (q₀, tt) (record { ptr = (b₀, o₀); name = γ₀; now = ys₀ }, (port, (vm, (guest, tt)))) (sliceVal (b₀, o₀) (length ys₀) ∷ [], (vint w64 port ∷ [], (vint w64 vm ∷ [], (vint w64 guest ∷ [], tt))))) (WpFn 𝓤 H (𝓣 .C) (𝓣 .Λ) code.function (sliceVal (b₀, o₀) (length ys₀) ∷ vint w64 port ∷ vint w64 vm ∷ vint w64 guest ∷ []) Post)
+      → ent 𝓤 (onEntry 𝓤 H A entry′.signature (κ₀, tt) (q₀, tt) (at b₀ o₀ γ₀ ys₀, (port, (vm, (guest, tt)))) (held b₀ o₀ ys₀, (vint w64 port ∷ [], (vint w64 vm ∷ [], (vint w64 guest ∷ [], tt))))) (WpFn 𝓤 H (𝓣 .C) (𝓣 .Λ) code.function (sliceVal (b₀, o₀) (length ys₀) ∷ vint w64 port ∷ vint w64 vm ∷ vint w64 guest ∷ []) Post)
   walk 𝓣 fm known-load known-core =
-      qed W ((‵ (flft κ₀ q₀) ⊛ ‵ ftrue) ∷ ‵ (owns (ShrSlice (named 0) κ₀ R ∷ u64 ∷ u64 ∷ u64 ∷ []) (record { ptr = (b₀, o₀); name = γ₀; now = ys₀ }, (port, (vm, (guest, tt)))) (sliceVal (b₀, o₀) (length ys₀) ∷ [], (vint w64 port ∷ [], (vint w64 vm ∷ [], (vint w64 guest ∷ [], tt))))) ∷ []) ∵ enter ! (𝓣 .C) (𝓣 .Λ) code.function (sliceVal (b₀, o₀) (length ys₀) ∷ vint w64 port ∷ vint w64 vm ∷ vint w64 guest ∷ []) _ $
+      qed W ((‵ (flft κ₀ q₀) ⊛ ‵ ftrue) ∷ ‵ (owns (ShrSlice (named 0) κ₀ R ∷ u64 ∷ u64 ∷ u64 ∷ []) (at b₀ o₀ γ₀ ys₀, (port, (vm, (guest, tt)))) (held b₀ o₀ ys₀, (vint w64 port ∷ [], (vint w64 vm ∷ [], (vint w64 guest ∷ [], tt))))) ∷ []) ∵ enter ! (𝓣 .C) (𝓣 .Λ) code.function (sliceVal (b₀, o₀) (length ys₀) ∷ vint w64 port ∷ vint w64 vm ∷ vint w64 guest ∷ []) _ $
       alloc-all ! (λ l₀ l₁ l₂ l₃ l₄ l₅ Dies dies.
       params1 ! $
       pass-all ! 4 ((refl, (tt, (tt, (record { fits = g₀ .0 }, tt)))), ((refl, (uint-lawful 𝓤 H A W w64 .typed port _ g-port .0)), ((refl, (uint-lawful 𝓤 H A W w64 .typed vm _ g-vm .0)), ((refl, (uint-lawful 𝓤 H A W w64 .typed guest _ g-guest .0)), tt)))) $
@@ -113,8 +113,8 @@ module _ {M : Type 1} (𝓤 : URA M) (H : Heap 𝓤) (A : Atoms 𝓤) (W : Given
       move ! (1 ∷ 0 ∷ []) $
       use2 W (raw (Load 𝓤 H A mem run .pre to-load-1)) goes-1 $
       calls-at ! fm (Load 𝓤 H A mem run) known-load to-load-1 (and-then ! (load ! (from ! (stop !)) (look ! 5 refl)) (no-more !)) (λ v₁.
-      use1 W (later (some (λ (r : List ℕ). ((‵ (flft κ₀ q₀) ⊛ ‵ ftrue) ⊛ ‵ (Row .own r (v₁ ∷ []))) ⊛ raw (ensured 𝓤 H A load′.ended (load′.clauses 𝓤 H A mem run) (κ₀, tt) (record { ptr = (b₀, o₀); name = γ₀; now = ys₀ }, tt) tt r)))) (id⊢ 𝓤 _) $ await ! tt $ pick ! (λ c₁.
-      split ! $ move ! (1 ∷ []) $ use1 W (raw (fact 𝓤 ((c₁ ≡ loaded ys₀) × AllFit ys₀))) (load-of 𝓤 H A mem run (κ₀, tt) (record { ptr = (b₀, o₀); name = γ₀; now = ys₀ }) c₁) $ heard ! ((c₁ ≡ loaded ys₀) × AllFit ys₀) (λ e₁. split ! $
+      use1 W (later (some (λ (r : List ℕ). ((‵ (flft κ₀ q₀) ⊛ ‵ ftrue) ⊛ ‵ (Row .own r (v₁ ∷ []))) ⊛ raw (ensured 𝓤 H A load′.ended (load′.clauses 𝓤 H A mem run) (κ₀, tt) (at b₀ o₀ γ₀ ys₀, tt) tt r)))) (id⊢ 𝓤 _) $ await ! tt $ pick ! (λ c₁.
+      split ! $ move ! (1 ∷ []) $ use1 W (raw (fact 𝓤 ((c₁ ≡ loaded ys₀) × AllFit ys₀))) (load-of 𝓤 H A mem run (κ₀, tt) (at b₀ o₀ γ₀ ys₀) c₁) $ heard ! ((c₁ ≡ loaded ys₀) × AllFit ys₀) (λ e₁. split ! $
       move ! (1 ∷ []) $
       facts ! Row (Is Row) (shows 𝓤 H A Row) c₁ (v₁ ∷ []) (λ i₁. split ! $
       land ! (from ! (stop !)) (init ! 2 refl (row-typed 𝓤 H A W c₁ v₁ i₁)) $
@@ -133,7 +133,7 @@ module _ {M : Type 1} (𝓤 : URA M) (H : Heap 𝓤) (A : Atoms 𝓤) (W : Given
       returns ! (look ! 6 refl) $
       move ! (7 ∷ 6 ∷ 5 ∷ 4 ∷ 3 ∷ 2 ∷ 1 ∷ []) $
       free-all W ! ((_, _, _) ∷ (_, _, _) ∷ (_, _, _) ∷ (_, _, _) ∷ (_, _, _) ∷ (_, _, _) ∷ []) Dies dies $
-      suffices ! _ (ends-at 𝓤 H A entry′.ended stayed (entry′.clauses 𝓤 H A mem run) W (((κ₀, tt), (q₀, tt), tt, (record { ptr = (b₀, o₀); name = γ₀; now = ys₀ }, (port, (vm, (guest, tt)))), (sliceVal (b₀, o₀) (length ys₀) ∷ [], (vint w64 port ∷ [], (vint w64 vm ∷ [], (vint w64 guest ∷ [], tt))))), tt) (vo) (out) (tt, (tt, (tt, (tt, tt)))) (tt, (tt, (tt, (tt, tt))))) $ says ! (ec ∙ find-loaded ys₀ (e₁ .1) c₁ (e₁ .0) port vm guest) $
+      suffices ! _ (ends-at 𝓤 H A entry′.ended stayed (entry′.clauses 𝓤 H A mem run) W (((κ₀, tt), (q₀, tt), tt, (at b₀ o₀ γ₀ ys₀, (port, (vm, (guest, tt)))), (held b₀ o₀ ys₀, (vint w64 port ∷ [], (vint w64 vm ∷ [], (vint w64 guest ∷ [], tt))))), tt) (vo) (out) (tt, (tt, (tt, (tt, tt)))) (tt, (tt, (tt, (tt, tt))))) $ says ! (ec ∙ find-loaded ys₀ (e₁ .1) c₁ (e₁ .0) port vm guest) $
       nothing ! $
       move ! (1 ∷ 0 ∷ []) $
       join ! $

@@ -42,7 +42,7 @@ use Rattle.cores.specs.Given.{Judgement, freeGives, freeTold, freeGiven, FreeAs
 use Rattle.boxes.specs.BoxLaws.{free-slots}
 use Rattle.slots.specs.Slots.{AllFit, loaded}
 use Rattle.slots.specs.declared.Slot.{Slot}
-use Rattle.slots.proofs.Rows.{R, Row, row-makes, row-typed}
+use Rattle.slots.proofs.Rows.{R, Row, row-makes, row-typed, at, held}
 use Rattle.slots.proofs.load as load′
 use Rattle.slots.proofs.load.Symbol as load-def
 use Rattle.slots.proofs.load.Symbol.{name as #load}
@@ -76,26 +76,26 @@ module _ {M : Type 1} (𝓤 : URA M) (H : Heap 𝓤) (A : Atoms 𝓤) (mem : Mem
 
 module _ {M : Type 1} (𝓤 : URA M) (H : Heap 𝓤) (A : Atoms 𝓤) (W : Given 𝓤 H A) (mem : Memory → SProp 𝓤) (run : Routine → Fun 𝓤) (κ₀ : Lft) (q₀ : Share) (b₀ o₀ : ℕ) (γ₀ : GName) (ys₀ : List ℕ) (g₀ : Room u64 (length ys₀)) (κ₁ : Lft) (q₁ : Share) (b₁ o₁ : ℕ) (γ₁ : GName) (ys₁ : List ℕ) (g₁ : Room u64 (length ys₁)) (κ₂ : Lft) (q₂ : Share) (b₂ o₂ : ℕ) (γ₂ : GName) (ys₂ : List ℕ) (g₂ : Room u64 (length ys₂)) (κ₃ : Lft) (q₃ : Share) (b₃ o₃ : ℕ) (γ₃ : GName) (ys₃ : List ℕ) (g₃ : Room u64 (length ys₃)) (κ₄ : Lft) (q₄ : Share) (b₄ o₄ : ℕ) (γ₄ : GName) (ys₄ : List ℕ) (g₄ : Room u64 (length ys₄)) (κ₅ : Lft) (q₅ : Share) (b₅ o₅ : ℕ) (γ₅ : GName) (ys₅ : List Slot) (g₅ : Room R (length ys₅)) (κ₆ : Lft) (q₆ : Share) (b₆ o₆ : ℕ) (γ₆ : GName) (ys₆ : List ℕ) (g₆ : Room u64 (length ys₆)) (κ₇ : Lft) (q₇ : Share) (b₇ o₇ : ℕ) (γ₇ : GName) (ys₇ : List ℕ) (g₇ : Room u64 (length ys₇)) (κ₈ : Lft) (q₈ : Share) (b₈ o₈ : ℕ) (γ₈ : GName) (ys₈ : List Slot) (g₈ : Room R (length ys₈)) (κ₉ : Lft) (q₉ : Share) (b₉ o₉ : ℕ) (γ₉ : GName) (ys₉ : List ℕ) (g₉ : Room u64 (length ys₉)) (κ₁₀ : Lft) (q₁₀ : Share) (b₁₀ o₁₀ : ℕ) (γ₁₀ : GName) (ys₁₀ : List ℕ) (g₁₀ : Room u64 (length ys₁₀)) where
   abbrev Post : Val → SProp 𝓤
-  Post = walkOf 𝓤 H A entry′.ended stayed (entry′.clauses 𝓤 H A mem run) .post (((κ₀, (κ₁, (κ₂, (κ₃, (κ₄, (κ₅, (κ₆, (κ₇, (κ₈, (κ₉, (κ₁₀, tt))))))))))), (q₀, (q₁, (q₂, (q₃, (q₄, (q₅, (q₆, (q₇, (q₈, (q₉, (q₁₀, tt))))))))))), tt, (record { ptr = (b₀, o₀); name = γ₀; now = ys₀ }, (record { ptr = (b₁, o₁); name = γ₁; now = ys₁ }, (record { ptr = (b₂, o₂); name = γ₂; now = ys₂ }, (record { ptr = (b₃, o₃); name = γ₃; now = ys₃ }, (record { ptr = (b₄, o₄); name = γ₄; now = ys₄ }, (record { ptr = (b₅, o₅); name = γ₅; now = ys₅ }, (record { ptr = (b₆, o₆); name = γ₆; now = ys₆ }, (record { ptr = (b₇, o₇); name = γ₇; now = ys₇ }, (record { ptr = (b₈, o₈); name = γ₈; now = ys₈ }, (record { ptr = (b₉, o₉); name = γ₉; now = ys₉ }, (record { ptr = (b₁₀, o₁₀); name = γ₁₀; now = ys₁₀ }, tt))))))))))), (sliceVal (b₀, o₀) (length ys₀) ∷ [], (sliceVal (b₁, o₁) (length ys₁) ∷ [], (sliceVal (b₂, o₂) (length ys₂) ∷ [], (sliceVal (b₃, o₃) (length ys₃) ∷ [], (sliceVal (b₄, o₄) (length ys₄) ∷ [], (sliceVal (b₅, o₅) (length ys₅) ∷ [], (sliceVal (b₆, o₆) (length ys₆) ∷ [], (sliceVal (b₇, o₇) (length ys₇) ∷ [], (sliceVal (b₈, o₈) (length ys₈) ∷ [], (sliceVal (b₉, o₉) (length ys₉) ∷ [], (sliceVal (b₁₀, o₁₀) (length ys₁₀) ∷ [], tt)))))))))))), tt)
+  Post = walkOf 𝓤 H A entry′.ended stayed (entry′.clauses 𝓤 H A mem run) .post (((κ₀, (κ₁, (κ₂, (κ₃, (κ₄, (κ₅, (κ₆, (κ₇, (κ₈, (κ₉, (κ₁₀, tt))))))))))), (q₀, (q₁, (q₂, (q₃, (q₄, (q₅, (q₆, (q₇, (q₈, (q₉, (q₁₀, tt))))))))))), tt, (at b₀ o₀ γ₀ ys₀, (at b₁ o₁ γ₁ ys₁, (at b₂ o₂ γ₂ ys₂, (at b₃ o₃ γ₃ ys₃, (at b₄ o₄ γ₄ ys₄, (at b₅ o₅ γ₅ ys₅, (at b₆ o₆ γ₆ ys₆, (at b₇ o₇ γ₇ ys₇, (at b₈ o₈ γ₈ ys₈, (at b₉ o₉ γ₉ ys₉, (at b₁₀ o₁₀ γ₁₀ ys₁₀, tt))))))))))), (held b₀ o₀ ys₀, (held b₁ o₁ ys₁, (held b₂ o₂ ys₂, (held b₃ o₃ ys₃, (held b₄ o₄ ys₄, (held b₅ o₅ ys₅, (held b₆ o₆ ys₆, (held b₇ o₇ ys₇, (held b₈ o₈ ys₈, (held b₉ o₉ ys₉, (held b₁₀ o₁₀ ys₁₀, tt)))))))))))), tt)
 
   abbrev to-load-1 : Load 𝓤 H A mem run .Ghost
-  to-load-1 = (((κ₅, tt), (q₅, tt), tt, (record { ptr = (b₅, o₅); name = γ₅; now = ys₅ }, tt), (sliceVal (b₅, o₅) (length ys₅) ∷ [], tt)), tt)
+  to-load-1 = (((κ₅, tt), (q₅, tt), tt, (at b₅ o₅ γ₅ ys₅, tt), (held b₅ o₅ ys₅, tt)), tt)
 
-  goes-1 : ent 𝓤 (sep 𝓤 (sem 𝓤 H A (flft κ₅ q₅)) (sem 𝓤 H A (ShrSlice (named 5) κ₅ R .own (record { ptr = (b₅, o₅); name = γ₅; now = ys₅ }) (sliceVal (b₅, o₅) (length ys₅) ∷ [])))) (Load 𝓤 H A mem run .pre to-load-1)
-  goes-1 = qed W (‵ (flft κ₅ q₅) ∷ ‵ (ShrSlice (named 5) κ₅ R .own (record { ptr = (b₅, o₅); name = γ₅; now = ys₅ }) (sliceVal (b₅, o₅) (length ys₅) ∷ [])) ∷ []) ∵ nothing ! $ move ! (1 ∷ 0 ∷ []) $ join ! $ nothing ! $ move ! (2 ∷ 0 ∷ []) $ fjoin ! $ move ! (1 ∷ 0 ∷ []) $ join ! $ frame ! $ nothing ! $ done !
+  goes-1 : ent 𝓤 (sep 𝓤 (sem 𝓤 H A (flft κ₅ q₅)) (sem 𝓤 H A (ShrSlice (named 5) κ₅ R .own (at b₅ o₅ γ₅ ys₅) (held b₅ o₅ ys₅)))) (Load 𝓤 H A mem run .pre to-load-1)
+  goes-1 = qed W (‵ (flft κ₅ q₅) ∷ ‵ (ShrSlice (named 5) κ₅ R .own (at b₅ o₅ γ₅ ys₅) (held b₅ o₅ ys₅)) ∷ []) ∵ nothing ! $ move ! (1 ∷ 0 ∷ []) $ join ! $ nothing ! $ move ! (2 ∷ 0 ∷ []) $ fjoin ! $ move ! (1 ∷ 0 ∷ []) $ join ! $ frame ! $ nothing ! $ done !
 
   abbrev to-load-2 : Load 𝓤 H A mem run .Ghost
-  to-load-2 = (((κ₈, tt), (q₈, tt), tt, (record { ptr = (b₈, o₈); name = γ₈; now = ys₈ }, tt), (sliceVal (b₈, o₈) (length ys₈) ∷ [], tt)), tt)
+  to-load-2 = (((κ₈, tt), (q₈, tt), tt, (at b₈ o₈ γ₈ ys₈, tt), (held b₈ o₈ ys₈, tt)), tt)
 
-  goes-2 : ent 𝓤 (sep 𝓤 (sem 𝓤 H A (flft κ₈ q₈)) (sem 𝓤 H A (ShrSlice (named 8) κ₈ R .own (record { ptr = (b₈, o₈); name = γ₈; now = ys₈ }) (sliceVal (b₈, o₈) (length ys₈) ∷ [])))) (Load 𝓤 H A mem run .pre to-load-2)
-  goes-2 = qed W (‵ (flft κ₈ q₈) ∷ ‵ (ShrSlice (named 8) κ₈ R .own (record { ptr = (b₈, o₈); name = γ₈; now = ys₈ }) (sliceVal (b₈, o₈) (length ys₈) ∷ [])) ∷ []) ∵ nothing ! $ move ! (1 ∷ 0 ∷ []) $ join ! $ nothing ! $ move ! (2 ∷ 0 ∷ []) $ fjoin ! $ move ! (1 ∷ 0 ∷ []) $ join ! $ frame ! $ nothing ! $ done !
+  goes-2 : ent 𝓤 (sep 𝓤 (sem 𝓤 H A (flft κ₈ q₈)) (sem 𝓤 H A (ShrSlice (named 8) κ₈ R .own (at b₈ o₈ γ₈ ys₈) (held b₈ o₈ ys₈)))) (Load 𝓤 H A mem run .pre to-load-2)
+  goes-2 = qed W (‵ (flft κ₈ q₈) ∷ ‵ (ShrSlice (named 8) κ₈ R .own (at b₈ o₈ γ₈ ys₈) (held b₈ o₈ ys₈)) ∷ []) ∵ nothing ! $ move ! (1 ∷ 0 ∷ []) $ join ! $ nothing ! $ move ! (2 ∷ 0 ∷ []) $ fjoin ! $ move ! (1 ∷ 0 ∷ []) $ join ! $ frame ! $ nothing ! $ done !
 
   abbrev to-core : (c₁ : List ℕ) (v₁ : Val) (i₁ : Is Row c₁ (v₁ ∷ [])) (c₂ : List ℕ) (v₂ : Val) (i₂ : Is Row c₂ (v₂ ∷ [])) → Core 𝓤 H A mem run .Ghost
-  to-core c₁ v₁ i₁ c₂ v₂ i₂ = (((κ₀, (κ₁, (κ₂, (κ₃, (κ₄, (κ₆, (κ₇, (κ₉, (κ₁₀, tt))))))))), (q₀, (q₁, (q₂, (q₃, (q₄, (q₆, (q₇, (q₉, (q₁₀, tt))))))))), tt, (record { ptr = (b₀, o₀); name = γ₀; now = ys₀ }, (record { ptr = (b₁, o₁); name = γ₁; now = ys₁ }, (record { ptr = (b₂, o₂); name = γ₂; now = ys₂ }, (record { ptr = (b₃, o₃); name = γ₃; now = ys₃ }, (record { ptr = (b₄, o₄); name = γ₄; now = ys₄ }, (record { ptr = (b₆, o₆); name = γ₆; now = ys₆ }, (record { ptr = (b₇, o₇); name = γ₇; now = ys₇ }, (record { ptr = (b₉, o₉); name = γ₉; now = ys₉ }, (record { ptr = (b₁₀, o₁₀); name = γ₁₀; now = ys₁₀ }, (length ys₅, (length ys₈, (c₁, (c₂, tt))))))))))))), (sliceVal (b₀, o₀) (length ys₀) ∷ [], (sliceVal (b₁, o₁) (length ys₁) ∷ [], (sliceVal (b₂, o₂) (length ys₂) ∷ [], (sliceVal (b₃, o₃) (length ys₃) ∷ [], (sliceVal (b₄, o₄) (length ys₄) ∷ [], (sliceVal (b₆, o₆) (length ys₆) ∷ [], (sliceVal (b₇, o₇) (length ys₇) ∷ [], (sliceVal (b₉, o₉) (length ys₉) ∷ [], (sliceVal (b₁₀, o₁₀) (length ys₁₀) ∷ [], (vint w64 (length ys₅) ∷ [], (vint w64 (length ys₈) ∷ [], (v₁ ∷ [], (v₂ ∷ [], tt)))))))))))))), tt)
+  to-core c₁ v₁ i₁ c₂ v₂ i₂ = (((κ₀, (κ₁, (κ₂, (κ₃, (κ₄, (κ₆, (κ₇, (κ₉, (κ₁₀, tt))))))))), (q₀, (q₁, (q₂, (q₃, (q₄, (q₆, (q₇, (q₉, (q₁₀, tt))))))))), tt, (at b₀ o₀ γ₀ ys₀, (at b₁ o₁ γ₁ ys₁, (at b₂ o₂ γ₂ ys₂, (at b₃ o₃ γ₃ ys₃, (at b₄ o₄ γ₄ ys₄, (at b₆ o₆ γ₆ ys₆, (at b₇ o₇ γ₇ ys₇, (at b₉ o₉ γ₉ ys₉, (at b₁₀ o₁₀ γ₁₀ ys₁₀, (length ys₅, (length ys₈, (c₁, (c₂, tt))))))))))))), (held b₀ o₀ ys₀, (held b₁ o₁ ys₁, (held b₂ o₂ ys₂, (held b₃ o₃ ys₃, (held b₄ o₄ ys₄, (held b₆ o₆ ys₆, (held b₇ o₇ ys₇, (held b₉ o₉ ys₉, (held b₁₀ o₁₀ ys₁₀, (vint w64 (length ys₅) ∷ [], (vint w64 (length ys₈) ∷ [], (v₁ ∷ [], (v₂ ∷ [], tt)))))))))))))), tt)
 
-  goes-core : (c₁ : List ℕ) (v₁ : Val) (i₁ : Is Row c₁ (v₁ ∷ [])) (c₂ : List ℕ) (v₂ : Val) (i₂ : Is Row c₂ (v₂ ∷ [])) → ent 𝓤 (sep 𝓤 (sem 𝓤 H A (flft κ₀ q₀)) (sep 𝓤 (sem 𝓤 H A (flft κ₁ q₁)) (sep 𝓤 (sem 𝓤 H A (flft κ₂ q₂)) (sep 𝓤 (sem 𝓤 H A (flft κ₃ q₃)) (sep 𝓤 (sem 𝓤 H A (flft κ₄ q₄)) (sep 𝓤 (sem 𝓤 H A (flft κ₆ q₆)) (sep 𝓤 (sem 𝓤 H A (flft κ₇ q₇)) (sep 𝓤 (sem 𝓤 H A (flft κ₉ q₉)) (sep 𝓤 (sem 𝓤 H A (flft κ₁₀ q₁₀)) (sep 𝓤 (sem 𝓤 H A (ShrSlice (named 0) κ₀ u64 .own (record { ptr = (b₀, o₀); name = γ₀; now = ys₀ }) (sliceVal (b₀, o₀) (length ys₀) ∷ []))) (sep 𝓤 (sem 𝓤 H A (ShrSlice (named 1) κ₁ u64 .own (record { ptr = (b₁, o₁); name = γ₁; now = ys₁ }) (sliceVal (b₁, o₁) (length ys₁) ∷ []))) (sep 𝓤 (sem 𝓤 H A (ShrSlice (named 2) κ₂ u64 .own (record { ptr = (b₂, o₂); name = γ₂; now = ys₂ }) (sliceVal (b₂, o₂) (length ys₂) ∷ []))) (sep 𝓤 (sem 𝓤 H A (ShrSlice (named 3) κ₃ u64 .own (record { ptr = (b₃, o₃); name = γ₃; now = ys₃ }) (sliceVal (b₃, o₃) (length ys₃) ∷ []))) (sep 𝓤 (sem 𝓤 H A (ShrSlice (named 4) κ₄ u64 .own (record { ptr = (b₄, o₄); name = γ₄; now = ys₄ }) (sliceVal (b₄, o₄) (length ys₄) ∷ []))) (sep 𝓤 (sem 𝓤 H A (ShrSlice (named 6) κ₆ u64 .own (record { ptr = (b₆, o₆); name = γ₆; now = ys₆ }) (sliceVal (b₆, o₆) (length ys₆) ∷ []))) (sep 𝓤 (sem 𝓤 H A (ShrSlice (named 7) κ₇ u64 .own (record { ptr = (b₇, o₇); name = γ₇; now = ys₇ }) (sliceVal (b₇, o₇) (length ys₇) ∷ []))) (sep 𝓤 (sem 𝓤 H A (ShrSlice (named 9) κ₉ u64 .own (record { ptr = (b₉, o₉); name = γ₉; now = ys₉ }) (sliceVal (b₉, o₉) (length ys₉) ∷ []))) (sem 𝓤 H A (MutSlice (named 10) κ₁₀ u64 .own (record { ptr = (b₁₀, o₁₀); name = γ₁₀; now = ys₁₀ }) (sliceVal (b₁₀, o₁₀) (length ys₁₀) ∷ [])))))))))))))))))))) (Core 𝓤 H A mem run .pre (to-core c₁ v₁ i₁ c₂ v₂ i₂))
+  goes-core : (c₁ : List ℕ) (v₁ : Val) (i₁ : Is Row c₁ (v₁ ∷ [])) (c₂ : List ℕ) (v₂ : Val) (i₂ : Is Row c₂ (v₂ ∷ [])) → ent 𝓤 (sep 𝓤 (sem 𝓤 H A (flft κ₀ q₀)) (sep 𝓤 (sem 𝓤 H A (flft κ₁ q₁)) (sep 𝓤 (sem 𝓤 H A (flft κ₂ q₂)) (sep 𝓤 (sem 𝓤 H A (flft κ₃ q₃)) (sep 𝓤 (sem 𝓤 H A (flft κ₄ q₄)) (sep 𝓤 (sem 𝓤 H A (flft κ₆ q₆)) (sep 𝓤 (sem 𝓤 H A (flft κ₇ q₇)) (sep 𝓤 (sem 𝓤 H A (flft κ₉ q₉)) (sep 𝓤 (sem 𝓤 H A (flft κ₁₀ q₁₀)) (sep 𝓤 (sem 𝓤 H A (ShrSlice (named 0) κ₀ u64 .own (at b₀ o₀ γ₀ ys₀) (held b₀ o₀ ys₀))) (sep 𝓤 (sem 𝓤 H A (ShrSlice (named 1) κ₁ u64 .own (at b₁ o₁ γ₁ ys₁) (held b₁ o₁ ys₁))) (sep 𝓤 (sem 𝓤 H A (ShrSlice (named 2) κ₂ u64 .own (at b₂ o₂ γ₂ ys₂) (held b₂ o₂ ys₂))) (sep 𝓤 (sem 𝓤 H A (ShrSlice (named 3) κ₃ u64 .own (at b₃ o₃ γ₃ ys₃) (held b₃ o₃ ys₃))) (sep 𝓤 (sem 𝓤 H A (ShrSlice (named 4) κ₄ u64 .own (at b₄ o₄ γ₄ ys₄) (held b₄ o₄ ys₄))) (sep 𝓤 (sem 𝓤 H A (ShrSlice (named 6) κ₆ u64 .own (at b₆ o₆ γ₆ ys₆) (held b₆ o₆ ys₆))) (sep 𝓤 (sem 𝓤 H A (ShrSlice (named 7) κ₇ u64 .own (at b₇ o₇ γ₇ ys₇) (held b₇ o₇ ys₇))) (sep 𝓤 (sem 𝓤 H A (ShrSlice (named 9) κ₉ u64 .own (at b₉ o₉ γ₉ ys₉) (held b₉ o₉ ys₉))) (sem 𝓤 H A (MutSlice (named 10) κ₁₀ u64 .own (at b₁₀ o₁₀ γ₁₀ ys₁₀) (held b₁₀ o₁₀ ys₁₀)))))))))))))))))))) (Core 𝓤 H A mem run .pre (to-core c₁ v₁ i₁ c₂ v₂ i₂))
   goes-core c₁ v₁ i₁ c₂ v₂ i₂ =
-      qed W (‵ (flft κ₀ q₀) ∷ ‵ (flft κ₁ q₁) ∷ ‵ (flft κ₂ q₂) ∷ ‵ (flft κ₃ q₃) ∷ ‵ (flft κ₄ q₄) ∷ ‵ (flft κ₆ q₆) ∷ ‵ (flft κ₇ q₇) ∷ ‵ (flft κ₉ q₉) ∷ ‵ (flft κ₁₀ q₁₀) ∷ ‵ (ShrSlice (named 0) κ₀ u64 .own (record { ptr = (b₀, o₀); name = γ₀; now = ys₀ }) (sliceVal (b₀, o₀) (length ys₀) ∷ [])) ∷ ‵ (ShrSlice (named 1) κ₁ u64 .own (record { ptr = (b₁, o₁); name = γ₁; now = ys₁ }) (sliceVal (b₁, o₁) (length ys₁) ∷ [])) ∷ ‵ (ShrSlice (named 2) κ₂ u64 .own (record { ptr = (b₂, o₂); name = γ₂; now = ys₂ }) (sliceVal (b₂, o₂) (length ys₂) ∷ [])) ∷ ‵ (ShrSlice (named 3) κ₃ u64 .own (record { ptr = (b₃, o₃); name = γ₃; now = ys₃ }) (sliceVal (b₃, o₃) (length ys₃) ∷ [])) ∷ ‵ (ShrSlice (named 4) κ₄ u64 .own (record { ptr = (b₄, o₄); name = γ₄; now = ys₄ }) (sliceVal (b₄, o₄) (length ys₄) ∷ [])) ∷ ‵ (ShrSlice (named 6) κ₆ u64 .own (record { ptr = (b₆, o₆); name = γ₆; now = ys₆ }) (sliceVal (b₆, o₆) (length ys₆) ∷ [])) ∷ ‵ (ShrSlice (named 7) κ₇ u64 .own (record { ptr = (b₇, o₇); name = γ₇; now = ys₇ }) (sliceVal (b₇, o₇) (length ys₇) ∷ [])) ∷ ‵ (ShrSlice (named 9) κ₉ u64 .own (record { ptr = (b₉, o₉); name = γ₉; now = ys₉ }) (sliceVal (b₉, o₉) (length ys₉) ∷ [])) ∷ ‵ (MutSlice (named 10) κ₁₀ u64 .own (record { ptr = (b₁₀, o₁₀); name = γ₁₀; now = ys₁₀ }) (sliceVal (b₁₀, o₁₀) (length ys₁₀) ∷ [])) ∷ []) ∵
+      qed W (‵ (flft κ₀ q₀) ∷ ‵ (flft κ₁ q₁) ∷ ‵ (flft κ₂ q₂) ∷ ‵ (flft κ₃ q₃) ∷ ‵ (flft κ₄ q₄) ∷ ‵ (flft κ₆ q₆) ∷ ‵ (flft κ₇ q₇) ∷ ‵ (flft κ₉ q₉) ∷ ‵ (flft κ₁₀ q₁₀) ∷ ‵ (ShrSlice (named 0) κ₀ u64 .own (at b₀ o₀ γ₀ ys₀) (held b₀ o₀ ys₀)) ∷ ‵ (ShrSlice (named 1) κ₁ u64 .own (at b₁ o₁ γ₁ ys₁) (held b₁ o₁ ys₁)) ∷ ‵ (ShrSlice (named 2) κ₂ u64 .own (at b₂ o₂ γ₂ ys₂) (held b₂ o₂ ys₂)) ∷ ‵ (ShrSlice (named 3) κ₃ u64 .own (at b₃ o₃ γ₃ ys₃) (held b₃ o₃ ys₃)) ∷ ‵ (ShrSlice (named 4) κ₄ u64 .own (at b₄ o₄ γ₄ ys₄) (held b₄ o₄ ys₄)) ∷ ‵ (ShrSlice (named 6) κ₆ u64 .own (at b₆ o₆ γ₆ ys₆) (held b₆ o₆ ys₆)) ∷ ‵ (ShrSlice (named 7) κ₇ u64 .own (at b₇ o₇ γ₇ ys₇) (held b₇ o₇ ys₇)) ∷ ‵ (ShrSlice (named 9) κ₉ u64 .own (at b₉ o₉ γ₉ ys₉) (held b₉ o₉ ys₉)) ∷ ‵ (MutSlice (named 10) κ₁₀ u64 .own (at b₁₀ o₁₀ γ₁₀ ys₁₀) (held b₁₀ o₁₀ ys₁₀)) ∷ []) ∵
       nothing ! $
       move ! (1 ∷ 2 ∷ 3 ∷ 4 ∷ 5 ∷ 6 ∷ 7 ∷ 8 ∷ 9 ∷ 0 ∷ []) $
       group ! 10 $
@@ -110,9 +110,9 @@ module _ {M : Type 1} (𝓤 : URA M) (H : Heap 𝓤) (A : Atoms 𝓤) (W : Given
       join ! $ frame ! $ nothing ! $ done !
 
   walk : (𝓣 : Tables 𝓤 H) (fm : FmC 𝓤 H (W .laws) (𝓣 .C)) (known-load : Triple 𝓤 (𝓣 .C #load) (Load 𝓤 H A mem run)) (known-core : Triple 𝓤 (𝓣 .C #core) (Core 𝓤 H A mem run))
-      → ent 𝓤 (onEntry 𝓤 H A entry′.signature (κ₀, (κ₁, (κ₂, (κ₃, (κ₄, (κ₅, (κ₆, (κ₇, (κ₈, (κ₉, (κ₁₀, tt))))))))))) (q₀, (q₁, (q₂, (q₃, (q₄, (q₅, (q₆, (q₇, (q₈, (q₉, (q₁₀, tt))))))))))) (record { ptr = (b₀, o₀); name = γ₀; now = ys₀ }, (record { ptr = (b₁, o₁); name = γ₁; now = ys₁ }, (record { ptr = (b₂, o₂); name = γ₂; now = ys₂ }, (record { ptr = (b₃, o₃); name = γ₃; now = ys₃ }, (record { ptr = (b₄, o₄); name = γ₄; now = ys₄ }, (record { ptr = (b₅, o₅); name = γ₅; now = ys₅ }, (record { ptr = (b₆, o₆); name = γ₆; now = ys₆ }, (record { ptr = (b₇, o₇); name = γ₇; now = ys₇ }, (record { ptr = (b₈, o₈); name = γ₈; now = ys₈ }, (record { ptr = (b₉, o₉); name = γ₉; now = ys₉ }, (record { ptr = (b₁₀, o₁₀); name = γ₁₀; now = ys₁₀ }, tt))))))))))) (sliceVal (b₀, o₀) (length ys₀) ∷ [], (sliceVal (b₁, o₁) (length ys₁) ∷ [], (sliceVal (b₂, o₂) (length ys₂) ∷ [], (sliceVal (b₃, o₃) (length ys₃) ∷ [], (sliceVal (b₄, o₄) (length ys₄) ∷ [], (sliceVal (b₅, o₅) (length ys₅) ∷ [], (sliceVal (b₆, o₆) (length ys₆) ∷ [], (sliceVal (b₇, o₇) (length ys₇) ∷ [], (sliceVal (b₈, o₈) (length ys₈) ∷ [], (sliceVal (b₉, o₉) (length ys₉) ∷ [], (sliceVal (b₁₀, o₁₀) (length ys₁₀) ∷ [], tt)))))))))))) (WpFn 𝓤 H (𝓣 .C) (𝓣 .Λ) code.function (sliceVal (b₀, o₀) (length ys₀) ∷ sliceVal (b₁, o₁) (length ys₁) ∷ sliceVal (b₂, o₂) (length ys₂) ∷ sliceVal (b₃, o₃) (length ys₃) ∷ sliceVal (b₄, o₄) (length ys₄) ∷ sliceVal (b₅, o₅) (length ys₅) ∷ sliceVal (b₆, o₆) (length ys₆) ∷ sliceVal (b₇, o₇) (length ys₇) ∷ sliceVal (b₈, o₈) (length ys₈) ∷ sliceVal (b₉, o₉) (length ys₉) ∷ sliceVal (b₁₀, o₁₀) (length ys₁₀) ∷ []) Post)
+      → ent 𝓤 (onEntry 𝓤 H A entry′.signature (κ₀, (κ₁, (κ₂, (κ₃, (κ₄, (κ₅, (κ₆, (κ₇, (κ₈, (κ₉, (κ₁₀, tt))))))))))) (q₀, (q₁, (q₂, (q₃, (q₄, (q₅, (q₆, (q₇, (q₈, (q₉, (q₁₀, tt))))))))))) (at b₀ o₀ γ₀ ys₀, (at b₁ o₁ γ₁ ys₁, (at b₂ o₂ γ₂ ys₂, (at b₃ o₃ γ₃ ys₃, (at b₄ o₄ γ₄ ys₄, (at b₅ o₅ γ₅ ys₅, (at b₆ o₆ γ₆ ys₆, (at b₇ o₇ γ₇ ys₇, (at b₈ o₈ γ₈ ys₈, (at b₉ o₉ γ₉ ys₉, (at b₁₀ o₁₀ γ₁₀ ys₁₀, tt))))))))))) (held b₀ o₀ ys₀, (held b₁ o₁ ys₁, (held b₂ o₂ ys₂, (held b₃ o₃ ys₃, (held b₄ o₄ ys₄, (held b₅ o₅ ys₅, (held b₆ o₆ ys₆, (held b₇ o₇ ys₇, (held b₈ o₈ ys₈, (held b₉ o₉ ys₉, (held b₁₀ o₁₀ ys₁₀, tt)))))))))))) (WpFn 𝓤 H (𝓣 .C) (𝓣 .Λ) code.function (sliceVal (b₀, o₀) (length ys₀) ∷ sliceVal (b₁, o₁) (length ys₁) ∷ sliceVal (b₂, o₂) (length ys₂) ∷ sliceVal (b₃, o₃) (length ys₃) ∷ sliceVal (b₄, o₄) (length ys₄) ∷ sliceVal (b₅, o₅) (length ys₅) ∷ sliceVal (b₆, o₆) (length ys₆) ∷ sliceVal (b₇, o₇) (length ys₇) ∷ sliceVal (b₈, o₈) (length ys₈) ∷ sliceVal (b₉, o₉) (length ys₉) ∷ held b₁₀ o₁₀ ys₁₀) Post)
   walk 𝓣 fm known-load known-core =
-      qed W ((‵ (flft κ₀ q₀) ⊛ (‵ (flft κ₁ q₁) ⊛ (‵ (flft κ₂ q₂) ⊛ (‵ (flft κ₃ q₃) ⊛ (‵ (flft κ₄ q₄) ⊛ (‵ (flft κ₅ q₅) ⊛ (‵ (flft κ₆ q₆) ⊛ (‵ (flft κ₇ q₇) ⊛ (‵ (flft κ₈ q₈) ⊛ (‵ (flft κ₉ q₉) ⊛ (‵ (flft κ₁₀ q₁₀) ⊛ ‵ ftrue))))))))))) ∷ ‵ (owns (ShrSlice (named 0) κ₀ u64 ∷ ShrSlice (named 1) κ₁ u64 ∷ ShrSlice (named 2) κ₂ u64 ∷ ShrSlice (named 3) κ₃ u64 ∷ ShrSlice (named 4) κ₄ u64 ∷ ShrSlice (named 5) κ₅ R ∷ ShrSlice (named 6) κ₆ u64 ∷ ShrSlice (named 7) κ₇ u64 ∷ ShrSlice (named 8) κ₈ R ∷ ShrSlice (named 9) κ₉ u64 ∷ MutSlice (named 10) κ₁₀ u64 ∷ []) (record { ptr = (b₀, o₀); name = γ₀; now = ys₀ }, (record { ptr = (b₁, o₁); name = γ₁; now = ys₁ }, (record { ptr = (b₂, o₂); name = γ₂; now = ys₂ }, (record { ptr = (b₃, o₃); name = γ₃; now = ys₃ }, (record { ptr = (b₄, o₄); name = γ₄; now = ys₄ }, (record { ptr = (b₅, o₅); name = γ₅; now = ys₅ }, (record { ptr = (b₆, o₆); name = γ₆; now = ys₆ }, (record { ptr = (b₇, o₇); name = γ₇; now = ys₇ }, (record { ptr = (b₈, o₈); name = γ₈; now = ys₈ }, (record { ptr = (b₉, o₉); name = γ₉; now = ys₉ }, (record { ptr = (b₁₀, o₁₀); name = γ₁₀; now = ys₁₀ }, tt))))))))))) (sliceVal (b₀, o₀) (length ys₀) ∷ [], (sliceVal (b₁, o₁) (length ys₁) ∷ [], (sliceVal (b₂, o₂) (length ys₂) ∷ [], (sliceVal (b₃, o₃) (length ys₃) ∷ [], (sliceVal (b₄, o₄) (length ys₄) ∷ [], (sliceVal (b₅, o₅) (length ys₅) ∷ [], (sliceVal (b₆, o₆) (length ys₆) ∷ [], (sliceVal (b₇, o₇) (length ys₇) ∷ [], (sliceVal (b₈, o₈) (length ys₈) ∷ [], (sliceVal (b₉, o₉) (length ys₉) ∷ [], (sliceVal (b₁₀, o₁₀) (length ys₁₀) ∷ [], tt)))))))))))) ∷ []) ∵ enter ! (𝓣 .C) (𝓣 .Λ) code.function (sliceVal (b₀, o₀) (length ys₀) ∷ sliceVal (b₁, o₁) (length ys₁) ∷ sliceVal (b₂, o₂) (length ys₂) ∷ sliceVal (b₃, o₃) (length ys₃) ∷ sliceVal (b₄, o₄) (length ys₄) ∷ sliceVal (b₅, o₅) (length ys₅) ∷ sliceVal (b₆, o₆) (length ys₆) ∷ sliceVal (b₇, o₇) (length ys₇) ∷ sliceVal (b₈, o₈) (length ys₈) ∷ sliceVal (b₉, o₉) (length ys₉) ∷ sliceVal (b₁₀, o₁₀) (length ys₁₀) ∷ []) _ $
+      qed W ((‵ (flft κ₀ q₀) ⊛ (‵ (flft κ₁ q₁) ⊛ (‵ (flft κ₂ q₂) ⊛ (‵ (flft κ₃ q₃) ⊛ (‵ (flft κ₄ q₄) ⊛ (‵ (flft κ₅ q₅) ⊛ (‵ (flft κ₆ q₆) ⊛ (‵ (flft κ₇ q₇) ⊛ (‵ (flft κ₈ q₈) ⊛ (‵ (flft κ₉ q₉) ⊛ (‵ (flft κ₁₀ q₁₀) ⊛ ‵ ftrue))))))))))) ∷ ‵ (owns (ShrSlice (named 0) κ₀ u64 ∷ ShrSlice (named 1) κ₁ u64 ∷ ShrSlice (named 2) κ₂ u64 ∷ ShrSlice (named 3) κ₃ u64 ∷ ShrSlice (named 4) κ₄ u64 ∷ ShrSlice (named 5) κ₅ R ∷ ShrSlice (named 6) κ₆ u64 ∷ ShrSlice (named 7) κ₇ u64 ∷ ShrSlice (named 8) κ₈ R ∷ ShrSlice (named 9) κ₉ u64 ∷ MutSlice (named 10) κ₁₀ u64 ∷ []) (at b₀ o₀ γ₀ ys₀, (at b₁ o₁ γ₁ ys₁, (at b₂ o₂ γ₂ ys₂, (at b₃ o₃ γ₃ ys₃, (at b₄ o₄ γ₄ ys₄, (at b₅ o₅ γ₅ ys₅, (at b₆ o₆ γ₆ ys₆, (at b₇ o₇ γ₇ ys₇, (at b₈ o₈ γ₈ ys₈, (at b₉ o₉ γ₉ ys₉, (at b₁₀ o₁₀ γ₁₀ ys₁₀, tt))))))))))) (held b₀ o₀ ys₀, (held b₁ o₁ ys₁, (held b₂ o₂ ys₂, (held b₃ o₃ ys₃, (held b₄ o₄ ys₄, (held b₅ o₅ ys₅, (held b₆ o₆ ys₆, (held b₇ o₇ ys₇, (held b₈ o₈ ys₈, (held b₉ o₉ ys₉, (held b₁₀ o₁₀ ys₁₀, tt)))))))))))) ∷ []) ∵ enter ! (𝓣 .C) (𝓣 .Λ) code.function (sliceVal (b₀, o₀) (length ys₀) ∷ sliceVal (b₁, o₁) (length ys₁) ∷ sliceVal (b₂, o₂) (length ys₂) ∷ sliceVal (b₃, o₃) (length ys₃) ∷ sliceVal (b₄, o₄) (length ys₄) ∷ sliceVal (b₅, o₅) (length ys₅) ∷ sliceVal (b₆, o₆) (length ys₆) ∷ sliceVal (b₇, o₇) (length ys₇) ∷ sliceVal (b₈, o₈) (length ys₈) ∷ sliceVal (b₉, o₉) (length ys₉) ∷ held b₁₀ o₁₀ ys₁₀) _ $
       alloc-all ! (λ l₀ l₁ l₂ l₃ l₄ l₅ l₆ l₇ l₈ l₉ l₁₀ l₁₁ l₁₂ l₁₃ l₁₄ l₁₅ l₁₆ l₁₇ Dies dies.
       params1 ! $
       pass-all ! 16 ((refl, (tt, (tt, (record { fits = g₀ .0 }, tt)))), ((refl, (tt, (tt, (record { fits = g₁ .0 }, tt)))), ((refl, (tt, (tt, (record { fits = g₂ .0 }, tt)))), ((refl, (tt, (tt, (record { fits = g₃ .0 }, tt)))), ((refl, (tt, (tt, (record { fits = g₄ .0 }, tt)))), ((refl, (tt, (tt, (record { fits = g₅ .0 }, tt)))), ((refl, (tt, (tt, (record { fits = g₆ .0 }, tt)))), ((refl, (tt, (tt, (record { fits = g₇ .0 }, tt)))), ((refl, (tt, (tt, (record { fits = g₈ .0 }, tt)))), ((refl, (tt, (tt, (record { fits = g₉ .0 }, tt)))), ((refl, (tt, (tt, (record { fits = g₁₀ .0 }, tt)))), tt))))))))))) $
@@ -127,8 +127,8 @@ module _ {M : Type 1} (𝓤 : URA M) (H : Heap 𝓤) (A : Atoms 𝓤) (W : Given
       move ! (11 ∷ 10 ∷ []) $
       use2 W (raw (Load 𝓤 H A mem run .pre to-load-1)) goes-1 $
       calls-at ! fm (Load 𝓤 H A mem run) known-load to-load-1 (and-then ! (load ! (from ! (stop !)) (look ! 32 refl)) (no-more !)) (λ v₁.
-      use1 W (later (some (λ (r : List ℕ). ((‵ (flft κ₅ q₅) ⊛ ‵ ftrue) ⊛ ‵ (Row .own r (v₁ ∷ []))) ⊛ raw (ensured 𝓤 H A load′.ended (load′.clauses 𝓤 H A mem run) (κ₅, tt) (record { ptr = (b₅, o₅); name = γ₅; now = ys₅ }, tt) tt r)))) (id⊢ 𝓤 _) $ await ! tt $ pick ! (λ c₁.
-      split ! $ move ! (1 ∷ []) $ use1 W (raw (fact 𝓤 ((c₁ ≡ loaded ys₅) × AllFit ys₅))) (load-of 𝓤 H A mem run (κ₅, tt) (record { ptr = (b₅, o₅); name = γ₅; now = ys₅ }) c₁) $ heard ! ((c₁ ≡ loaded ys₅) × AllFit ys₅) (λ e₁. split ! $
+      use1 W (later (some (λ (r : List ℕ). ((‵ (flft κ₅ q₅) ⊛ ‵ ftrue) ⊛ ‵ (Row .own r (v₁ ∷ []))) ⊛ raw (ensured 𝓤 H A load′.ended (load′.clauses 𝓤 H A mem run) (κ₅, tt) (at b₅ o₅ γ₅ ys₅, tt) tt r)))) (id⊢ 𝓤 _) $ await ! tt $ pick ! (λ c₁.
+      split ! $ move ! (1 ∷ []) $ use1 W (raw (fact 𝓤 ((c₁ ≡ loaded ys₅) × AllFit ys₅))) (load-of 𝓤 H A mem run (κ₅, tt) (at b₅ o₅ γ₅ ys₅) c₁) $ heard ! ((c₁ ≡ loaded ys₅) × AllFit ys₅) (λ e₁. split ! $
       move ! (1 ∷ []) $
       facts ! Row (Is Row) (shows 𝓤 H A Row) c₁ (v₁ ∷ []) (λ i₁. split ! $
       land ! (from ! (stop !)) (init ! 25 refl (row-typed 𝓤 H A W c₁ v₁ i₁)) $
@@ -137,8 +137,8 @@ module _ {M : Type 1} (𝓤 : URA M) (H : Heap 𝓤) (A : Atoms 𝓤) (W : Given
       move ! (16 ∷ 15 ∷ []) $
       use2 W (raw (Load 𝓤 H A mem run .pre to-load-2)) goes-2 $
       calls-at ! fm (Load 𝓤 H A mem run) known-load to-load-2 (and-then ! (load ! (from ! (stop !)) (look ! 28 refl)) (no-more !)) (λ v₂.
-      use1 W (later (some (λ (r : List ℕ). ((‵ (flft κ₈ q₈) ⊛ ‵ ftrue) ⊛ ‵ (Row .own r (v₂ ∷ []))) ⊛ raw (ensured 𝓤 H A load′.ended (load′.clauses 𝓤 H A mem run) (κ₈, tt) (record { ptr = (b₈, o₈); name = γ₈; now = ys₈ }, tt) tt r)))) (id⊢ 𝓤 _) $ await ! tt $ pick ! (λ c₂.
-      split ! $ move ! (1 ∷ []) $ use1 W (raw (fact 𝓤 ((c₂ ≡ loaded ys₈) × AllFit ys₈))) (load-of 𝓤 H A mem run (κ₈, tt) (record { ptr = (b₈, o₈); name = γ₈; now = ys₈ }) c₂) $ heard ! ((c₂ ≡ loaded ys₈) × AllFit ys₈) (λ e₂. split ! $
+      use1 W (later (some (λ (r : List ℕ). ((‵ (flft κ₈ q₈) ⊛ ‵ ftrue) ⊛ ‵ (Row .own r (v₂ ∷ []))) ⊛ raw (ensured 𝓤 H A load′.ended (load′.clauses 𝓤 H A mem run) (κ₈, tt) (at b₈ o₈ γ₈ ys₈, tt) tt r)))) (id⊢ 𝓤 _) $ await ! tt $ pick ! (λ c₂.
+      split ! $ move ! (1 ∷ []) $ use1 W (raw (fact 𝓤 ((c₂ ≡ loaded ys₈) × AllFit ys₈))) (load-of 𝓤 H A mem run (κ₈, tt) (at b₈ o₈ γ₈ ys₈) c₂) $ heard ! ((c₂ ≡ loaded ys₈) × AllFit ys₈) (λ e₂. split ! $
       move ! (1 ∷ []) $
       facts ! Row (Is Row) (shows 𝓤 H A Row) c₂ (v₂ ∷ []) (λ i₂. split ! $
       land ! (from ! (stop !)) (init ! 23 refl (row-typed 𝓤 H A W c₂ v₂ i₂)) $
@@ -149,8 +149,8 @@ module _ {M : Type 1} (𝓤 : URA M) (H : Heap 𝓤) (A : Atoms 𝓤) (W : Given
       move ! (3 ∷ 5 ∷ 7 ∷ 9 ∷ 11 ∷ 13 ∷ 15 ∷ 17 ∷ 19 ∷ 2 ∷ 4 ∷ 6 ∷ 8 ∷ 10 ∷ 12 ∷ 14 ∷ 16 ∷ 18 ∷ []) $
       group ! 18 $ use1 W (raw (Core 𝓤 H A mem run .pre (to-core c₁ v₁ i₁ c₂ v₂ i₂))) (goes-core c₁ v₁ i₁ c₂ v₂ i₂) $
       calls-at ! fm (Core 𝓤 H A mem run) known-core (to-core c₁ v₁ i₁ c₂ v₂ i₂) (and-then ! (load ! (from ! (stop !)) (look ! 19 refl)) (and-then ! (load ! (from ! (stop !)) (look ! 18 refl)) (and-then ! (load ! (from ! (stop !)) (look ! 17 refl)) (and-then ! (load ! (from ! (stop !)) (look ! 16 refl)) (and-then ! (load ! (from ! (stop !)) (look ! 15 refl)) (and-then ! (load ! (from ! (stop !)) (look ! 13 refl)) (and-then ! (load ! (from ! (stop !)) (look ! 12 refl)) (and-then ! (load ! (from ! (stop !)) (look ! 10 refl)) (and-then ! (load ! (from ! (stop !)) (look ! 3 refl)) (and-then ! (load ! (from ! (stop !)) (look ! 8 refl)) (and-then ! (load ! (from ! (stop !)) (look ! 7 refl)) (and-then ! (load ! (from ! (stop !)) (look ! 6 refl)) (and-then ! (load ! (from ! (stop !)) (look ! 5 refl)) (no-more !)))))))))))))) (λ vo.
-      use1 W (later (some (λ (out : ℕ). ((‵ (flft κ₀ q₀) ⊛ (‵ (flft κ₁ q₁) ⊛ (‵ (flft κ₂ q₂) ⊛ (‵ (flft κ₃ q₃) ⊛ (‵ (flft κ₄ q₄) ⊛ (‵ (flft κ₆ q₆) ⊛ (‵ (flft κ₇ q₇) ⊛ (‵ (flft κ₉ q₉) ⊛ (‵ (flft κ₁₀ q₁₀) ⊛ ‵ ftrue))))))))) ⊛ ‵ (Or .own out (vo ∷ []))) ⊛ raw (ensured 𝓤 H A core′.ended (core′.clauses 𝓤 H A mem run) (κ₀, (κ₁, (κ₂, (κ₃, (κ₄, (κ₆, (κ₇, (κ₉, (κ₁₀, tt))))))))) (record { ptr = (b₀, o₀); name = γ₀; now = ys₀ }, (record { ptr = (b₁, o₁); name = γ₁; now = ys₁ }, (record { ptr = (b₂, o₂); name = γ₂; now = ys₂ }, (record { ptr = (b₃, o₃); name = γ₃; now = ys₃ }, (record { ptr = (b₄, o₄); name = γ₄; now = ys₄ }, (record { ptr = (b₆, o₆); name = γ₆; now = ys₆ }, (record { ptr = (b₇, o₇); name = γ₇; now = ys₇ }, (record { ptr = (b₉, o₉); name = γ₉; now = ys₉ }, (record { ptr = (b₁₀, o₁₀); name = γ₁₀; now = ys₁₀ }, (length ys₅, (length ys₈, (c₁, (c₂, tt))))))))))))) tt out)))) (id⊢ 𝓤 _) $ await ! tt $ pick ! (λ out.
-      split ! $ move ! (1 ∷ []) $ use1 W (some (λ (zc : Lasts core′.ended (κ₀, (κ₁, (κ₂, (κ₃, (κ₄, (κ₆, (κ₇, (κ₉, (κ₁₀, tt))))))))) (record { ptr = (b₀, o₀); name = γ₀; now = ys₀ }, (record { ptr = (b₁, o₁); name = γ₁; now = ys₁ }, (record { ptr = (b₂, o₂); name = γ₂; now = ys₂ }, (record { ptr = (b₃, o₃); name = γ₃; now = ys₃ }, (record { ptr = (b₄, o₄); name = γ₄; now = ys₄ }, (record { ptr = (b₆, o₆); name = γ₆; now = ys₆ }, (record { ptr = (b₇, o₇); name = γ₇; now = ys₇ }, (record { ptr = (b₉, o₉); name = γ₉; now = ys₉ }, (record { ptr = (b₁₀, o₁₀); name = γ₁₀; now = ys₁₀ }, (length ys₅, (length ys₈, (c₁, (c₂, tt)))))))))))))). ‵ (lasts core′.ended (κ₀, (κ₁, (κ₂, (κ₃, (κ₄, (κ₆, (κ₇, (κ₉, (κ₁₀, tt))))))))) (record { ptr = (b₀, o₀); name = γ₀; now = ys₀ }, (record { ptr = (b₁, o₁); name = γ₁; now = ys₁ }, (record { ptr = (b₂, o₂); name = γ₂; now = ys₂ }, (record { ptr = (b₃, o₃); name = γ₃; now = ys₃ }, (record { ptr = (b₄, o₄); name = γ₄; now = ys₄ }, (record { ptr = (b₆, o₆); name = γ₆; now = ys₆ }, (record { ptr = (b₇, o₇); name = γ₇; now = ys₇ }, (record { ptr = (b₉, o₉); name = γ₉; now = ys₉ }, (record { ptr = (b₁₀, o₁₀); name = γ₁₀; now = ys₁₀ }, (length ys₅, (length ys₈, (c₁, (c₂, tt))))))))))))) zc) ⊛ raw (fact 𝓤 (Judgement (Whole (length ys₅) (length ys₈) × FreeAsked same (box ys₀ ys₁ ys₂ ys₃ ys₄ c₁ ys₆ ys₇ c₂ ys₉) ys₁₀) (freeGives same (box ys₀ ys₁ ys₂ ys₃ ys₄ c₁ ys₆ ys₇ c₂ ys₉) ys₁₀) (freeTold ys₁₀ freeRefused) (freeGiven out (zc .1 .1 .1 .1 .1 .1 .1 .1 .0)))))) (id⊢ 𝓤 _) $ pick ! (λ zc. split ! $ move ! (1 ∷ []) $ heard ! (Judgement (Whole (length ys₅) (length ys₈) × FreeAsked same (box ys₀ ys₁ ys₂ ys₃ ys₄ c₁ ys₆ ys₇ c₂ ys₉) ys₁₀) (freeGives same (box ys₀ ys₁ ys₂ ys₃ ys₄ c₁ ys₆ ys₇ c₂ ys₉) ys₁₀) (freeTold ys₁₀ freeRefused) (freeGiven out (zc .1 .1 .1 .1 .1 .1 .1 .1 .0))) (λ ec.
+      use1 W (later (some (λ (out : ℕ). ((‵ (flft κ₀ q₀) ⊛ (‵ (flft κ₁ q₁) ⊛ (‵ (flft κ₂ q₂) ⊛ (‵ (flft κ₃ q₃) ⊛ (‵ (flft κ₄ q₄) ⊛ (‵ (flft κ₆ q₆) ⊛ (‵ (flft κ₇ q₇) ⊛ (‵ (flft κ₉ q₉) ⊛ (‵ (flft κ₁₀ q₁₀) ⊛ ‵ ftrue))))))))) ⊛ ‵ (Or .own out (vo ∷ []))) ⊛ raw (ensured 𝓤 H A core′.ended (core′.clauses 𝓤 H A mem run) (κ₀, (κ₁, (κ₂, (κ₃, (κ₄, (κ₆, (κ₇, (κ₉, (κ₁₀, tt))))))))) (at b₀ o₀ γ₀ ys₀, (at b₁ o₁ γ₁ ys₁, (at b₂ o₂ γ₂ ys₂, (at b₃ o₃ γ₃ ys₃, (at b₄ o₄ γ₄ ys₄, (at b₆ o₆ γ₆ ys₆, (at b₇ o₇ γ₇ ys₇, (at b₉ o₉ γ₉ ys₉, (at b₁₀ o₁₀ γ₁₀ ys₁₀, (length ys₅, (length ys₈, (c₁, (c₂, tt))))))))))))) tt out)))) (id⊢ 𝓤 _) $ await ! tt $ pick ! (λ out.
+      split ! $ move ! (1 ∷ []) $ use1 W (some (λ (zc : Lasts core′.ended (κ₀, (κ₁, (κ₂, (κ₃, (κ₄, (κ₆, (κ₇, (κ₉, (κ₁₀, tt))))))))) (at b₀ o₀ γ₀ ys₀, (at b₁ o₁ γ₁ ys₁, (at b₂ o₂ γ₂ ys₂, (at b₃ o₃ γ₃ ys₃, (at b₄ o₄ γ₄ ys₄, (at b₆ o₆ γ₆ ys₆, (at b₇ o₇ γ₇ ys₇, (at b₉ o₉ γ₉ ys₉, (at b₁₀ o₁₀ γ₁₀ ys₁₀, (length ys₅, (length ys₈, (c₁, (c₂, tt)))))))))))))). ‵ (lasts core′.ended (κ₀, (κ₁, (κ₂, (κ₃, (κ₄, (κ₆, (κ₇, (κ₉, (κ₁₀, tt))))))))) (at b₀ o₀ γ₀ ys₀, (at b₁ o₁ γ₁ ys₁, (at b₂ o₂ γ₂ ys₂, (at b₃ o₃ γ₃ ys₃, (at b₄ o₄ γ₄ ys₄, (at b₆ o₆ γ₆ ys₆, (at b₇ o₇ γ₇ ys₇, (at b₉ o₉ γ₉ ys₉, (at b₁₀ o₁₀ γ₁₀ ys₁₀, (length ys₅, (length ys₈, (c₁, (c₂, tt))))))))))))) zc) ⊛ raw (fact 𝓤 (Judgement (Whole (length ys₅) (length ys₈) × FreeAsked same (box ys₀ ys₁ ys₂ ys₃ ys₄ c₁ ys₆ ys₇ c₂ ys₉) ys₁₀) (freeGives same (box ys₀ ys₁ ys₂ ys₃ ys₄ c₁ ys₆ ys₇ c₂ ys₉) ys₁₀) (freeTold ys₁₀ freeRefused) (freeGiven out (zc .1 .1 .1 .1 .1 .1 .1 .1 .0)))))) (id⊢ 𝓤 _) $ pick ! (λ zc. split ! $ move ! (1 ∷ []) $ heard ! (Judgement (Whole (length ys₅) (length ys₈) × FreeAsked same (box ys₀ ys₁ ys₂ ys₃ ys₄ c₁ ys₆ ys₇ c₂ ys₉) ys₁₀) (freeGives same (box ys₀ ys₁ ys₂ ys₃ ys₄ c₁ ys₆ ys₇ c₂ ys₉) ys₁₀) (freeTold ys₁₀ freeRefused) (freeGiven out (zc .1 .1 .1 .1 .1 .1 .1 .1 .0))) (λ ec.
       fsplit ! $
       drop ! $
       fsplit ! $
@@ -179,7 +179,7 @@ module _ {M : Type 1} (𝓤 : URA M) (H : Heap 𝓤) (A : Atoms 𝓤) (W : Given
       returns ! (look ! 29 refl) $
       move ! (30 ∷ 29 ∷ 28 ∷ 27 ∷ 26 ∷ 25 ∷ 24 ∷ 23 ∷ 22 ∷ 21 ∷ 20 ∷ 19 ∷ 18 ∷ 17 ∷ 16 ∷ 15 ∷ 14 ∷ 13 ∷ 12 ∷ []) $
       free-all W ! ((_, _, _) ∷ (_, _, _) ∷ (_, _, _) ∷ (_, _, _) ∷ (_, _, _) ∷ (_, _, _) ∷ (_, _, _) ∷ (_, _, _) ∷ (_, _, _) ∷ (_, _, _) ∷ (_, _, _) ∷ (_, _, _) ∷ (_, _, _) ∷ (_, _, _) ∷ (_, _, _) ∷ (_, _, _) ∷ (_, _, _) ∷ (_, _, _) ∷ []) Dies dies $
-      suffices ! _ (ends-at 𝓤 H A entry′.ended stayed (entry′.clauses 𝓤 H A mem run) W (((κ₀, (κ₁, (κ₂, (κ₃, (κ₄, (κ₅, (κ₆, (κ₇, (κ₈, (κ₉, (κ₁₀, tt))))))))))), (q₀, (q₁, (q₂, (q₃, (q₄, (q₅, (q₆, (q₇, (q₈, (q₉, (q₁₀, tt))))))))))), tt, (record { ptr = (b₀, o₀); name = γ₀; now = ys₀ }, (record { ptr = (b₁, o₁); name = γ₁; now = ys₁ }, (record { ptr = (b₂, o₂); name = γ₂; now = ys₂ }, (record { ptr = (b₃, o₃); name = γ₃; now = ys₃ }, (record { ptr = (b₄, o₄); name = γ₄; now = ys₄ }, (record { ptr = (b₅, o₅); name = γ₅; now = ys₅ }, (record { ptr = (b₆, o₆); name = γ₆; now = ys₆ }, (record { ptr = (b₇, o₇); name = γ₇; now = ys₇ }, (record { ptr = (b₈, o₈); name = γ₈; now = ys₈ }, (record { ptr = (b₉, o₉); name = γ₉; now = ys₉ }, (record { ptr = (b₁₀, o₁₀); name = γ₁₀; now = ys₁₀ }, tt))))))))))), (sliceVal (b₀, o₀) (length ys₀) ∷ [], (sliceVal (b₁, o₁) (length ys₁) ∷ [], (sliceVal (b₂, o₂) (length ys₂) ∷ [], (sliceVal (b₃, o₃) (length ys₃) ∷ [], (sliceVal (b₄, o₄) (length ys₄) ∷ [], (sliceVal (b₅, o₅) (length ys₅) ∷ [], (sliceVal (b₆, o₆) (length ys₆) ∷ [], (sliceVal (b₇, o₇) (length ys₇) ∷ [], (sliceVal (b₈, o₈) (length ys₈) ∷ [], (sliceVal (b₉, o₉) (length ys₉) ∷ [], (sliceVal (b₁₀, o₁₀) (length ys₁₀) ∷ [], tt)))))))))))), tt) (vo) (out) (tt, (tt, (tt, (tt, (tt, (tt, (tt, (tt, (tt, (tt, (zc .1 .1 .1 .1 .1 .1 .1 .1 .0, tt))))))))))) (tt, (tt, (tt, (tt, (tt, (tt, (tt, (tt, (tt, (tt, (h₁₀, tt)))))))))))) $ says ! (free-slots ys₀ ys₁ ys₂ ys₃ ys₄ ys₅ ys₆ ys₇ ys₈ ys₉ c₁ c₂ e₁ e₂ ys₁₀ ec) $
+      suffices ! _ (ends-at 𝓤 H A entry′.ended stayed (entry′.clauses 𝓤 H A mem run) W (((κ₀, (κ₁, (κ₂, (κ₃, (κ₄, (κ₅, (κ₆, (κ₇, (κ₈, (κ₉, (κ₁₀, tt))))))))))), (q₀, (q₁, (q₂, (q₃, (q₄, (q₅, (q₆, (q₇, (q₈, (q₉, (q₁₀, tt))))))))))), tt, (at b₀ o₀ γ₀ ys₀, (at b₁ o₁ γ₁ ys₁, (at b₂ o₂ γ₂ ys₂, (at b₃ o₃ γ₃ ys₃, (at b₄ o₄ γ₄ ys₄, (at b₅ o₅ γ₅ ys₅, (at b₆ o₆ γ₆ ys₆, (at b₇ o₇ γ₇ ys₇, (at b₈ o₈ γ₈ ys₈, (at b₉ o₉ γ₉ ys₉, (at b₁₀ o₁₀ γ₁₀ ys₁₀, tt))))))))))), (held b₀ o₀ ys₀, (held b₁ o₁ ys₁, (held b₂ o₂ ys₂, (held b₃ o₃ ys₃, (held b₄ o₄ ys₄, (held b₅ o₅ ys₅, (held b₆ o₆ ys₆, (held b₇ o₇ ys₇, (held b₈ o₈ ys₈, (held b₉ o₉ ys₉, (held b₁₀ o₁₀ ys₁₀, tt)))))))))))), tt) (vo) (out) (tt, (tt, (tt, (tt, (tt, (tt, (tt, (tt, (tt, (tt, (zc .1 .1 .1 .1 .1 .1 .1 .1 .0, tt))))))))))) (tt, (tt, (tt, (tt, (tt, (tt, (tt, (tt, (tt, (tt, (h₁₀, tt)))))))))))) $ says ! (free-slots ys₀ ys₁ ys₂ ys₃ ys₄ ys₅ ys₆ ys₇ ys₈ ys₉ c₁ c₂ e₁ e₂ ys₁₀ ec) $
       nothing ! $
       move ! (9 ∷ 8 ∷ 7 ∷ 6 ∷ 5 ∷ 12 ∷ 4 ∷ 3 ∷ 11 ∷ 2 ∷ 1 ∷ 0 ∷ []) $
       group ! 12 $

@@ -47,7 +47,7 @@ use Rattle.slots.specs.Slots.{AllFit, loaded, stored}
 use Rattle.slots.specs.declared.Slot.{Slot}
 use Rattle.slots.proofs.AtOnce.{alloc-all, pass-all, free-all, apart, fapart, fwhole, last-eq}
 use Rattle.slots.proofs.SharedLoan.{SharedOut, lends-shared, shared-back}
-use Rattle.slots.proofs.Rows.{R, Row, field-words, field-row, row-makes, row-typed}
+use Rattle.slots.proofs.Rows.{R, Row, field-words, field-row, row-makes, row-typed, at, held}
 use Rattle.cores.proofs.Finished as O
 use Rattle.cores.proofs.Finished.Laws as O′
 use Rattle.slots.proofs.load as load′
@@ -89,26 +89,26 @@ module _ {M : Type 1} (𝓤 : URA M) (H : Heap 𝓤) (A : Atoms 𝓤) (mem : Mem
 
 module _ {M : Type 1} (𝓤 : URA M) (H : Heap 𝓤) (A : Atoms 𝓤) (W : Given 𝓤 H A) (mem : Memory → SProp 𝓤) (run : Routine → Fun 𝓤) (κ₀ : Lft) (q₀ : Share) (b₀ o₀ : ℕ) (γ₀ : GName) (ys₀ : List ℕ) (g₀ : Room u64 (length ys₀)) (κ₁ : Lft) (q₁ : Share) (b₁ o₁ : ℕ) (γ₁ : GName) (ys₁ : List ℕ) (g₁ : Room u64 (length ys₁)) (κ₂ : Lft) (q₂ : Share) (b₂ o₂ : ℕ) (γ₂ : GName) (ys₂ : List ℕ) (g₂ : Room u64 (length ys₂)) (κ₃ : Lft) (q₃ : Share) (b₃ o₃ : ℕ) (γ₃ : GName) (ys₃ : List ℕ) (g₃ : Room u64 (length ys₃)) (κ₄ : Lft) (q₄ : Share) (b₄ o₄ : ℕ) (γ₄ : GName) (ys₄ : List ℕ) (g₄ : Room u64 (length ys₄)) (κ₅ : Lft) (q₅ : Share) (b₅ o₅ : ℕ) (γ₅ : GName) (ys₅ : List Slot) (g₅ : Room R (length ys₅)) (κ₆ : Lft) (q₆ : Share) (b₆ o₆ : ℕ) (γ₆ : GName) (ys₆ : List ℕ) (g₆ : Room u64 (length ys₆)) (κ₇ : Lft) (q₇ : Share) (b₇ o₇ : ℕ) (γ₇ : GName) (ys₇ : List ℕ) (g₇ : Room u64 (length ys₇)) (κ₈ : Lft) (q₈ : Share) (b₈ o₈ : ℕ) (γ₈ : GName) (ys₈ : List Slot) (g₈ : Room R (length ys₈)) (κ₉ : Lft) (q₉ : Share) (b₉ o₉ : ℕ) (γ₉ : GName) (ys₉ : List ℕ) (g₉ : Room u64 (length ys₉)) (κ₁₀ : Lft) (q₁₀ : Share) (b₁₀ o₁₀ : ℕ) (γ₁₀ : GName) (ys₁₀ : List ℕ) (g₁₀ : Room u64 (length ys₁₀)) (κ₁₁ : Lft) (q₁₁ : Share) (b₁₁ o₁₁ : ℕ) (γ₁₁ : GName) (ys₁₁ : List ℕ) (g₁₁ : Room u64 (length ys₁₁)) where
   abbrev Post : Val → SProp 𝓤
-  Post = walkOf 𝓤 H A entry′.ended stayed (entry′.clauses 𝓤 H A mem run) .post (((κ₀, (κ₁, (κ₂, (κ₃, (κ₄, (κ₅, (κ₆, (κ₇, (κ₈, (κ₉, (κ₁₀, (κ₁₁, tt)))))))))))), (q₀, (q₁, (q₂, (q₃, (q₄, (q₅, (q₆, (q₇, (q₈, (q₉, (q₁₀, (q₁₁, tt)))))))))))), tt, (record { ptr = (b₀, o₀); name = γ₀; now = ys₀ }, (record { ptr = (b₁, o₁); name = γ₁; now = ys₁ }, (record { ptr = (b₂, o₂); name = γ₂; now = ys₂ }, (record { ptr = (b₃, o₃); name = γ₃; now = ys₃ }, (record { ptr = (b₄, o₄); name = γ₄; now = ys₄ }, (record { ptr = (b₅, o₅); name = γ₅; now = ys₅ }, (record { ptr = (b₆, o₆); name = γ₆; now = ys₆ }, (record { ptr = (b₇, o₇); name = γ₇; now = ys₇ }, (record { ptr = (b₈, o₈); name = γ₈; now = ys₈ }, (record { ptr = (b₉, o₉); name = γ₉; now = ys₉ }, (record { ptr = (b₁₀, o₁₀); name = γ₁₀; now = ys₁₀ }, (record { ptr = (b₁₁, o₁₁); name = γ₁₁; now = ys₁₁ }, tt)))))))))))), (sliceVal (b₀, o₀) (length ys₀) ∷ [], (sliceVal (b₁, o₁) (length ys₁) ∷ [], (sliceVal (b₂, o₂) (length ys₂) ∷ [], (sliceVal (b₃, o₃) (length ys₃) ∷ [], (sliceVal (b₄, o₄) (length ys₄) ∷ [], (sliceVal (b₅, o₅) (length ys₅) ∷ [], (sliceVal (b₆, o₆) (length ys₆) ∷ [], (sliceVal (b₇, o₇) (length ys₇) ∷ [], (sliceVal (b₈, o₈) (length ys₈) ∷ [], (sliceVal (b₉, o₉) (length ys₉) ∷ [], (sliceVal (b₁₀, o₁₀) (length ys₁₀) ∷ [], (sliceVal (b₁₁, o₁₁) (length ys₁₁) ∷ [], tt))))))))))))), tt)
+  Post = walkOf 𝓤 H A entry′.ended stayed (entry′.clauses 𝓤 H A mem run) .post (((κ₀, (κ₁, (κ₂, (κ₃, (κ₄, (κ₅, (κ₆, (κ₇, (κ₈, (κ₉, (κ₁₀, (κ₁₁, tt)))))))))))), (q₀, (q₁, (q₂, (q₃, (q₄, (q₅, (q₆, (q₇, (q₈, (q₉, (q₁₀, (q₁₁, tt)))))))))))), tt, (at b₀ o₀ γ₀ ys₀, (at b₁ o₁ γ₁ ys₁, (at b₂ o₂ γ₂ ys₂, (at b₃ o₃ γ₃ ys₃, (at b₄ o₄ γ₄ ys₄, (at b₅ o₅ γ₅ ys₅, (at b₆ o₆ γ₆ ys₆, (at b₇ o₇ γ₇ ys₇, (at b₈ o₈ γ₈ ys₈, (at b₉ o₉ γ₉ ys₉, (at b₁₀ o₁₀ γ₁₀ ys₁₀, (at b₁₁ o₁₁ γ₁₁ ys₁₁, tt)))))))))))), (held b₀ o₀ ys₀, (held b₁ o₁ ys₁, (held b₂ o₂ ys₂, (held b₃ o₃ ys₃, (held b₄ o₄ ys₄, (held b₅ o₅ ys₅, (held b₆ o₆ ys₆, (held b₇ o₇ ys₇, (held b₈ o₈ ys₈, (held b₉ o₉ ys₉, (held b₁₀ o₁₀ ys₁₀, (held b₁₁ o₁₁ ys₁₁, tt))))))))))))), tt)
 
   abbrev to-load-1 : ℕ → GName → Load 𝓤 H A mem run .Ghost
-  to-load-1 ν δ = (((ν ∷ [], tt), (fullShare, tt), tt, (record { ptr = (b₅, o₅); name = δ; now = ys₅ }, tt), (sliceVal (b₅, o₅) (length ys₅) ∷ [], tt)), tt)
+  to-load-1 ν δ = (((ν ∷ [], tt), (fullShare, tt), tt, (at b₅ o₅ δ ys₅, tt), (held b₅ o₅ ys₅, tt)), tt)
 
-  goes-1 : (ν : ℕ) (δ : GName) → ent 𝓤 (sep 𝓤 (A .lft (ν ∷ []) fullShare) (sem 𝓤 H A (ShrSlice (named 0) (ν ∷ []) R .own (record { ptr = (b₅, o₅); name = δ; now = ys₅ }) (sliceVal (b₅, o₅) (length ys₅) ∷ [])))) (Load 𝓤 H A mem run .pre (to-load-1 ν δ))
-  goes-1 ν δ = qed W (‵ (flft (ν ∷ []) fullShare) ∷ ‵ (ShrSlice (named 0) (ν ∷ []) R .own (record { ptr = (b₅, o₅); name = δ; now = ys₅ }) (sliceVal (b₅, o₅) (length ys₅) ∷ [])) ∷ []) ∵ nothing ! $ move ! (1 ∷ 0 ∷ []) $ join ! $ nothing ! $ move ! (2 ∷ 0 ∷ []) $ fjoin ! $ move ! (1 ∷ 0 ∷ []) $ join ! $ frame ! $ nothing ! $ done !
+  goes-1 : (ν : ℕ) (δ : GName) → ent 𝓤 (sep 𝓤 (A .lft (ν ∷ []) fullShare) (sem 𝓤 H A (ShrSlice (named 0) (ν ∷ []) R .own (at b₅ o₅ δ ys₅) (held b₅ o₅ ys₅)))) (Load 𝓤 H A mem run .pre (to-load-1 ν δ))
+  goes-1 ν δ = qed W (‵ (flft (ν ∷ []) fullShare) ∷ ‵ (ShrSlice (named 0) (ν ∷ []) R .own (at b₅ o₅ δ ys₅) (held b₅ o₅ ys₅)) ∷ []) ∵ nothing ! $ move ! (1 ∷ 0 ∷ []) $ join ! $ nothing ! $ move ! (2 ∷ 0 ∷ []) $ fjoin ! $ move ! (1 ∷ 0 ∷ []) $ join ! $ frame ! $ nothing ! $ done !
 
   abbrev to-load-2 : ℕ → GName → Load 𝓤 H A mem run .Ghost
-  to-load-2 ν δ = (((ν ∷ [], tt), (fullShare, tt), tt, (record { ptr = (b₈, o₈); name = δ; now = ys₈ }, tt), (sliceVal (b₈, o₈) (length ys₈) ∷ [], tt)), tt)
+  to-load-2 ν δ = (((ν ∷ [], tt), (fullShare, tt), tt, (at b₈ o₈ δ ys₈, tt), (held b₈ o₈ ys₈, tt)), tt)
 
-  goes-2 : (ν : ℕ) (δ : GName) → ent 𝓤 (sep 𝓤 (A .lft (ν ∷ []) fullShare) (sem 𝓤 H A (ShrSlice (named 0) (ν ∷ []) R .own (record { ptr = (b₈, o₈); name = δ; now = ys₈ }) (sliceVal (b₈, o₈) (length ys₈) ∷ [])))) (Load 𝓤 H A mem run .pre (to-load-2 ν δ))
-  goes-2 ν δ = qed W (‵ (flft (ν ∷ []) fullShare) ∷ ‵ (ShrSlice (named 0) (ν ∷ []) R .own (record { ptr = (b₈, o₈); name = δ; now = ys₈ }) (sliceVal (b₈, o₈) (length ys₈) ∷ [])) ∷ []) ∵ nothing ! $ move ! (1 ∷ 0 ∷ []) $ join ! $ nothing ! $ move ! (2 ∷ 0 ∷ []) $ fjoin ! $ move ! (1 ∷ 0 ∷ []) $ join ! $ frame ! $ nothing ! $ done !
+  goes-2 : (ν : ℕ) (δ : GName) → ent 𝓤 (sep 𝓤 (A .lft (ν ∷ []) fullShare) (sem 𝓤 H A (ShrSlice (named 0) (ν ∷ []) R .own (at b₈ o₈ δ ys₈) (held b₈ o₈ ys₈)))) (Load 𝓤 H A mem run .pre (to-load-2 ν δ))
+  goes-2 ν δ = qed W (‵ (flft (ν ∷ []) fullShare) ∷ ‵ (ShrSlice (named 0) (ν ∷ []) R .own (at b₈ o₈ δ ys₈) (held b₈ o₈ ys₈)) ∷ []) ∵ nothing ! $ move ! (1 ∷ 0 ∷ []) $ join ! $ nothing ! $ move ! (2 ∷ 0 ∷ []) $ fjoin ! $ move ! (1 ∷ 0 ∷ []) $ join ! $ frame ! $ nothing ! $ done !
 
   abbrev to-core : (c₁ : List ℕ) (v₁ : Val) (i₁ : Is Row c₁ (v₁ ∷ [])) (c₂ : List ℕ) (v₂ : Val) (i₂ : Is Row c₂ (v₂ ∷ [])) → Core 𝓤 H A mem run .Ghost
-  to-core c₁ v₁ i₁ c₂ v₂ i₂ = (((κ₀, (κ₁, (κ₂, (κ₃, (κ₄, (κ₆, (κ₇, (κ₉, (κ₁₀, (κ₁₁, tt)))))))))), (q₀, (q₁, (q₂, (q₃, (q₄, (q₆, (q₇, (q₉, (q₁₀, (q₁₁, tt)))))))))), tt, (record { ptr = (b₀, o₀); name = γ₀; now = ys₀ }, (record { ptr = (b₁, o₁); name = γ₁; now = ys₁ }, (record { ptr = (b₂, o₂); name = γ₂; now = ys₂ }, (record { ptr = (b₃, o₃); name = γ₃; now = ys₃ }, (record { ptr = (b₄, o₄); name = γ₄; now = ys₄ }, (record { ptr = (b₆, o₆); name = γ₆; now = ys₆ }, (record { ptr = (b₇, o₇); name = γ₇; now = ys₇ }, (record { ptr = (b₉, o₉); name = γ₉; now = ys₉ }, (record { ptr = (b₁₀, o₁₀); name = γ₁₀; now = ys₁₀ }, (record { ptr = (b₁₁, o₁₁); name = γ₁₁; now = ys₁₁ }, (length ys₅, (length ys₈, (c₁, (c₂, tt)))))))))))))), (sliceVal (b₀, o₀) (length ys₀) ∷ [], (sliceVal (b₁, o₁) (length ys₁) ∷ [], (sliceVal (b₂, o₂) (length ys₂) ∷ [], (sliceVal (b₃, o₃) (length ys₃) ∷ [], (sliceVal (b₄, o₄) (length ys₄) ∷ [], (sliceVal (b₆, o₆) (length ys₆) ∷ [], (sliceVal (b₇, o₇) (length ys₇) ∷ [], (sliceVal (b₉, o₉) (length ys₉) ∷ [], (sliceVal (b₁₀, o₁₀) (length ys₁₀) ∷ [], (sliceVal (b₁₁, o₁₁) (length ys₁₁) ∷ [], (vint w64 (length ys₅) ∷ [], (vint w64 (length ys₈) ∷ [], (v₁ ∷ [], (v₂ ∷ [], tt))))))))))))))), tt)
+  to-core c₁ v₁ i₁ c₂ v₂ i₂ = (((κ₀, (κ₁, (κ₂, (κ₃, (κ₄, (κ₆, (κ₇, (κ₉, (κ₁₀, (κ₁₁, tt)))))))))), (q₀, (q₁, (q₂, (q₃, (q₄, (q₆, (q₇, (q₉, (q₁₀, (q₁₁, tt)))))))))), tt, (at b₀ o₀ γ₀ ys₀, (at b₁ o₁ γ₁ ys₁, (at b₂ o₂ γ₂ ys₂, (at b₃ o₃ γ₃ ys₃, (at b₄ o₄ γ₄ ys₄, (at b₆ o₆ γ₆ ys₆, (at b₇ o₇ γ₇ ys₇, (at b₉ o₉ γ₉ ys₉, (at b₁₀ o₁₀ γ₁₀ ys₁₀, (at b₁₁ o₁₁ γ₁₁ ys₁₁, (length ys₅, (length ys₈, (c₁, (c₂, tt)))))))))))))), (held b₀ o₀ ys₀, (held b₁ o₁ ys₁, (held b₂ o₂ ys₂, (held b₃ o₃ ys₃, (held b₄ o₄ ys₄, (held b₆ o₆ ys₆, (held b₇ o₇ ys₇, (held b₉ o₉ ys₉, (held b₁₀ o₁₀ ys₁₀, (held b₁₁ o₁₁ ys₁₁, (vint w64 (length ys₅) ∷ [], (vint w64 (length ys₈) ∷ [], (v₁ ∷ [], (v₂ ∷ [], tt))))))))))))))), tt)
 
-  goes-core : (c₁ : List ℕ) (v₁ : Val) (i₁ : Is Row c₁ (v₁ ∷ [])) (c₂ : List ℕ) (v₂ : Val) (i₂ : Is Row c₂ (v₂ ∷ [])) → ent 𝓤 (sep 𝓤 (sem 𝓤 H A (flft κ₀ q₀)) (sep 𝓤 (sem 𝓤 H A (flft κ₁ q₁)) (sep 𝓤 (sem 𝓤 H A (flft κ₂ q₂)) (sep 𝓤 (sem 𝓤 H A (flft κ₃ q₃)) (sep 𝓤 (sem 𝓤 H A (flft κ₄ q₄)) (sep 𝓤 (sem 𝓤 H A (flft κ₆ q₆)) (sep 𝓤 (sem 𝓤 H A (flft κ₇ q₇)) (sep 𝓤 (sem 𝓤 H A (flft κ₉ q₉)) (sep 𝓤 (sem 𝓤 H A (flft κ₁₀ q₁₀)) (sep 𝓤 (sem 𝓤 H A (flft κ₁₁ q₁₁)) (sep 𝓤 (sem 𝓤 H A (MutSlice (named 0) κ₀ u64 .own (record { ptr = (b₀, o₀); name = γ₀; now = ys₀ }) (sliceVal (b₀, o₀) (length ys₀) ∷ []))) (sep 𝓤 (sem 𝓤 H A (MutSlice (named 1) κ₁ u64 .own (record { ptr = (b₁, o₁); name = γ₁; now = ys₁ }) (sliceVal (b₁, o₁) (length ys₁) ∷ []))) (sep 𝓤 (sem 𝓤 H A (MutSlice (named 2) κ₂ u64 .own (record { ptr = (b₂, o₂); name = γ₂; now = ys₂ }) (sliceVal (b₂, o₂) (length ys₂) ∷ []))) (sep 𝓤 (sem 𝓤 H A (MutSlice (named 3) κ₃ u64 .own (record { ptr = (b₃, o₃); name = γ₃; now = ys₃ }) (sliceVal (b₃, o₃) (length ys₃) ∷ []))) (sep 𝓤 (sem 𝓤 H A (MutSlice (named 4) κ₄ u64 .own (record { ptr = (b₄, o₄); name = γ₄; now = ys₄ }) (sliceVal (b₄, o₄) (length ys₄) ∷ []))) (sep 𝓤 (sem 𝓤 H A (MutSlice (named 6) κ₆ u64 .own (record { ptr = (b₆, o₆); name = γ₆; now = ys₆ }) (sliceVal (b₆, o₆) (length ys₆) ∷ []))) (sep 𝓤 (sem 𝓤 H A (MutSlice (named 7) κ₇ u64 .own (record { ptr = (b₇, o₇); name = γ₇; now = ys₇ }) (sliceVal (b₇, o₇) (length ys₇) ∷ []))) (sep 𝓤 (sem 𝓤 H A (MutSlice (named 9) κ₉ u64 .own (record { ptr = (b₉, o₉); name = γ₉; now = ys₉ }) (sliceVal (b₉, o₉) (length ys₉) ∷ []))) (sep 𝓤 (sem 𝓤 H A (ShrSlice (named 10) κ₁₀ u64 .own (record { ptr = (b₁₀, o₁₀); name = γ₁₀; now = ys₁₀ }) (sliceVal (b₁₀, o₁₀) (length ys₁₀) ∷ []))) (sem 𝓤 H A (MutSlice (named 11) κ₁₁ u64 .own (record { ptr = (b₁₁, o₁₁); name = γ₁₁; now = ys₁₁ }) (sliceVal (b₁₁, o₁₁) (length ys₁₁) ∷ [])))))))))))))))))))))) (Core 𝓤 H A mem run .pre (to-core c₁ v₁ i₁ c₂ v₂ i₂))
+  goes-core : (c₁ : List ℕ) (v₁ : Val) (i₁ : Is Row c₁ (v₁ ∷ [])) (c₂ : List ℕ) (v₂ : Val) (i₂ : Is Row c₂ (v₂ ∷ [])) → ent 𝓤 (sep 𝓤 (sem 𝓤 H A (flft κ₀ q₀)) (sep 𝓤 (sem 𝓤 H A (flft κ₁ q₁)) (sep 𝓤 (sem 𝓤 H A (flft κ₂ q₂)) (sep 𝓤 (sem 𝓤 H A (flft κ₃ q₃)) (sep 𝓤 (sem 𝓤 H A (flft κ₄ q₄)) (sep 𝓤 (sem 𝓤 H A (flft κ₆ q₆)) (sep 𝓤 (sem 𝓤 H A (flft κ₇ q₇)) (sep 𝓤 (sem 𝓤 H A (flft κ₉ q₉)) (sep 𝓤 (sem 𝓤 H A (flft κ₁₀ q₁₀)) (sep 𝓤 (sem 𝓤 H A (flft κ₁₁ q₁₁)) (sep 𝓤 (sem 𝓤 H A (MutSlice (named 0) κ₀ u64 .own (at b₀ o₀ γ₀ ys₀) (held b₀ o₀ ys₀))) (sep 𝓤 (sem 𝓤 H A (MutSlice (named 1) κ₁ u64 .own (at b₁ o₁ γ₁ ys₁) (held b₁ o₁ ys₁))) (sep 𝓤 (sem 𝓤 H A (MutSlice (named 2) κ₂ u64 .own (at b₂ o₂ γ₂ ys₂) (held b₂ o₂ ys₂))) (sep 𝓤 (sem 𝓤 H A (MutSlice (named 3) κ₃ u64 .own (at b₃ o₃ γ₃ ys₃) (held b₃ o₃ ys₃))) (sep 𝓤 (sem 𝓤 H A (MutSlice (named 4) κ₄ u64 .own (at b₄ o₄ γ₄ ys₄) (held b₄ o₄ ys₄))) (sep 𝓤 (sem 𝓤 H A (MutSlice (named 6) κ₆ u64 .own (at b₆ o₆ γ₆ ys₆) (held b₆ o₆ ys₆))) (sep 𝓤 (sem 𝓤 H A (MutSlice (named 7) κ₇ u64 .own (at b₇ o₇ γ₇ ys₇) (held b₇ o₇ ys₇))) (sep 𝓤 (sem 𝓤 H A (MutSlice (named 9) κ₉ u64 .own (at b₉ o₉ γ₉ ys₉) (held b₉ o₉ ys₉))) (sep 𝓤 (sem 𝓤 H A (ShrSlice (named 10) κ₁₀ u64 .own (at b₁₀ o₁₀ γ₁₀ ys₁₀) (held b₁₀ o₁₀ ys₁₀))) (sem 𝓤 H A (MutSlice (named 11) κ₁₁ u64 .own (at b₁₁ o₁₁ γ₁₁ ys₁₁) (held b₁₁ o₁₁ ys₁₁)))))))))))))))))))))) (Core 𝓤 H A mem run .pre (to-core c₁ v₁ i₁ c₂ v₂ i₂))
   goes-core c₁ v₁ i₁ c₂ v₂ i₂ =
-      qed W (‵ (flft κ₀ q₀) ∷ ‵ (flft κ₁ q₁) ∷ ‵ (flft κ₂ q₂) ∷ ‵ (flft κ₃ q₃) ∷ ‵ (flft κ₄ q₄) ∷ ‵ (flft κ₆ q₆) ∷ ‵ (flft κ₇ q₇) ∷ ‵ (flft κ₉ q₉) ∷ ‵ (flft κ₁₀ q₁₀) ∷ ‵ (flft κ₁₁ q₁₁) ∷ ‵ (MutSlice (named 0) κ₀ u64 .own (record { ptr = (b₀, o₀); name = γ₀; now = ys₀ }) (sliceVal (b₀, o₀) (length ys₀) ∷ [])) ∷ ‵ (MutSlice (named 1) κ₁ u64 .own (record { ptr = (b₁, o₁); name = γ₁; now = ys₁ }) (sliceVal (b₁, o₁) (length ys₁) ∷ [])) ∷ ‵ (MutSlice (named 2) κ₂ u64 .own (record { ptr = (b₂, o₂); name = γ₂; now = ys₂ }) (sliceVal (b₂, o₂) (length ys₂) ∷ [])) ∷ ‵ (MutSlice (named 3) κ₃ u64 .own (record { ptr = (b₃, o₃); name = γ₃; now = ys₃ }) (sliceVal (b₃, o₃) (length ys₃) ∷ [])) ∷ ‵ (MutSlice (named 4) κ₄ u64 .own (record { ptr = (b₄, o₄); name = γ₄; now = ys₄ }) (sliceVal (b₄, o₄) (length ys₄) ∷ [])) ∷ ‵ (MutSlice (named 6) κ₆ u64 .own (record { ptr = (b₆, o₆); name = γ₆; now = ys₆ }) (sliceVal (b₆, o₆) (length ys₆) ∷ [])) ∷ ‵ (MutSlice (named 7) κ₇ u64 .own (record { ptr = (b₇, o₇); name = γ₇; now = ys₇ }) (sliceVal (b₇, o₇) (length ys₇) ∷ [])) ∷ ‵ (MutSlice (named 9) κ₉ u64 .own (record { ptr = (b₉, o₉); name = γ₉; now = ys₉ }) (sliceVal (b₉, o₉) (length ys₉) ∷ [])) ∷ ‵ (ShrSlice (named 10) κ₁₀ u64 .own (record { ptr = (b₁₀, o₁₀); name = γ₁₀; now = ys₁₀ }) (sliceVal (b₁₀, o₁₀) (length ys₁₀) ∷ [])) ∷ ‵ (MutSlice (named 11) κ₁₁ u64 .own (record { ptr = (b₁₁, o₁₁); name = γ₁₁; now = ys₁₁ }) (sliceVal (b₁₁, o₁₁) (length ys₁₁) ∷ [])) ∷ []) ∵
+      qed W (‵ (flft κ₀ q₀) ∷ ‵ (flft κ₁ q₁) ∷ ‵ (flft κ₂ q₂) ∷ ‵ (flft κ₃ q₃) ∷ ‵ (flft κ₄ q₄) ∷ ‵ (flft κ₆ q₆) ∷ ‵ (flft κ₇ q₇) ∷ ‵ (flft κ₉ q₉) ∷ ‵ (flft κ₁₀ q₁₀) ∷ ‵ (flft κ₁₁ q₁₁) ∷ ‵ (MutSlice (named 0) κ₀ u64 .own (at b₀ o₀ γ₀ ys₀) (held b₀ o₀ ys₀)) ∷ ‵ (MutSlice (named 1) κ₁ u64 .own (at b₁ o₁ γ₁ ys₁) (held b₁ o₁ ys₁)) ∷ ‵ (MutSlice (named 2) κ₂ u64 .own (at b₂ o₂ γ₂ ys₂) (held b₂ o₂ ys₂)) ∷ ‵ (MutSlice (named 3) κ₃ u64 .own (at b₃ o₃ γ₃ ys₃) (held b₃ o₃ ys₃)) ∷ ‵ (MutSlice (named 4) κ₄ u64 .own (at b₄ o₄ γ₄ ys₄) (held b₄ o₄ ys₄)) ∷ ‵ (MutSlice (named 6) κ₆ u64 .own (at b₆ o₆ γ₆ ys₆) (held b₆ o₆ ys₆)) ∷ ‵ (MutSlice (named 7) κ₇ u64 .own (at b₇ o₇ γ₇ ys₇) (held b₇ o₇ ys₇)) ∷ ‵ (MutSlice (named 9) κ₉ u64 .own (at b₉ o₉ γ₉ ys₉) (held b₉ o₉ ys₉)) ∷ ‵ (ShrSlice (named 10) κ₁₀ u64 .own (at b₁₀ o₁₀ γ₁₀ ys₁₀) (held b₁₀ o₁₀ ys₁₀)) ∷ ‵ (MutSlice (named 11) κ₁₁ u64 .own (at b₁₁ o₁₁ γ₁₁ ys₁₁) (held b₁₁ o₁₁ ys₁₁)) ∷ []) ∵
       nothing ! $
       move ! (1 ∷ 2 ∷ 3 ∷ 4 ∷ 5 ∷ 6 ∷ 7 ∷ 8 ∷ 9 ∷ 10 ∷ 0 ∷ []) $
       group ! 11 $
@@ -123,21 +123,21 @@ module _ {M : Type 1} (𝓤 : URA M) (H : Heap 𝓤) (A : Atoms 𝓤) (W : Given
       join ! $ frame ! $ nothing ! $ done !
 
   abbrev to-store-4 : (out : Finished) → Store 𝓤 H A mem run .Ghost
-  to-store-4 out = (((κ₅, tt), (q₅, tt), tt, (record { ptr = (b₅, o₅); name = γ₅; now = ys₅ }, (out .cpu, tt)), (sliceVal (b₅, o₅) (length ys₅) ∷ [], (array-vals (uint-vals w64) (field-words (out .cpu)), tt))), tt)
+  to-store-4 out = (((κ₅, tt), (q₅, tt), tt, (at b₅ o₅ γ₅ ys₅, (out .cpu, tt)), (held b₅ o₅ ys₅, (array-vals (uint-vals w64) (field-words (out .cpu)), tt))), tt)
 
-  goes-4 : (out : Finished) → Is Row (out .cpu) (array-vals (uint-vals w64) (field-words (out .cpu))) → ent 𝓤 (sep 𝓤 (sem 𝓤 H A (flft κ₅ q₅)) (sem 𝓤 H A (MutSlice (named 5) κ₅ R .own (record { ptr = (b₅, o₅); name = γ₅; now = ys₅ }) (sliceVal (b₅, o₅) (length ys₅) ∷ [])))) (Store 𝓤 H A mem run .pre (to-store-4 out))
-  goes-4 out is = qed W (‵ (flft κ₅ q₅) ∷ ‵ (MutSlice (named 5) κ₅ R .own (record { ptr = (b₅, o₅); name = γ₅; now = ys₅ }) (sliceVal (b₅, o₅) (length ys₅) ∷ [])) ∷ []) ∵ nothing ! $ move ! (1 ∷ 0 ∷ []) $ join ! $ nothing ! $ owned ! Row (Is Row) (row-makes 𝓤 H A W) (out .cpu) _ is $ fjoin ! $ move ! (2 ∷ 0 ∷ []) $ fjoin ! $ move ! (1 ∷ 0 ∷ []) $ join ! $ frame ! $ nothing ! $ done !
+  goes-4 : (out : Finished) → Is Row (out .cpu) (array-vals (uint-vals w64) (field-words (out .cpu))) → ent 𝓤 (sep 𝓤 (sem 𝓤 H A (flft κ₅ q₅)) (sem 𝓤 H A (MutSlice (named 5) κ₅ R .own (at b₅ o₅ γ₅ ys₅) (held b₅ o₅ ys₅)))) (Store 𝓤 H A mem run .pre (to-store-4 out))
+  goes-4 out is = qed W (‵ (flft κ₅ q₅) ∷ ‵ (MutSlice (named 5) κ₅ R .own (at b₅ o₅ γ₅ ys₅) (held b₅ o₅ ys₅)) ∷ []) ∵ nothing ! $ move ! (1 ∷ 0 ∷ []) $ join ! $ nothing ! $ owned ! Row (Is Row) (row-makes 𝓤 H A W) (out .cpu) _ is $ fjoin ! $ move ! (2 ∷ 0 ∷ []) $ fjoin ! $ move ! (1 ∷ 0 ∷ []) $ join ! $ frame ! $ nothing ! $ done !
 
   abbrev to-store-5 : (out : Finished) → Store 𝓤 H A mem run .Ghost
-  to-store-5 out = (((κ₈, tt), (q₈, tt), tt, (record { ptr = (b₈, o₈); name = γ₈; now = ys₈ }, (out .dma, tt)), (sliceVal (b₈, o₈) (length ys₈) ∷ [], (array-vals (uint-vals w64) (field-words (out .dma)), tt))), tt)
+  to-store-5 out = (((κ₈, tt), (q₈, tt), tt, (at b₈ o₈ γ₈ ys₈, (out .dma, tt)), (held b₈ o₈ ys₈, (array-vals (uint-vals w64) (field-words (out .dma)), tt))), tt)
 
-  goes-5 : (out : Finished) → Is Row (out .dma) (array-vals (uint-vals w64) (field-words (out .dma))) → ent 𝓤 (sep 𝓤 (sem 𝓤 H A (flft κ₈ q₈)) (sem 𝓤 H A (MutSlice (named 8) κ₈ R .own (record { ptr = (b₈, o₈); name = γ₈; now = ys₈ }) (sliceVal (b₈, o₈) (length ys₈) ∷ [])))) (Store 𝓤 H A mem run .pre (to-store-5 out))
-  goes-5 out is = qed W (‵ (flft κ₈ q₈) ∷ ‵ (MutSlice (named 8) κ₈ R .own (record { ptr = (b₈, o₈); name = γ₈; now = ys₈ }) (sliceVal (b₈, o₈) (length ys₈) ∷ [])) ∷ []) ∵ nothing ! $ move ! (1 ∷ 0 ∷ []) $ join ! $ nothing ! $ owned ! Row (Is Row) (row-makes 𝓤 H A W) (out .dma) _ is $ fjoin ! $ move ! (2 ∷ 0 ∷ []) $ fjoin ! $ move ! (1 ∷ 0 ∷ []) $ join ! $ frame ! $ nothing ! $ done !
+  goes-5 : (out : Finished) → Is Row (out .dma) (array-vals (uint-vals w64) (field-words (out .dma))) → ent 𝓤 (sep 𝓤 (sem 𝓤 H A (flft κ₈ q₈)) (sem 𝓤 H A (MutSlice (named 8) κ₈ R .own (at b₈ o₈ γ₈ ys₈) (held b₈ o₈ ys₈)))) (Store 𝓤 H A mem run .pre (to-store-5 out))
+  goes-5 out is = qed W (‵ (flft κ₈ q₈) ∷ ‵ (MutSlice (named 8) κ₈ R .own (at b₈ o₈ γ₈ ys₈) (held b₈ o₈ ys₈)) ∷ []) ∵ nothing ! $ move ! (1 ∷ 0 ∷ []) $ join ! $ nothing ! $ owned ! Row (Is Row) (row-makes 𝓤 H A W) (out .dma) _ is $ fjoin ! $ move ! (2 ∷ 0 ∷ []) $ fjoin ! $ move ! (1 ∷ 0 ∷ []) $ join ! $ frame ! $ nothing ! $ done !
 
   walk : (𝓣 : Tables 𝓤 H) (fm : FmC 𝓤 H (W .laws) (𝓣 .C)) (known-load : Triple 𝓤 (𝓣 .C #load) (Load 𝓤 H A mem run)) (known-store : Triple 𝓤 (𝓣 .C #store) (Store 𝓤 H A mem run)) (known-core : Triple 𝓤 (𝓣 .C #core) (Core 𝓤 H A mem run))
-      → ent 𝓤 (onEntry 𝓤 H A entry′.signature (κ₀, (κ₁, (κ₂, (κ₃, (κ₄, (κ₅, (κ₆, (κ₇, (κ₈, (κ₉, (κ₁₀, (κ₁₁, tt)))))))))))) (q₀, (q₁, (q₂, (q₃, (q₄, (q₅, (q₆, (q₇, (q₈, (q₉, (q₁₀, (q₁₁, tt)))))))))))) (record { ptr = (b₀, o₀); name = γ₀; now = ys₀ }, (record { ptr = (b₁, o₁); name = γ₁; now = ys₁ }, (record { ptr = (b₂, o₂); name = γ₂; now = ys₂ }, (record { ptr = (b₃, o₃); name = γ₃; now = ys₃ }, (record { ptr = (b₄, o₄); name = γ₄; now = ys₄ }, (record { ptr = (b₅, o₅); name = γ₅; now = ys₅ }, (record { ptr = (b₆, o₆); name = γ₆; now = ys₆ }, (record { ptr = (b₇, o₇); name = γ₇; now = ys₇ }, (record { ptr = (b₈, o₈); name = γ₈; now = ys₈ }, (record { ptr = (b₉, o₉); name = γ₉; now = ys₉ }, (record { ptr = (b₁₀, o₁₀); name = γ₁₀; now = ys₁₀ }, (record { ptr = (b₁₁, o₁₁); name = γ₁₁; now = ys₁₁ }, tt)))))))))))) (sliceVal (b₀, o₀) (length ys₀) ∷ [], (sliceVal (b₁, o₁) (length ys₁) ∷ [], (sliceVal (b₂, o₂) (length ys₂) ∷ [], (sliceVal (b₃, o₃) (length ys₃) ∷ [], (sliceVal (b₄, o₄) (length ys₄) ∷ [], (sliceVal (b₅, o₅) (length ys₅) ∷ [], (sliceVal (b₆, o₆) (length ys₆) ∷ [], (sliceVal (b₇, o₇) (length ys₇) ∷ [], (sliceVal (b₈, o₈) (length ys₈) ∷ [], (sliceVal (b₉, o₉) (length ys₉) ∷ [], (sliceVal (b₁₀, o₁₀) (length ys₁₀) ∷ [], (sliceVal (b₁₁, o₁₁) (length ys₁₁) ∷ [], tt))))))))))))) (WpFn 𝓤 H (𝓣 .C) (𝓣 .Λ) code.function (sliceVal (b₀, o₀) (length ys₀) ∷ sliceVal (b₁, o₁) (length ys₁) ∷ sliceVal (b₂, o₂) (length ys₂) ∷ sliceVal (b₃, o₃) (length ys₃) ∷ sliceVal (b₄, o₄) (length ys₄) ∷ sliceVal (b₅, o₅) (length ys₅) ∷ sliceVal (b₆, o₆) (length ys₆) ∷ sliceVal (b₇, o₇) (length ys₇) ∷ sliceVal (b₈, o₈) (length ys₈) ∷ sliceVal (b₉, o₉) (length ys₉) ∷ sliceVal (b₁₀, o₁₀) (length ys₁₀) ∷ sliceVal (b₁₁, o₁₁) (length ys₁₁) ∷ []) Post)
+      → ent 𝓤 (onEntry 𝓤 H A entry′.signature (κ₀, (κ₁, (κ₂, (κ₃, (κ₄, (κ₅, (κ₆, (κ₇, (κ₈, (κ₉, (κ₁₀, (κ₁₁, tt)))))))))))) (q₀, (q₁, (q₂, (q₃, (q₄, (q₅, (q₆, (q₇, (q₈, (q₉, (q₁₀, (q₁₁, tt)))))))))))) (at b₀ o₀ γ₀ ys₀, (at b₁ o₁ γ₁ ys₁, (at b₂ o₂ γ₂ ys₂, (at b₃ o₃ γ₃ ys₃, (at b₄ o₄ γ₄ ys₄, (at b₅ o₅ γ₅ ys₅, (at b₆ o₆ γ₆ ys₆, (at b₇ o₇ γ₇ ys₇, (at b₈ o₈ γ₈ ys₈, (at b₉ o₉ γ₉ ys₉, (at b₁₀ o₁₀ γ₁₀ ys₁₀, (at b₁₁ o₁₁ γ₁₁ ys₁₁, tt)))))))))))) (held b₀ o₀ ys₀, (held b₁ o₁ ys₁, (held b₂ o₂ ys₂, (held b₃ o₃ ys₃, (held b₄ o₄ ys₄, (held b₅ o₅ ys₅, (held b₆ o₆ ys₆, (held b₇ o₇ ys₇, (held b₈ o₈ ys₈, (held b₉ o₉ ys₉, (held b₁₀ o₁₀ ys₁₀, (held b₁₁ o₁₁ ys₁₁, tt))))))))))))) (WpFn 𝓤 H (𝓣 .C) (𝓣 .Λ) code.function (sliceVal (b₀, o₀) (length ys₀) ∷ sliceVal (b₁, o₁) (length ys₁) ∷ sliceVal (b₂, o₂) (length ys₂) ∷ sliceVal (b₃, o₃) (length ys₃) ∷ sliceVal (b₄, o₄) (length ys₄) ∷ sliceVal (b₅, o₅) (length ys₅) ∷ sliceVal (b₆, o₆) (length ys₆) ∷ sliceVal (b₇, o₇) (length ys₇) ∷ sliceVal (b₈, o₈) (length ys₈) ∷ sliceVal (b₉, o₉) (length ys₉) ∷ sliceVal (b₁₀, o₁₀) (length ys₁₀) ∷ held b₁₁ o₁₁ ys₁₁) Post)
   walk 𝓣 fm known-load known-store known-core =
-      qed W ((‵ (flft κ₀ q₀) ⊛ (‵ (flft κ₁ q₁) ⊛ (‵ (flft κ₂ q₂) ⊛ (‵ (flft κ₃ q₃) ⊛ (‵ (flft κ₄ q₄) ⊛ (‵ (flft κ₅ q₅) ⊛ (‵ (flft κ₆ q₆) ⊛ (‵ (flft κ₇ q₇) ⊛ (‵ (flft κ₈ q₈) ⊛ (‵ (flft κ₉ q₉) ⊛ (‵ (flft κ₁₀ q₁₀) ⊛ (‵ (flft κ₁₁ q₁₁) ⊛ ‵ ftrue)))))))))))) ∷ ‵ (owns (MutSlice (named 0) κ₀ u64 ∷ MutSlice (named 1) κ₁ u64 ∷ MutSlice (named 2) κ₂ u64 ∷ MutSlice (named 3) κ₃ u64 ∷ MutSlice (named 4) κ₄ u64 ∷ MutSlice (named 5) κ₅ R ∷ MutSlice (named 6) κ₆ u64 ∷ MutSlice (named 7) κ₇ u64 ∷ MutSlice (named 8) κ₈ R ∷ MutSlice (named 9) κ₉ u64 ∷ ShrSlice (named 10) κ₁₀ u64 ∷ MutSlice (named 11) κ₁₁ u64 ∷ []) (record { ptr = (b₀, o₀); name = γ₀; now = ys₀ }, (record { ptr = (b₁, o₁); name = γ₁; now = ys₁ }, (record { ptr = (b₂, o₂); name = γ₂; now = ys₂ }, (record { ptr = (b₃, o₃); name = γ₃; now = ys₃ }, (record { ptr = (b₄, o₄); name = γ₄; now = ys₄ }, (record { ptr = (b₅, o₅); name = γ₅; now = ys₅ }, (record { ptr = (b₆, o₆); name = γ₆; now = ys₆ }, (record { ptr = (b₇, o₇); name = γ₇; now = ys₇ }, (record { ptr = (b₈, o₈); name = γ₈; now = ys₈ }, (record { ptr = (b₉, o₉); name = γ₉; now = ys₉ }, (record { ptr = (b₁₀, o₁₀); name = γ₁₀; now = ys₁₀ }, (record { ptr = (b₁₁, o₁₁); name = γ₁₁; now = ys₁₁ }, tt)))))))))))) (sliceVal (b₀, o₀) (length ys₀) ∷ [], (sliceVal (b₁, o₁) (length ys₁) ∷ [], (sliceVal (b₂, o₂) (length ys₂) ∷ [], (sliceVal (b₃, o₃) (length ys₃) ∷ [], (sliceVal (b₄, o₄) (length ys₄) ∷ [], (sliceVal (b₅, o₅) (length ys₅) ∷ [], (sliceVal (b₆, o₆) (length ys₆) ∷ [], (sliceVal (b₇, o₇) (length ys₇) ∷ [], (sliceVal (b₈, o₈) (length ys₈) ∷ [], (sliceVal (b₉, o₉) (length ys₉) ∷ [], (sliceVal (b₁₀, o₁₀) (length ys₁₀) ∷ [], (sliceVal (b₁₁, o₁₁) (length ys₁₁) ∷ [], tt))))))))))))) ∷ []) ∵ enter ! (𝓣 .C) (𝓣 .Λ) code.function (sliceVal (b₀, o₀) (length ys₀) ∷ sliceVal (b₁, o₁) (length ys₁) ∷ sliceVal (b₂, o₂) (length ys₂) ∷ sliceVal (b₃, o₃) (length ys₃) ∷ sliceVal (b₄, o₄) (length ys₄) ∷ sliceVal (b₅, o₅) (length ys₅) ∷ sliceVal (b₆, o₆) (length ys₆) ∷ sliceVal (b₇, o₇) (length ys₇) ∷ sliceVal (b₈, o₈) (length ys₈) ∷ sliceVal (b₉, o₉) (length ys₉) ∷ sliceVal (b₁₀, o₁₀) (length ys₁₀) ∷ sliceVal (b₁₁, o₁₁) (length ys₁₁) ∷ []) _ $
+      qed W ((‵ (flft κ₀ q₀) ⊛ (‵ (flft κ₁ q₁) ⊛ (‵ (flft κ₂ q₂) ⊛ (‵ (flft κ₃ q₃) ⊛ (‵ (flft κ₄ q₄) ⊛ (‵ (flft κ₅ q₅) ⊛ (‵ (flft κ₆ q₆) ⊛ (‵ (flft κ₇ q₇) ⊛ (‵ (flft κ₈ q₈) ⊛ (‵ (flft κ₉ q₉) ⊛ (‵ (flft κ₁₀ q₁₀) ⊛ (‵ (flft κ₁₁ q₁₁) ⊛ ‵ ftrue)))))))))))) ∷ ‵ (owns (MutSlice (named 0) κ₀ u64 ∷ MutSlice (named 1) κ₁ u64 ∷ MutSlice (named 2) κ₂ u64 ∷ MutSlice (named 3) κ₃ u64 ∷ MutSlice (named 4) κ₄ u64 ∷ MutSlice (named 5) κ₅ R ∷ MutSlice (named 6) κ₆ u64 ∷ MutSlice (named 7) κ₇ u64 ∷ MutSlice (named 8) κ₈ R ∷ MutSlice (named 9) κ₉ u64 ∷ ShrSlice (named 10) κ₁₀ u64 ∷ MutSlice (named 11) κ₁₁ u64 ∷ []) (at b₀ o₀ γ₀ ys₀, (at b₁ o₁ γ₁ ys₁, (at b₂ o₂ γ₂ ys₂, (at b₃ o₃ γ₃ ys₃, (at b₄ o₄ γ₄ ys₄, (at b₅ o₅ γ₅ ys₅, (at b₆ o₆ γ₆ ys₆, (at b₇ o₇ γ₇ ys₇, (at b₈ o₈ γ₈ ys₈, (at b₉ o₉ γ₉ ys₉, (at b₁₀ o₁₀ γ₁₀ ys₁₀, (at b₁₁ o₁₁ γ₁₁ ys₁₁, tt)))))))))))) (held b₀ o₀ ys₀, (held b₁ o₁ ys₁, (held b₂ o₂ ys₂, (held b₃ o₃ ys₃, (held b₄ o₄ ys₄, (held b₅ o₅ ys₅, (held b₆ o₆ ys₆, (held b₇ o₇ ys₇, (held b₈ o₈ ys₈, (held b₉ o₉ ys₉, (held b₁₀ o₁₀ ys₁₀, (held b₁₁ o₁₁ ys₁₁, tt))))))))))))) ∷ []) ∵ enter ! (𝓣 .C) (𝓣 .Λ) code.function (sliceVal (b₀, o₀) (length ys₀) ∷ sliceVal (b₁, o₁) (length ys₁) ∷ sliceVal (b₂, o₂) (length ys₂) ∷ sliceVal (b₃, o₃) (length ys₃) ∷ sliceVal (b₄, o₄) (length ys₄) ∷ sliceVal (b₅, o₅) (length ys₅) ∷ sliceVal (b₆, o₆) (length ys₆) ∷ sliceVal (b₇, o₇) (length ys₇) ∷ sliceVal (b₈, o₈) (length ys₈) ∷ sliceVal (b₉, o₉) (length ys₉) ∷ sliceVal (b₁₀, o₁₀) (length ys₁₀) ∷ held b₁₁ o₁₁ ys₁₁) _ $
       alloc-all ! (λ l₀ l₁ l₂ l₃ l₄ l₅ l₆ l₇ l₈ l₉ l₁₀ l₁₁ l₁₂ l₁₃ l₁₄ l₁₅ l₁₆ l₁₇ l₁₈ l₁₉ l₂₀ l₂₁ l₂₂ l₂₃ l₂₄ l₂₅ l₂₆ l₂₇ l₂₈ l₂₉ l₃₀ l₃₁ l₃₂ l₃₃ l₃₄ l₃₅ l₃₆ l₃₇ l₃₈ l₃₉ l₄₀ l₄₁ l₄₂ l₄₃ l₄₄ Dies dies.
       params1 ! $
       pass-all ! 43 ((refl, (tt, (tt, (record { fits = g₀ .0 }, tt)))), ((refl, (tt, (tt, (record { fits = g₁ .0 }, tt)))), ((refl, (tt, (tt, (record { fits = g₂ .0 }, tt)))), ((refl, (tt, (tt, (record { fits = g₃ .0 }, tt)))), ((refl, (tt, (tt, (record { fits = g₄ .0 }, tt)))), ((refl, (tt, (tt, (record { fits = g₅ .0 }, tt)))), ((refl, (tt, (tt, (record { fits = g₆ .0 }, tt)))), ((refl, (tt, (tt, (record { fits = g₇ .0 }, tt)))), ((refl, (tt, (tt, (record { fits = g₈ .0 }, tt)))), ((refl, (tt, (tt, (record { fits = g₉ .0 }, tt)))), ((refl, (tt, (tt, (record { fits = g₁₀ .0 }, tt)))), ((refl, (tt, (tt, (record { fits = g₁₁ .0 }, tt)))), tt)))))))))))) $
@@ -153,34 +153,34 @@ module _ {M : Type 1} (𝓤 : URA M) (H : Heap 𝓤) (A : Atoms 𝓤) (W : Given
       assigns ! (agg ! (and-then ! (load ! (from ! (stop !)) (look ! 50 refl)) (and-then ! (load ! (from ! (fld ! refl (stop !))) (look-in ! 62 (sub ! 1 refl (whole !)))) (no-more !)))) (from ! (stop !)) (init ! 49 refl (tt, (tt, (record { fits = g₅ .0 }, tt)))) $
       lft-new ! tt (λ ν₁.
       move ! (11 ∷ 12 ∷ []) $
-      use2 W (later (some (λ (δ : GName). ‵ (ShrSlice (named 0) (ν₁ ∷ []) R .own (record { ptr = (b₅, o₅); name = δ; now = ys₅ }) (sliceVal (b₅, o₅) (length ys₅) ∷ [])) ⊛ ‵ (SharedOut R κ₅ (ν₁ ∷ []) q₅ γ₅ b₅ o₅ ys₅)))) (lends-shared R κ₅ (ν₁ ∷ []) q₅ γ₅ b₅ o₅ ys₅ 𝓤 H A W (named 5) (named 0)) $ await ! tt $ pick ! (λ δ₁. split ! $
+      use2 W (later (some (λ (δ : GName). ‵ (ShrSlice (named 0) (ν₁ ∷ []) R .own (at b₅ o₅ δ ys₅) (held b₅ o₅ ys₅)) ⊛ ‵ (SharedOut R κ₅ (ν₁ ∷ []) q₅ γ₅ b₅ o₅ ys₅)))) (lends-shared R κ₅ (ν₁ ∷ []) q₅ γ₅ b₅ o₅ ys₅ 𝓤 H A W (named 5) (named 0)) $ await ! tt $ pick ! (λ δ₁. split ! $
       move ! (2 ∷ 0 ∷ []) $
       use2 W (raw (Load 𝓤 H A mem run .pre (to-load-1 ν₁ δ₁))) (goes-1 ν₁ δ₁) $
       calls-at ! fm (Load 𝓤 H A mem run) known-load (to-load-1 ν₁ δ₁) (and-then ! (load ! (from ! (stop !)) (look ! 49 refl)) (no-more !)) (λ v₁.
-      use1 W (later (some (λ (r : List ℕ). ((‵ (flft (ν₁ ∷ []) fullShare) ⊛ ‵ ftrue) ⊛ ‵ (Row .own r (v₁ ∷ []))) ⊛ raw (ensured 𝓤 H A load′.ended (load′.clauses 𝓤 H A mem run) (ν₁ ∷ [], tt) (record { ptr = (b₅, o₅); name = δ₁; now = ys₅ }, tt) tt r)))) (id⊢ 𝓤 _) $ await ! tt $ pick ! (λ c₁.
-      split ! $ move ! (1 ∷ []) $ use1 W (raw (fact 𝓤 ((c₁ ≡ loaded ys₅) × AllFit ys₅))) (load-of 𝓤 H A mem run (ν₁ ∷ [], tt) (record { ptr = (b₅, o₅); name = δ₁; now = ys₅ }) c₁) $ heard ! ((c₁ ≡ loaded ys₅) × AllFit ys₅) (λ e₁. split ! $
+      use1 W (later (some (λ (r : List ℕ). ((‵ (flft (ν₁ ∷ []) fullShare) ⊛ ‵ ftrue) ⊛ ‵ (Row .own r (v₁ ∷ []))) ⊛ raw (ensured 𝓤 H A load′.ended (load′.clauses 𝓤 H A mem run) (ν₁ ∷ [], tt) (at b₅ o₅ δ₁ ys₅, tt) tt r)))) (id⊢ 𝓤 _) $ await ! tt $ pick ! (λ c₁.
+      split ! $ move ! (1 ∷ []) $ use1 W (raw (fact 𝓤 ((c₁ ≡ loaded ys₅) × AllFit ys₅))) (load-of 𝓤 H A mem run (ν₁ ∷ [], tt) (at b₅ o₅ δ₁ ys₅) c₁) $ heard ! ((c₁ ≡ loaded ys₅) × AllFit ys₅) (λ e₁. split ! $
       move ! (1 ∷ []) $
       facts ! Row (Is Row) (shows 𝓤 H A Row) c₁ (v₁ ∷ []) (λ i₁. split ! $
       land ! (from ! (stop !)) (init ! 54 refl (row-typed 𝓤 H A W c₁ v₁ i₁)) $ lft-end ! tt $
       move ! (0 ∷ 2 ∷ []) $
-      use2 W (later (‵ (MutSlice (named 5) κ₅ R .own (record { ptr = (b₅, o₅); name = γ₅; now = ys₅ }) (sliceVal (b₅, o₅) (length ys₅) ∷ [])) ⊛ ‵ (flft κ₅ q₅))) (shared-back R κ₅ (ν₁ ∷ []) q₅ γ₅ b₅ o₅ ys₅ 𝓤 H A W (named 5) (named 0) g₅) $ await ! tt $ split ! $
+      use2 W (later (‵ (MutSlice (named 5) κ₅ R .own (at b₅ o₅ γ₅ ys₅) (held b₅ o₅ ys₅)) ⊛ ‵ (flft κ₅ q₅))) (shared-back R κ₅ (ν₁ ∷ []) q₅ γ₅ b₅ o₅ ys₅ 𝓤 H A W (named 5) (named 0) g₅) $ await ! tt $ split ! $
       move ! (2 ∷ []) $
       drop ! $
       assigns ! (addr ! (from ! (fld ! refl (hop ! (look-in ! 59 (sub ! 0 refl (whole !))) (stop !))))) (from ! (stop !)) (init ! 48 refl (tt, tt)) $
       assigns ! (agg ! (and-then ! (load ! (from ! (stop !)) (look ! 48 refl)) (and-then ! (load ! (from ! (fld ! refl (stop !))) (look-in ! 59 (sub ! 1 refl (whole !)))) (no-more !)))) (from ! (stop !)) (init ! 47 refl (tt, (tt, (record { fits = g₈ .0 }, tt)))) $
       lft-new ! tt (λ ν₂.
       move ! (17 ∷ 18 ∷ []) $
-      use2 W (later (some (λ (δ : GName). ‵ (ShrSlice (named 0) (ν₂ ∷ []) R .own (record { ptr = (b₈, o₈); name = δ; now = ys₈ }) (sliceVal (b₈, o₈) (length ys₈) ∷ [])) ⊛ ‵ (SharedOut R κ₈ (ν₂ ∷ []) q₈ γ₈ b₈ o₈ ys₈)))) (lends-shared R κ₈ (ν₂ ∷ []) q₈ γ₈ b₈ o₈ ys₈ 𝓤 H A W (named 8) (named 0)) $ await ! tt $ pick ! (λ δ₂. split ! $
+      use2 W (later (some (λ (δ : GName). ‵ (ShrSlice (named 0) (ν₂ ∷ []) R .own (at b₈ o₈ δ ys₈) (held b₈ o₈ ys₈)) ⊛ ‵ (SharedOut R κ₈ (ν₂ ∷ []) q₈ γ₈ b₈ o₈ ys₈)))) (lends-shared R κ₈ (ν₂ ∷ []) q₈ γ₈ b₈ o₈ ys₈ 𝓤 H A W (named 8) (named 0)) $ await ! tt $ pick ! (λ δ₂. split ! $
       move ! (2 ∷ 0 ∷ []) $
       use2 W (raw (Load 𝓤 H A mem run .pre (to-load-2 ν₂ δ₂))) (goes-2 ν₂ δ₂) $
       calls-at ! fm (Load 𝓤 H A mem run) known-load (to-load-2 ν₂ δ₂) (and-then ! (load ! (from ! (stop !)) (look ! 47 refl)) (no-more !)) (λ v₂.
-      use1 W (later (some (λ (r : List ℕ). ((‵ (flft (ν₂ ∷ []) fullShare) ⊛ ‵ ftrue) ⊛ ‵ (Row .own r (v₂ ∷ []))) ⊛ raw (ensured 𝓤 H A load′.ended (load′.clauses 𝓤 H A mem run) (ν₂ ∷ [], tt) (record { ptr = (b₈, o₈); name = δ₂; now = ys₈ }, tt) tt r)))) (id⊢ 𝓤 _) $ await ! tt $ pick ! (λ c₂.
-      split ! $ move ! (1 ∷ []) $ use1 W (raw (fact 𝓤 ((c₂ ≡ loaded ys₈) × AllFit ys₈))) (load-of 𝓤 H A mem run (ν₂ ∷ [], tt) (record { ptr = (b₈, o₈); name = δ₂; now = ys₈ }) c₂) $ heard ! ((c₂ ≡ loaded ys₈) × AllFit ys₈) (λ e₂. split ! $
+      use1 W (later (some (λ (r : List ℕ). ((‵ (flft (ν₂ ∷ []) fullShare) ⊛ ‵ ftrue) ⊛ ‵ (Row .own r (v₂ ∷ []))) ⊛ raw (ensured 𝓤 H A load′.ended (load′.clauses 𝓤 H A mem run) (ν₂ ∷ [], tt) (at b₈ o₈ δ₂ ys₈, tt) tt r)))) (id⊢ 𝓤 _) $ await ! tt $ pick ! (λ c₂.
+      split ! $ move ! (1 ∷ []) $ use1 W (raw (fact 𝓤 ((c₂ ≡ loaded ys₈) × AllFit ys₈))) (load-of 𝓤 H A mem run (ν₂ ∷ [], tt) (at b₈ o₈ δ₂ ys₈) c₂) $ heard ! ((c₂ ≡ loaded ys₈) × AllFit ys₈) (λ e₂. split ! $
       move ! (1 ∷ []) $
       facts ! Row (Is Row) (shows 𝓤 H A Row) c₂ (v₂ ∷ []) (λ i₂. split ! $
       land ! (from ! (stop !)) (init ! 53 refl (row-typed 𝓤 H A W c₂ v₂ i₂)) $ lft-end ! tt $
       move ! (0 ∷ 2 ∷ []) $
-      use2 W (later (‵ (MutSlice (named 8) κ₈ R .own (record { ptr = (b₈, o₈); name = γ₈; now = ys₈ }) (sliceVal (b₈, o₈) (length ys₈) ∷ [])) ⊛ ‵ (flft κ₈ q₈))) (shared-back R κ₈ (ν₂ ∷ []) q₈ γ₈ b₈ o₈ ys₈ 𝓤 H A W (named 8) (named 0) g₈) $ await ! tt $ split ! $
+      use2 W (later (‵ (MutSlice (named 8) κ₈ R .own (at b₈ o₈ γ₈ ys₈) (held b₈ o₈ ys₈)) ⊛ ‵ (flft κ₈ q₈))) (shared-back R κ₈ (ν₂ ∷ []) q₈ γ₈ b₈ o₈ ys₈ 𝓤 H A W (named 8) (named 0) g₈) $ await ! tt $ split ! $
       move ! (2 ∷ []) $
       drop ! $
       assigns ! (addr ! (from ! (fld ! refl (hop ! (look-in ! 67 (sub ! 0 refl (whole !))) (stop !))))) (from ! (stop !)) (init ! 46 refl (tt, tt)) $
@@ -204,8 +204,8 @@ module _ {M : Type 1} (𝓤 : URA M) (H : Heap 𝓤) (A : Atoms 𝓤) (W : Given
       move ! (5 ∷ 7 ∷ 9 ∷ 11 ∷ 13 ∷ 15 ∷ 17 ∷ 19 ∷ 21 ∷ 23 ∷ 4 ∷ 6 ∷ 8 ∷ 10 ∷ 12 ∷ 14 ∷ 16 ∷ 18 ∷ 20 ∷ 22 ∷ []) $
       group ! 20 $ use1 W (raw (Core 𝓤 H A mem run .pre (to-core c₁ v₁ i₁ c₂ v₂ i₂))) (goes-core c₁ v₁ i₁ c₂ v₂ i₂) $
       calls-at ! fm (Core 𝓤 H A mem run) known-core (to-core c₁ v₁ i₁ c₂ v₂ i₂) (and-then ! (load ! (from ! (stop !)) (look ! 26 refl)) (and-then ! (load ! (from ! (stop !)) (look ! 24 refl)) (and-then ! (load ! (from ! (stop !)) (look ! 22 refl)) (and-then ! (load ! (from ! (stop !)) (look ! 20 refl)) (and-then ! (load ! (from ! (stop !)) (look ! 18 refl)) (and-then ! (load ! (from ! (stop !)) (look ! 16 refl)) (and-then ! (load ! (from ! (stop !)) (look ! 14 refl)) (and-then ! (load ! (from ! (stop !)) (look ! 12 refl)) (and-then ! (load ! (from ! (stop !)) (look ! 38 refl)) (and-then ! (load ! (from ! (stop !)) (look ! 10 refl)) (and-then ! (load ! (from ! (stop !)) (look ! 36 refl)) (and-then ! (load ! (from ! (stop !)) (look ! 35 refl)) (and-then ! (load ! (from ! (stop !)) (look ! 34 refl)) (and-then ! (load ! (from ! (stop !)) (look ! 33 refl)) (no-more !))))))))))))))) (λ vo.
-      use1 W (later (some (λ (out : Finished). ((‵ (flft κ₀ q₀) ⊛ (‵ (flft κ₁ q₁) ⊛ (‵ (flft κ₂ q₂) ⊛ (‵ (flft κ₃ q₃) ⊛ (‵ (flft κ₄ q₄) ⊛ (‵ (flft κ₆ q₆) ⊛ (‵ (flft κ₇ q₇) ⊛ (‵ (flft κ₉ q₉) ⊛ (‵ (flft κ₁₀ q₁₀) ⊛ (‵ (flft κ₁₁ q₁₁) ⊛ ‵ ftrue)))))))))) ⊛ ‵ (Or .own out (vo ∷ []))) ⊛ raw (ensured 𝓤 H A core′.ended (core′.clauses 𝓤 H A mem run) (κ₀, (κ₁, (κ₂, (κ₃, (κ₄, (κ₆, (κ₇, (κ₉, (κ₁₀, (κ₁₁, tt)))))))))) (record { ptr = (b₀, o₀); name = γ₀; now = ys₀ }, (record { ptr = (b₁, o₁); name = γ₁; now = ys₁ }, (record { ptr = (b₂, o₂); name = γ₂; now = ys₂ }, (record { ptr = (b₃, o₃); name = γ₃; now = ys₃ }, (record { ptr = (b₄, o₄); name = γ₄; now = ys₄ }, (record { ptr = (b₆, o₆); name = γ₆; now = ys₆ }, (record { ptr = (b₇, o₇); name = γ₇; now = ys₇ }, (record { ptr = (b₉, o₉); name = γ₉; now = ys₉ }, (record { ptr = (b₁₀, o₁₀); name = γ₁₀; now = ys₁₀ }, (record { ptr = (b₁₁, o₁₁); name = γ₁₁; now = ys₁₁ }, (length ys₅, (length ys₈, (c₁, (c₂, tt)))))))))))))) tt out)))) (id⊢ 𝓤 _) $ await ! tt $ pick ! (λ out.
-      split ! $ move ! (1 ∷ []) $ use1 W (some (λ (zc : Lasts core′.ended (κ₀, (κ₁, (κ₂, (κ₃, (κ₄, (κ₆, (κ₇, (κ₉, (κ₁₀, (κ₁₁, tt)))))))))) (record { ptr = (b₀, o₀); name = γ₀; now = ys₀ }, (record { ptr = (b₁, o₁); name = γ₁; now = ys₁ }, (record { ptr = (b₂, o₂); name = γ₂; now = ys₂ }, (record { ptr = (b₃, o₃); name = γ₃; now = ys₃ }, (record { ptr = (b₄, o₄); name = γ₄; now = ys₄ }, (record { ptr = (b₆, o₆); name = γ₆; now = ys₆ }, (record { ptr = (b₇, o₇); name = γ₇; now = ys₇ }, (record { ptr = (b₉, o₉); name = γ₉; now = ys₉ }, (record { ptr = (b₁₀, o₁₀); name = γ₁₀; now = ys₁₀ }, (record { ptr = (b₁₁, o₁₁); name = γ₁₁; now = ys₁₁ }, (length ys₅, (length ys₈, (c₁, (c₂, tt))))))))))))))). ‵ (lasts core′.ended (κ₀, (κ₁, (κ₂, (κ₃, (κ₄, (κ₆, (κ₇, (κ₉, (κ₁₀, (κ₁₁, tt)))))))))) (record { ptr = (b₀, o₀); name = γ₀; now = ys₀ }, (record { ptr = (b₁, o₁); name = γ₁; now = ys₁ }, (record { ptr = (b₂, o₂); name = γ₂; now = ys₂ }, (record { ptr = (b₃, o₃); name = γ₃; now = ys₃ }, (record { ptr = (b₄, o₄); name = γ₄; now = ys₄ }, (record { ptr = (b₆, o₆); name = γ₆; now = ys₆ }, (record { ptr = (b₇, o₇); name = γ₇; now = ys₇ }, (record { ptr = (b₉, o₉); name = γ₉; now = ys₉ }, (record { ptr = (b₁₀, o₁₀); name = γ₁₀; now = ys₁₀ }, (record { ptr = (b₁₁, o₁₁); name = γ₁₁; now = ys₁₁ }, (length ys₅, (length ys₈, (c₁, (c₂, tt)))))))))))))) zc) ⊛ raw (fact 𝓤 (Judgement (Whole (length ys₅) (length ys₈) × OperationAsked same (box ys₀ ys₁ ys₂ ys₃ ys₄ c₁ ys₆ ys₇ c₂ ys₉) ys₁₀ ys₁₁) (operationGives same same (box ys₀ ys₁ ys₂ ys₃ ys₄ c₁ ys₆ ys₇ c₂ ys₉) ys₁₀ ys₁₁) (operationRefused (box ys₀ ys₁ ys₂ ys₃ ys₄ c₁ ys₆ ys₇ c₂ ys₉) ys₁₁) (given (out .number) (zc .1 .1 .1 .1 .1 .1 .1 .1 .1 .0) (box (zc .0) (zc .1 .0) (zc .1 .1 .0) (zc .1 .1 .1 .0) (zc .1 .1 .1 .1 .0) (out .cpu) (zc .1 .1 .1 .1 .1 .0) (zc .1 .1 .1 .1 .1 .1 .0) (out .dma) (zc .1 .1 .1 .1 .1 .1 .1 .0))))))) (id⊢ 𝓤 _) $ pick ! (λ zc. split ! $ move ! (1 ∷ []) $ heard ! (Judgement (Whole (length ys₅) (length ys₈) × OperationAsked same (box ys₀ ys₁ ys₂ ys₃ ys₄ c₁ ys₆ ys₇ c₂ ys₉) ys₁₀ ys₁₁) (operationGives same same (box ys₀ ys₁ ys₂ ys₃ ys₄ c₁ ys₆ ys₇ c₂ ys₉) ys₁₀ ys₁₁) (operationRefused (box ys₀ ys₁ ys₂ ys₃ ys₄ c₁ ys₆ ys₇ c₂ ys₉) ys₁₁) (given (out .number) (zc .1 .1 .1 .1 .1 .1 .1 .1 .1 .0) (box (zc .0) (zc .1 .0) (zc .1 .1 .0) (zc .1 .1 .1 .0) (zc .1 .1 .1 .1 .0) (out .cpu) (zc .1 .1 .1 .1 .1 .0) (zc .1 .1 .1 .1 .1 .1 .0) (out .dma) (zc .1 .1 .1 .1 .1 .1 .1 .0)))) (λ ec.
+      use1 W (later (some (λ (out : Finished). ((‵ (flft κ₀ q₀) ⊛ (‵ (flft κ₁ q₁) ⊛ (‵ (flft κ₂ q₂) ⊛ (‵ (flft κ₃ q₃) ⊛ (‵ (flft κ₄ q₄) ⊛ (‵ (flft κ₆ q₆) ⊛ (‵ (flft κ₇ q₇) ⊛ (‵ (flft κ₉ q₉) ⊛ (‵ (flft κ₁₀ q₁₀) ⊛ (‵ (flft κ₁₁ q₁₁) ⊛ ‵ ftrue)))))))))) ⊛ ‵ (Or .own out (vo ∷ []))) ⊛ raw (ensured 𝓤 H A core′.ended (core′.clauses 𝓤 H A mem run) (κ₀, (κ₁, (κ₂, (κ₃, (κ₄, (κ₆, (κ₇, (κ₉, (κ₁₀, (κ₁₁, tt)))))))))) (at b₀ o₀ γ₀ ys₀, (at b₁ o₁ γ₁ ys₁, (at b₂ o₂ γ₂ ys₂, (at b₃ o₃ γ₃ ys₃, (at b₄ o₄ γ₄ ys₄, (at b₆ o₆ γ₆ ys₆, (at b₇ o₇ γ₇ ys₇, (at b₉ o₉ γ₉ ys₉, (at b₁₀ o₁₀ γ₁₀ ys₁₀, (at b₁₁ o₁₁ γ₁₁ ys₁₁, (length ys₅, (length ys₈, (c₁, (c₂, tt)))))))))))))) tt out)))) (id⊢ 𝓤 _) $ await ! tt $ pick ! (λ out.
+      split ! $ move ! (1 ∷ []) $ use1 W (some (λ (zc : Lasts core′.ended (κ₀, (κ₁, (κ₂, (κ₃, (κ₄, (κ₆, (κ₇, (κ₉, (κ₁₀, (κ₁₁, tt)))))))))) (at b₀ o₀ γ₀ ys₀, (at b₁ o₁ γ₁ ys₁, (at b₂ o₂ γ₂ ys₂, (at b₃ o₃ γ₃ ys₃, (at b₄ o₄ γ₄ ys₄, (at b₆ o₆ γ₆ ys₆, (at b₇ o₇ γ₇ ys₇, (at b₉ o₉ γ₉ ys₉, (at b₁₀ o₁₀ γ₁₀ ys₁₀, (at b₁₁ o₁₁ γ₁₁ ys₁₁, (length ys₅, (length ys₈, (c₁, (c₂, tt))))))))))))))). ‵ (lasts core′.ended (κ₀, (κ₁, (κ₂, (κ₃, (κ₄, (κ₆, (κ₇, (κ₉, (κ₁₀, (κ₁₁, tt)))))))))) (at b₀ o₀ γ₀ ys₀, (at b₁ o₁ γ₁ ys₁, (at b₂ o₂ γ₂ ys₂, (at b₃ o₃ γ₃ ys₃, (at b₄ o₄ γ₄ ys₄, (at b₆ o₆ γ₆ ys₆, (at b₇ o₇ γ₇ ys₇, (at b₉ o₉ γ₉ ys₉, (at b₁₀ o₁₀ γ₁₀ ys₁₀, (at b₁₁ o₁₁ γ₁₁ ys₁₁, (length ys₅, (length ys₈, (c₁, (c₂, tt)))))))))))))) zc) ⊛ raw (fact 𝓤 (Judgement (Whole (length ys₅) (length ys₈) × OperationAsked same (box ys₀ ys₁ ys₂ ys₃ ys₄ c₁ ys₆ ys₇ c₂ ys₉) ys₁₀ ys₁₁) (operationGives same same (box ys₀ ys₁ ys₂ ys₃ ys₄ c₁ ys₆ ys₇ c₂ ys₉) ys₁₀ ys₁₁) (operationRefused (box ys₀ ys₁ ys₂ ys₃ ys₄ c₁ ys₆ ys₇ c₂ ys₉) ys₁₁) (given (out .number) (zc .1 .1 .1 .1 .1 .1 .1 .1 .1 .0) (box (zc .0) (zc .1 .0) (zc .1 .1 .0) (zc .1 .1 .1 .0) (zc .1 .1 .1 .1 .0) (out .cpu) (zc .1 .1 .1 .1 .1 .0) (zc .1 .1 .1 .1 .1 .1 .0) (out .dma) (zc .1 .1 .1 .1 .1 .1 .1 .0))))))) (id⊢ 𝓤 _) $ pick ! (λ zc. split ! $ move ! (1 ∷ []) $ heard ! (Judgement (Whole (length ys₅) (length ys₈) × OperationAsked same (box ys₀ ys₁ ys₂ ys₃ ys₄ c₁ ys₆ ys₇ c₂ ys₉) ys₁₀ ys₁₁) (operationGives same same (box ys₀ ys₁ ys₂ ys₃ ys₄ c₁ ys₆ ys₇ c₂ ys₉) ys₁₀ ys₁₁) (operationRefused (box ys₀ ys₁ ys₂ ys₃ ys₄ c₁ ys₆ ys₇ c₂ ys₉) ys₁₁) (given (out .number) (zc .1 .1 .1 .1 .1 .1 .1 .1 .1 .0) (box (zc .0) (zc .1 .0) (zc .1 .1 .0) (zc .1 .1 .1 .0) (zc .1 .1 .1 .1 .0) (out .cpu) (zc .1 .1 .1 .1 .1 .0) (zc .1 .1 .1 .1 .1 .1 .0) (out .dma) (zc .1 .1 .1 .1 .1 .1 .1 .0)))) (λ ec.
       last-eq ! (λ h₀.
       last-eq ! (λ h₁.
       last-eq ! (λ h₂.
@@ -231,8 +231,8 @@ module _ {M : Type 1} (𝓤 : URA M) (H : Heap 𝓤) (A : Atoms 𝓤) (W : Given
       move ! (22 ∷ 21 ∷ []) $
       use2 W (raw (Store 𝓤 H A mem run .pre (to-store-4 out))) (goes-4 out (field-row (out .cpu) (array-vals (uint-vals w64) (field-words (out .cpu))) (LL.owed O.the-type O′.the-laws out (vo ∷ []) io .0))) $
       calls-at ! fm (Store 𝓤 H A mem run) known-store (to-store-4 out) (and-then ! (load ! (from ! (stop !)) (look ! 24 refl)) (and-then ! (load ! (from ! (fld ! refl (stop !))) (look-in ! 49 (sub ! 0 refl (whole !)))) (no-more !))) (λ v₄.
-      use1 W (later (some (λ (r : Unit {0}). ((‵ (flft κ₅ q₅) ⊛ ‵ ftrue) ⊛ ‵ (Nothing .own r (v₄ ∷ []))) ⊛ raw (ensured 𝓤 H A store′.ended (store′.clauses 𝓤 H A mem run) (κ₅, tt) (record { ptr = (b₅, o₅); name = γ₅; now = ys₅ }, (out .cpu, tt)) tt r)))) (id⊢ 𝓤 _) $ await ! tt $ pick ! (λ r₄.
-      split ! $ move ! (1 ∷ []) $ use1 W (some (λ (z₄ : Lasts store′.ended (κ₅, tt) (record { ptr = (b₅, o₅); name = γ₅; now = ys₅ }, (out .cpu, tt))). ‵ (lasts store′.ended (κ₅, tt) (record { ptr = (b₅, o₅); name = γ₅; now = ys₅ }, (out .cpu, tt)) z₄) ⊛ raw (fact 𝓤 (z₄ .0 ≡ stored (out .cpu) ys₅)))) (id⊢ 𝓤 _) $ pick ! (λ z₄. split ! $ move ! (1 ∷ []) $ heard ! (z₄ .0 ≡ stored (out .cpu) ys₅) (λ e₄.
+      use1 W (later (some (λ (r : Unit {0}). ((‵ (flft κ₅ q₅) ⊛ ‵ ftrue) ⊛ ‵ (Nothing .own r (v₄ ∷ []))) ⊛ raw (ensured 𝓤 H A store′.ended (store′.clauses 𝓤 H A mem run) (κ₅, tt) (at b₅ o₅ γ₅ ys₅, (out .cpu, tt)) tt r)))) (id⊢ 𝓤 _) $ await ! tt $ pick ! (λ r₄.
+      split ! $ move ! (1 ∷ []) $ use1 W (some (λ (z₄ : Lasts store′.ended (κ₅, tt) (at b₅ o₅ γ₅ ys₅, (out .cpu, tt))). ‵ (lasts store′.ended (κ₅, tt) (at b₅ o₅ γ₅ ys₅, (out .cpu, tt)) z₄) ⊛ raw (fact 𝓤 (z₄ .0 ≡ stored (out .cpu) ys₅)))) (id⊢ 𝓤 _) $ pick ! (λ z₄. split ! $ move ! (1 ∷ []) $ heard ! (z₄ .0 ≡ stored (out .cpu) ys₅) (λ e₄.
       last-eq ! (λ h₅.
       drop ! $
       move ! (1 ∷ []) $
@@ -247,8 +247,8 @@ module _ {M : Type 1} (𝓤 : URA M) (H : Heap 𝓤) (A : Atoms 𝓤) (W : Given
       move ! (22 ∷ 21 ∷ []) $
       use2 W (raw (Store 𝓤 H A mem run .pre (to-store-5 out))) (goes-5 out (field-row (out .dma) (array-vals (uint-vals w64) (field-words (out .dma))) (LL.owed O.the-type O′.the-laws out (vo ∷ []) io .1 .0))) $
       calls-at ! fm (Store 𝓤 H A mem run) known-store (to-store-5 out) (and-then ! (load ! (from ! (stop !)) (look ! 22 refl)) (and-then ! (load ! (from ! (fld ! refl (stop !))) (look-in ! 49 (sub ! 1 refl (whole !)))) (no-more !))) (λ v₅.
-      use1 W (later (some (λ (r : Unit {0}). ((‵ (flft κ₈ q₈) ⊛ ‵ ftrue) ⊛ ‵ (Nothing .own r (v₅ ∷ []))) ⊛ raw (ensured 𝓤 H A store′.ended (store′.clauses 𝓤 H A mem run) (κ₈, tt) (record { ptr = (b₈, o₈); name = γ₈; now = ys₈ }, (out .dma, tt)) tt r)))) (id⊢ 𝓤 _) $ await ! tt $ pick ! (λ r₅.
-      split ! $ move ! (1 ∷ []) $ use1 W (some (λ (z₅ : Lasts store′.ended (κ₈, tt) (record { ptr = (b₈, o₈); name = γ₈; now = ys₈ }, (out .dma, tt))). ‵ (lasts store′.ended (κ₈, tt) (record { ptr = (b₈, o₈); name = γ₈; now = ys₈ }, (out .dma, tt)) z₅) ⊛ raw (fact 𝓤 (z₅ .0 ≡ stored (out .dma) ys₈)))) (id⊢ 𝓤 _) $ pick ! (λ z₅. split ! $ move ! (1 ∷ []) $ heard ! (z₅ .0 ≡ stored (out .dma) ys₈) (λ e₅.
+      use1 W (later (some (λ (r : Unit {0}). ((‵ (flft κ₈ q₈) ⊛ ‵ ftrue) ⊛ ‵ (Nothing .own r (v₅ ∷ []))) ⊛ raw (ensured 𝓤 H A store′.ended (store′.clauses 𝓤 H A mem run) (κ₈, tt) (at b₈ o₈ γ₈ ys₈, (out .dma, tt)) tt r)))) (id⊢ 𝓤 _) $ await ! tt $ pick ! (λ r₅.
+      split ! $ move ! (1 ∷ []) $ use1 W (some (λ (z₅ : Lasts store′.ended (κ₈, tt) (at b₈ o₈ γ₈ ys₈, (out .dma, tt))). ‵ (lasts store′.ended (κ₈, tt) (at b₈ o₈ γ₈ ys₈, (out .dma, tt)) z₅) ⊛ raw (fact 𝓤 (z₅ .0 ≡ stored (out .dma) ys₈)))) (id⊢ 𝓤 _) $ pick ! (λ z₅. split ! $ move ! (1 ∷ []) $ heard ! (z₅ .0 ≡ stored (out .dma) ys₈) (λ e₅.
       last-eq ! (λ h₈.
       drop ! $
       move ! (1 ∷ []) $
@@ -262,7 +262,7 @@ module _ {M : Type 1} (𝓤 : URA M) (H : Heap 𝓤) (A : Atoms 𝓤) (W : Given
       returns ! (look ! 67 refl) $
       move ! (68 ∷ 67 ∷ 66 ∷ 65 ∷ 64 ∷ 63 ∷ 62 ∷ 61 ∷ 60 ∷ 59 ∷ 58 ∷ 57 ∷ 56 ∷ 55 ∷ 54 ∷ 53 ∷ 52 ∷ 51 ∷ 50 ∷ 49 ∷ 48 ∷ 47 ∷ 46 ∷ 45 ∷ 44 ∷ 43 ∷ 42 ∷ 41 ∷ 40 ∷ 39 ∷ 38 ∷ 37 ∷ 36 ∷ 35 ∷ 34 ∷ 33 ∷ 32 ∷ 31 ∷ 30 ∷ 29 ∷ 28 ∷ 27 ∷ 26 ∷ 25 ∷ 24 ∷ 23 ∷ []) $
       free-all W ! ((_, _, _) ∷ (_, _, _) ∷ (_, _, _) ∷ (_, _, _) ∷ (_, _, _) ∷ (_, _, _) ∷ (_, _, _) ∷ (_, _, _) ∷ (_, _, _) ∷ (_, _, _) ∷ (_, _, _) ∷ (_, _, _) ∷ (_, _, _) ∷ (_, _, _) ∷ (_, _, _) ∷ (_, _, _) ∷ (_, _, _) ∷ (_, _, _) ∷ (_, _, _) ∷ (_, _, _) ∷ (_, _, _) ∷ (_, _, _) ∷ (_, _, _) ∷ (_, _, _) ∷ (_, _, _) ∷ (_, _, _) ∷ (_, _, _) ∷ (_, _, _) ∷ (_, _, _) ∷ (_, _, _) ∷ (_, _, _) ∷ (_, _, _) ∷ (_, _, _) ∷ (_, _, _) ∷ (_, _, _) ∷ (_, _, _) ∷ (_, _, _) ∷ (_, _, _) ∷ (_, _, _) ∷ (_, _, _) ∷ (_, _, _) ∷ (_, _, _) ∷ (_, _, _) ∷ (_, _, _) ∷ (_, _, _) ∷ []) Dies dies $
-      suffices ! _ (ends-at 𝓤 H A entry′.ended stayed (entry′.clauses 𝓤 H A mem run) W (((κ₀, (κ₁, (κ₂, (κ₃, (κ₄, (κ₅, (κ₆, (κ₇, (κ₈, (κ₉, (κ₁₀, (κ₁₁, tt)))))))))))), (q₀, (q₁, (q₂, (q₃, (q₄, (q₅, (q₆, (q₇, (q₈, (q₉, (q₁₀, (q₁₁, tt)))))))))))), tt, (record { ptr = (b₀, o₀); name = γ₀; now = ys₀ }, (record { ptr = (b₁, o₁); name = γ₁; now = ys₁ }, (record { ptr = (b₂, o₂); name = γ₂; now = ys₂ }, (record { ptr = (b₃, o₃); name = γ₃; now = ys₃ }, (record { ptr = (b₄, o₄); name = γ₄; now = ys₄ }, (record { ptr = (b₅, o₅); name = γ₅; now = ys₅ }, (record { ptr = (b₆, o₆); name = γ₆; now = ys₆ }, (record { ptr = (b₇, o₇); name = γ₇; now = ys₇ }, (record { ptr = (b₈, o₈); name = γ₈; now = ys₈ }, (record { ptr = (b₉, o₉); name = γ₉; now = ys₉ }, (record { ptr = (b₁₀, o₁₀); name = γ₁₀; now = ys₁₀ }, (record { ptr = (b₁₁, o₁₁); name = γ₁₁; now = ys₁₁ }, tt)))))))))))), (sliceVal (b₀, o₀) (length ys₀) ∷ [], (sliceVal (b₁, o₁) (length ys₁) ∷ [], (sliceVal (b₂, o₂) (length ys₂) ∷ [], (sliceVal (b₃, o₃) (length ys₃) ∷ [], (sliceVal (b₄, o₄) (length ys₄) ∷ [], (sliceVal (b₅, o₅) (length ys₅) ∷ [], (sliceVal (b₆, o₆) (length ys₆) ∷ [], (sliceVal (b₇, o₇) (length ys₇) ∷ [], (sliceVal (b₈, o₈) (length ys₈) ∷ [], (sliceVal (b₉, o₉) (length ys₉) ∷ [], (sliceVal (b₁₀, o₁₀) (length ys₁₀) ∷ [], (sliceVal (b₁₁, o₁₁) (length ys₁₁) ∷ [], tt))))))))))))), tt) (vint w64 (out .number)) (out .number) (zc .0, (zc .1 .0, (zc .1 .1 .0, (zc .1 .1 .1 .0, (zc .1 .1 .1 .1 .0, (z₄ .0, (zc .1 .1 .1 .1 .1 .0, (zc .1 .1 .1 .1 .1 .1 .0, (z₅ .0, (zc .1 .1 .1 .1 .1 .1 .1 .0, (tt, (zc .1 .1 .1 .1 .1 .1 .1 .1 .1 .0, tt)))))))))))) (h₀, (h₁, (h₂, (h₃, (h₄, (h₅, (h₆, (h₇, (h₈, (h₉, (tt, (h₁₁, tt))))))))))))) $ says ! (operation-slots ys₀ ys₁ ys₂ ys₃ ys₄ ys₅ ys₆ ys₇ ys₈ ys₉ c₁ c₂ e₁ e₂ (zc .0) (zc .1 .0) (zc .1 .1 .0) (zc .1 .1 .1 .0) (zc .1 .1 .1 .1 .0) (out .cpu) (zc .1 .1 .1 .1 .1 .0) (zc .1 .1 .1 .1 .1 .1 .0) (out .dma) (zc .1 .1 .1 .1 .1 .1 .1 .0) (field-row (out .cpu) (array-vals (uint-vals w64) (field-words (out .cpu))) (LL.owed O.the-type O′.the-laws out (vo ∷ []) io .0) .1 .0 .1) (field-row (out .dma) (array-vals (uint-vals w64) (field-words (out .dma))) (LL.owed O.the-type O′.the-laws out (vo ∷ []) io .1 .0) .1 .0 .1) (z₄ .0) (z₅ .0) e₄ e₅ (out .number) ys₁₁ (zc .1 .1 .1 .1 .1 .1 .1 .1 .1 .0) ys₁₀ ec) $
+      suffices ! _ (ends-at 𝓤 H A entry′.ended stayed (entry′.clauses 𝓤 H A mem run) W (((κ₀, (κ₁, (κ₂, (κ₃, (κ₄, (κ₅, (κ₆, (κ₇, (κ₈, (κ₉, (κ₁₀, (κ₁₁, tt)))))))))))), (q₀, (q₁, (q₂, (q₃, (q₄, (q₅, (q₆, (q₇, (q₈, (q₉, (q₁₀, (q₁₁, tt)))))))))))), tt, (at b₀ o₀ γ₀ ys₀, (at b₁ o₁ γ₁ ys₁, (at b₂ o₂ γ₂ ys₂, (at b₃ o₃ γ₃ ys₃, (at b₄ o₄ γ₄ ys₄, (at b₅ o₅ γ₅ ys₅, (at b₆ o₆ γ₆ ys₆, (at b₇ o₇ γ₇ ys₇, (at b₈ o₈ γ₈ ys₈, (at b₉ o₉ γ₉ ys₉, (at b₁₀ o₁₀ γ₁₀ ys₁₀, (at b₁₁ o₁₁ γ₁₁ ys₁₁, tt)))))))))))), (held b₀ o₀ ys₀, (held b₁ o₁ ys₁, (held b₂ o₂ ys₂, (held b₃ o₃ ys₃, (held b₄ o₄ ys₄, (held b₅ o₅ ys₅, (held b₆ o₆ ys₆, (held b₇ o₇ ys₇, (held b₈ o₈ ys₈, (held b₉ o₉ ys₉, (held b₁₀ o₁₀ ys₁₀, (held b₁₁ o₁₁ ys₁₁, tt))))))))))))), tt) (vint w64 (out .number)) (out .number) (zc .0, (zc .1 .0, (zc .1 .1 .0, (zc .1 .1 .1 .0, (zc .1 .1 .1 .1 .0, (z₄ .0, (zc .1 .1 .1 .1 .1 .0, (zc .1 .1 .1 .1 .1 .1 .0, (z₅ .0, (zc .1 .1 .1 .1 .1 .1 .1 .0, (tt, (zc .1 .1 .1 .1 .1 .1 .1 .1 .1 .0, tt)))))))))))) (h₀, (h₁, (h₂, (h₃, (h₄, (h₅, (h₆, (h₇, (h₈, (h₉, (tt, (h₁₁, tt))))))))))))) $ says ! (operation-slots ys₀ ys₁ ys₂ ys₃ ys₄ ys₅ ys₆ ys₇ ys₈ ys₉ c₁ c₂ e₁ e₂ (zc .0) (zc .1 .0) (zc .1 .1 .0) (zc .1 .1 .1 .0) (zc .1 .1 .1 .1 .0) (out .cpu) (zc .1 .1 .1 .1 .1 .0) (zc .1 .1 .1 .1 .1 .1 .0) (out .dma) (zc .1 .1 .1 .1 .1 .1 .1 .0) (field-row (out .cpu) (array-vals (uint-vals w64) (field-words (out .cpu))) (LL.owed O.the-type O′.the-laws out (vo ∷ []) io .0) .1 .0 .1) (field-row (out .dma) (array-vals (uint-vals w64) (field-words (out .dma))) (LL.owed O.the-type O′.the-laws out (vo ∷ []) io .1 .0) .1 .0 .1) (z₄ .0) (z₅ .0) e₄ e₅ (out .number) ys₁₁ (zc .1 .1 .1 .1 .1 .1 .1 .1 .1 .0) ys₁₀ ec) $
       nothing ! $
       move ! (14 ∷ 13 ∷ 12 ∷ 11 ∷ 10 ∷ 3 ∷ 9 ∷ 8 ∷ 1 ∷ 7 ∷ 6 ∷ 5 ∷ 0 ∷ []) $
       group ! 13 $
