@@ -7,41 +7,41 @@ returns : tie.Need-returns
 returns c =
     let c3 = c .before .before .before in
     let c14 = c3 .before .before .before .before .before .before .before .before .before .before .before in
-    rw (c3 .operation .given .1, c .with-known .ensures, c .before .add-vm .ensures .1, c .before .add-vm .ensures .0) (add-vm-step (c14 .args .fixed) (c14 .args .registers) _ _ _ _ _ _ _ _ _ _)
+    rw (c3 .operation .given .1, c .with-known .ensures, c .before .add-vm .ensures .known, c .before .add-vm .ensures .answer) (add-vm-step (c14 .args .fixed) (c14 .args .registers) _ _ _ _ _ _ _ _ _ _)
 
 returns-2 : tie.Need-returns-2
 returns-2 c =
     let c9 = c .before .before .before .before .before .before .before .before .before in
     let c20 = c9 .before .before .before .before .before .before .before .before .before .before .before in
-    rw (c9 .operation2 .given .1, c .with-known2 .ensures, c .before .remove-vm .ensures .1, c .before .remove-vm .ensures .0) (remove-vm-step (c20 .args .fixed) (c20 .args .registers) _ _ _ _ _ _ _ _ _ _)
+    rw (c9 .operation2 .given .1, c .with-known2 .ensures, c .before .remove-vm .ensures .known, c .before .remove-vm .ensures .answer) (remove-vm-step (c20 .args .fixed) (c20 .args .registers) _ _ _ _ _ _ _ _ _ _)
 
 returns-3 : tie.Need-returns-3
 returns-3 c =
     let c2 = c .before .before in
     let c5 = c2 .before .before .before in
     let c16 = c5 .before .before .before .before .before .before .before .before .before .before .before in
-    rw (c5 .operation3 .given .1, c2 .assign-page .ensures .1, c2 .assign-page .ensures .0) (assign-step (c16 .args .fixed) (c16 .args .registers) _ _ _ _ _ _ _ _ _ _ _)
+    rw (c5 .operation3 .given .1, c2 .assign-page .ensures .sets, c2 .assign-page .ensures .answer) (assign-step (c16 .args .fixed) (c16 .args .registers) _ _ _ _ _ _ _ _ _ _ _)
 
 returns-4 : tie.Need-returns-4
 returns-4 c =
     let c4 = c .before .before .before .before in
     let c10 = c4 .before .before .before .before .before .before in
     let c21 = c10 .before .before .before .before .before .before .before .before .before .before .before in
-    rw (c10 .operation4 .given .1, c4 .reclaim-page .ensures .1, c4 .reclaim-page .ensures .2, c4 .reclaim-page .ensures .0) (reclaim-step (c21 .args .fixed) (c21 .args .registers) _ _ _ _ _ _ _ _ _ _ _)
+    rw (c10 .operation4 .given .1, c4 .reclaim-page .ensures .sets, c4 .reclaim-page .ensures .memory, c4 .reclaim-page .ensures .answer) (reclaim-step (c21 .args .fixed) (c21 .args .registers) _ _ _ _ _ _ _ _ _ _ _)
 
 returns-5 : tie.Need-returns-5
 returns-5 c =
     let c2 = c .before .before in
     let c6 = c2 .before .before .before .before in
     let c17 = c6 .before .before .before .before .before .before .before .before .before .before .before in
-    rw (c6 .operation5 .given .1, c2 .share-page .ensures .1, c2 .share-page .ensures .0) (share-step (c17 .args .fixed) (c17 .args .registers) _ _ _ _ _ _ _ _ _ _ _ _)
+    rw (c6 .operation5 .given .1, c2 .share-page .ensures .pairs, c2 .share-page .ensures .answer) (share-step (c17 .args .fixed) (c17 .args .registers) _ _ _ _ _ _ _ _ _ _ _ _)
 
 returns-6 : tie.Need-returns-6
 returns-6 c =
     let c2 = c .before .before in
     let c7 = c2 .before .before .before .before .before in
     let c18 = c7 .before .before .before .before .before .before .before .before .before .before .before in
-    rw (c7 .operation6 .given .1, c2 .unshare-page .ensures .1, c2 .unshare-page .ensures .0) (unshare-step (c18 .args .fixed) (c18 .args .registers) _ _ _ _ _ _ _ _ _ _ _ _)
+    rw (c7 .operation6 .given .1, c2 .unshare-page .ensures .pairs, c2 .unshare-page .ensures .answer) (unshare-step (c18 .args .fixed) (c18 .args .registers) _ _ _ _ _ _ _ _ _ _ _ _)
 
 returns-7 : tie.Need-returns-7
 returns-7 c =
