@@ -51,11 +51,11 @@ returns-5 c = let p = c .before .before .before .before .before .before .before 
 returns-6 : tie.Need-returns-6
 unfolding shareAnswer sharePlace paired
 returns-6 c =
-    let f = sym (c .before .before .before .before .before .before .before .find-pair .ensures) ∙ c .before .before .before .before .before .enum-told3 .given .1 in
-    let l = sym (c .before .before .before .before .lowest-free .ensures) ∙ c .before .before .free .given .1 in
-    let p = c .before .before .before .before .before .before .before .before .before .before .before .before .before in
-    rw (← p .before .before .pair-early .ensures, p .enum-told .given .1, ne-eqb _ _ (c .before .before .before .before .before .before .before .before .before .before .if1 .left), ← c .before .before .before .before .before .before .before .before .before .claims .ensures, c .before .before .before .before .before .before .before .before .if2 .left, f, room-free, l, c .accept2 .ensures)
-    (record { answer = refl; ready = λ e. record { pair = ready p; spot = rw (f, l) } })
+    let f = sym (c .before .before .before .before .before .before .find-pair .ensures) ∙ c .before .before .before .before .enum-told3 .given .1 in
+    let l = c .before .before .before .lowest-free .ensures in
+    let p = c .before .before .before .before .before .before .before .before .before .before .before .before in
+    rw (← p .before .before .pair-early .ensures, p .enum-told .given .1, ne-eqb _ _ (c .before .before .before .before .before .before .before .before .before .if1 .left), ← c .before .before .before .before .before .before .before .before .claims .ensures, c .before .before .before .before .before .before .before .if2 .left, f, room-free, sym l ∙ c .before .enum-told5 .given .1, c .accept2 .ensures)
+    (record { answer = refl; ready = λ e. record { pair = ready p; spot = rw f l } })
 
 pub share-answer-spec : {M : Type 1} → statement M
 share-answer-spec =
@@ -77,8 +77,8 @@ share-answer-spec =
     (λ c. search needs)
     (λ c κs. search needs)
     (λ c. search needs)
-    (λ c. search needs)
     (λ c κs. search needs)
     returns-5
+    (λ c. search needs)
     (λ c κs. search needs)
     returns-6)
