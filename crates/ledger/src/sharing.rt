@@ -37,49 +37,32 @@ pub fn share_answer(
     requires { ⌜ (pages ≤ PAGES) × (length (now sets) ≡ SETS * SET-WORDS) ⌝ }
     ensures { λ r. ⌜ ShareAnswer (shareAnswer known pages (now (sets .entry)) (now (pairs .entry)) (left .0) (right .0) (page .0)) (now (pairs .entry)) (left .0) (right .0) (page .0) (r .answer) (r .free) ⌝ }
 {
+    let free = Found::Nothing;
     let early = pair_early(known, pages, left, right, page);
     if let Answer::Refused { refusal, index } = early {
         let answer = Answer::Refused { refusal, index };
-        return SharePlace {
-            answer,
-            free: Found::Nothing,
-        };
+        return SharePlace { answer, free };
     }
     if left.0 == right.0 {
         let answer = refuse(Refusal::PairWrong, 0);
-        return SharePlace {
-            answer,
-            free: Found::Nothing,
-        };
+        return SharePlace { answer, free };
     }
     if !views::claims(Side::Cpu, sets, left, page) {
         let answer = refuse(Refusal::PageNotHeld, 0);
-        return SharePlace {
-            answer,
-            free: Found::Nothing,
-        };
+        return SharePlace { answer, free };
     }
     let stored = views::find_pair(pairs, left, right, page);
     if let Found::At(_) = stored {
         let answer = accept(0);
-        return SharePlace {
-            answer,
-            free: Found::Nothing,
-        };
+        return SharePlace { answer, free };
     }
     let free = table::lowest_free(pairs);
-    let Found::At(spot) = free else {
+    if let Found::Nothing = free {
         let answer = refuse(Refusal::NoRoom, 0);
-        return SharePlace {
-            answer,
-            free: Found::Nothing,
-        };
-    };
-    let answer = accept(0);
-    SharePlace {
-        answer,
-        free: Found::At(spot),
+        return SharePlace { answer, free };
     }
+    let answer = accept(0);
+    SharePlace { answer, free }
 }
 
 // What share does: the pair goes into its place, where it has one.

@@ -30,12 +30,14 @@ pub record MapMay (should : Answer) (table : List ℕ) (vm guest page access gen
   pub answer : told ≡ should
   pub ready : {dropped word : ℕ} → told ≡ Accepted dropped word → MapReady table vm guest page access generation at
 
+-- the entry stands in both maps, and its slots went, so many
 pub record MapDone (map₀ walker₀ cache₀ : List ℕ) (vm guest page access generation count : ℕ) (map₁ walker₁ cache₁ : List ℕ) : Type 0 where
   pub dropped : count ≡ matchingSlots cache₀ vm guest
   pub map : map₁ ≡ mapTable map₀ vm guest page access generation
   pub walker : walker₁ ≡ mapTable walker₀ vm guest page access generation
   pub cache : cache₁ ≡ withoutSlots cache₀ vm guest
 
+-- an accepted map does so to each list, a refused one leaves it
 pub record MapLeft (should : Answer) (map₀ walker₀ cache₀ : List ℕ) (vm guest page access generation : ℕ) (told : Answer) (map₁ walker₁ cache₁ : List ℕ) : Type 0 where
   pub answer : told ≡ should
   pub map : map₁ ≡ kept should map₀ (mapTable map₀ vm guest page access generation)
@@ -43,16 +45,19 @@ pub record MapLeft (should : Answer) (map₀ walker₀ cache₀ : List ℕ) (vm 
   pub cache : cache₁ ≡ kept should cache₀ (withoutSlots cache₀ vm guest)
 
 -- ---- unmap
+-- the numbers are in range
 pub record UnmapReady (vm guest : ℕ) : Type 0 where
   pub vm-ok : vm < VMS
   pub guest-ok : guest < GUEST-PAGES
 
+-- the entry is in neither map, and its slots went, so many
 pub record UnmapDone (map₀ walker₀ cache₀ : List ℕ) (vm guest count : ℕ) (map₁ walker₁ cache₁ : List ℕ) : Type 0 where
   pub dropped : count ≡ matchingSlots cache₀ vm guest
   pub map : map₁ ≡ unmapTable map₀ vm guest
   pub walker : walker₁ ≡ unmapTable walker₀ vm guest
   pub cache : cache₁ ≡ withoutSlots cache₀ vm guest
 
+-- an accepted unmap does so to each list, a refused one leaves it
 pub record UnmapLeft (should : Answer) (map₀ walker₀ cache₀ : List ℕ) (vm guest : ℕ) (told : Answer) (map₁ walker₁ cache₁ : List ℕ) : Type 0 where
   pub answer : told ≡ should
   pub map : map₁ ≡ kept should map₀ (unmapTable map₀ vm guest)
@@ -60,10 +65,12 @@ pub record UnmapLeft (should : Answer) (map₀ walker₀ cache₀ : List ℕ) (v
   pub cache : cache₁ ≡ kept should cache₀ (withoutSlots cache₀ vm guest)
 
 -- ---- ports and slots
+-- an accepted switch puts the target on the port, a refused one leaves the ports
 pub record PortLeft (should : Answer) (ports₀ : List ℕ) (port : ℕ) (target : Target) (told : Answer) (ports₁ : List ℕ) : Type 0 where
   pub answer : told ≡ should
   pub ports : ports₁ ≡ kept should ports₀ (portPorts ports₀ port target)
 
+-- the numbers are in range
 pub record FillReady (port vm guest : ℕ) : Type 0 where
   pub port-ok : port < PORTS
   pub vm-ok : vm < VMS
@@ -75,19 +82,23 @@ pub record FillFound (ports walker : List ℕ) (port guest on found : ℕ) : Typ
   pub vm : on ≡ vmOn ports port
   pub word : found ≡ lookup keyOf walker (key on guest)
 
+-- the answer is the one that it should be, and where it accepts it hands on what it found
 pub record FillAnswer (should : Answer) (ports walker : List ℕ) (port guest : ℕ) (told : Answer) (on found : ℕ) : Type 0 where
   pub answer : told ≡ should
   pub given : {dropped word : ℕ} → told ≡ Accepted dropped word → FillFound ports walker port guest on found
 
+-- the slot has the word that was found; the hand steps only where its slot was taken
 pub record FillDone (cache₀ : List ℕ) (hand₀ port vm guest found : ℕ) (cache₁ : List ℕ) (hand₁ : ℕ) : Type 0 where
   pub cache : cache₁ ≡ setAt cache₀ (fillPlace cache₀ hand₀ (slotKey port vm guest)) (slotWord port vm guest (entryOf found))
   pub hand : hand₁ ≡ (if isFound (place keyOf cache₀ (slotKey port vm guest)) then hand₀ else nextHand hand₀)
 
+-- an accepted fill does so with what the walker has for the VM on the port, a refused one leaves cache and hand
 pub record FillLeft (should : Answer) (ports walker : List ℕ) (port guest : ℕ) (cache₀ : List ℕ) (hand₀ : ℕ) (told : Answer) (cache₁ : List ℕ) (hand₁ : ℕ) : Type 0 where
   pub answer : told ≡ should
   pub cache : cache₁ ≡ kept should cache₀ (fillCache cache₀ hand₀ ports walker port guest)
   pub hand : hand₁ ≡ kept should hand₀ (fillHand cache₀ hand₀ ports port guest)
 
+-- an accepted one empties the slot, a refused one leaves the cache
 pub record EmptyLeft (should : Answer) (cache₀ : List ℕ) (slot : ℕ) (told : Answer) (cache₁ : List ℕ) : Type 0 where
   pub answer : told ≡ should
   pub cache : cache₁ ≡ kept should cache₀ (emptyCache cache₀ slot)

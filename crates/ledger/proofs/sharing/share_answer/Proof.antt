@@ -58,15 +58,15 @@ returns-5 c =
 returns-6 : tie.Need-returns-6
 unfolding shareAnswer sharePlace paired
 returns-6 c =
-    let c2 = c .before .before in
-    let c4 = c2 .before .before in
-    let c5 = c4 .before in
-    let c7 = c5 .before .before in
-    let f = sym (c7 .find-pair .ensures) ∙ c5 .enum-told3 .given .1 in
-    let l = sym (c4 .lowest-free .ensures) ∙ c2 .free .given .1 in
-    let p = c7 .before .before .before .before .before .before in
-    rw (← p .before .before .pair-early .ensures, p .enum-told .given .1, ne-eqb _ _ (c7 .before .before .before .if1 .left), ← c7 .before .before .claims .ensures, c7 .before .if2 .left, f, room-free, l, c .accept2 .ensures)
-    (record { answer = refl; ready = λ e. record { pair = ready p; spot = rw (f, l) } })
+    let c1 = c .before in
+    let c3 = c1 .before .before in
+    let c4 = c3 .before in
+    let c6 = c4 .before .before in
+    let f = sym (c6 .find-pair .ensures) ∙ c4 .enum-told3 .given .1 in
+    let l = c3 .lowest-free .ensures in
+    let p = c6 .before .before .before .before .before .before in
+    rw (← p .before .before .pair-early .ensures, p .enum-told .given .1, ne-eqb _ _ (c6 .before .before .before .if1 .left), ← c6 .before .before .claims .ensures, c6 .before .if2 .left, f, room-free, sym l ∙ c1 .enum-told5 .given .1, c .accept2 .ensures)
+    (record { answer = refl; ready = λ e. record { pair = ready p; spot = rw f l } })
 
 pub share-answer-spec : {M : Type 1} → statement M
 share-answer-spec =
@@ -88,8 +88,8 @@ share-answer-spec =
     (λ c. search needs)
     (λ c κs. search needs)
     (λ c. search needs)
-    (λ c. search needs)
     (λ c κs. search needs)
     returns-5
+    (λ c. search needs)
     (λ c κs. search needs)
     returns-6)
