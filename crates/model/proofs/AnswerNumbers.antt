@@ -1,6 +1,6 @@
 -- What the four numbers of an answer may be (docs/MACHINE.md, 2): for every row, and from any state, valid or not.
 use Prim.{Unit, tt}
-use Prim.Native.Nat.{ℕ, _<_}
+use Prim.Native.Nat.{ℕ, _+_, _<_}
 use mathlib.Core.Bool.{Bool, true, false, not, _&&_, true≢false}
 use mathlib.Core.List.{List, [], _∷_}
 use mathlib.Core.Logic.{⊎-elim}
@@ -32,6 +32,10 @@ use Rattle.model.specs.Sequence.{operationOf, operationIn, stepKnown, st
 use Rattle.model.specs.Entries.{valid, not-valid, JudgedRow}
 
 -- ---- the paper's numbers
+-- the last operation's number
+abbrev pub operations : ℕ
+operations = 26
+
 -- operations on a region, and the refusals that search one
 abbrev pub regions : List ℕ
 regions = 11 ∷ 12 ∷ 13 ∷ 14 ∷ []
@@ -88,6 +92,11 @@ refusalLists =
     ∷ []
     ∷ []
     ∷ []
+
+-- one list a number, from 0 to the last
+pub lists-all : length refusalLists ≡ operations + 1
+unfolding refusalLists
+lists-all = refl
 
 -- those that the manual lists for an operation's number; a number that is no operation's is refused by 2
 abbrev pub listed : ℕ → List ℕ

@@ -11,7 +11,7 @@ use native.Mathlib.Omega.{arith}
 use lib.Dec.{eqb}
 use lib.ListN.{getD}
 use Rattle.numbers.specs.Choice.{if_then_else_}
-use Rattle.numbers.specs.Limits.{VMS}
+use Rattle.numbers.specs.Limits.{VMS, GUEST-PAGES, PAGE-WORDS, ENTRIES}
 use Rattle.numbers.specs.declared.Side.the-variants.{Cpu, Dma}
 use Rattle.model.specs.State.{Tables, State}
 use Rattle.model.specs.Views.{knows, mayMap}
@@ -153,7 +153,7 @@ abbrev pub unmap : ℕ → List Order
 unmap operation =
     -- 2, 4
     (inRow two
-    (row (operation ∷ 3 ∷ 65536 ∷ []) ⟼ 2 ∷ 0 ∷ 0 ∷ 0 ∷ [])
+    (row (operation ∷ 3 ∷ GUEST-PAGES ∷ []) ⟼ 2 ∷ 0 ∷ 0 ∷ 0 ∷ [])
     (row (operation ∷ 3 ∷ 40 ∷ []) ⟼ 4 ∷ 0 ∷ 0 ∷ 0 ∷ []))
     -- 4, 9
     ∷ (inState two
@@ -260,7 +260,7 @@ abbrev pub fill : List (List ℕ) → ℕ → ℕ → List Order
 fill way switch operation =
     -- 2, 15
     (inRow way
-    (row (operation ∷ 1 ∷ 65536 ∷ []) ⟼ 2 ∷ 0 ∷ 0 ∷ 0 ∷ [])
+    (row (operation ∷ 1 ∷ GUEST-PAGES ∷ []) ⟼ 2 ∷ 0 ∷ 0 ∷ 0 ∷ [])
     (row (operation ∷ 1 ∷ 40 ∷ []) ⟼ 15 ∷ 0 ∷ 0 ∷ 0 ∷ []))
     -- 15, 9
     ∷ (inState way
@@ -276,7 +276,7 @@ abbrev pub access : List (List ℕ) → ℕ → ℕ → ℕ → List Order
 access way switch lacking operation =
     -- 2, 15
     (inRow way
-    (row (operation ∷ 1 ∷ 40 ∷ 512 ∷ 9 ∷ []) ⟼ 2 ∷ 0 ∷ 0 ∷ 0 ∷ [])
+    (row (operation ∷ 1 ∷ 40 ∷ PAGE-WORDS ∷ 9 ∷ []) ⟼ 2 ∷ 0 ∷ 0 ∷ 0 ∷ [])
     (row (operation ∷ 1 ∷ 40 ∷ 511 ∷ 9 ∷ []) ⟼ 15 ∷ 0 ∷ 0 ∷ 0 ∷ []))
     -- 15, 9
     ∷ (inState way
@@ -284,7 +284,7 @@ access way switch lacking operation =
     (row (operation ∷ 1 ∷ 43 ∷ 511 ∷ 9 ∷ []) ⟼ 9 ∷ 0 ∷ 0 ∷ 0 ∷ []))
     -- 2, 16
     ∷ (inRow way
-    (row (operation ∷ 0 ∷ lacking ∷ 512 ∷ 9 ∷ []) ⟼ 2 ∷ 0 ∷ 0 ∷ 0 ∷ [])
+    (row (operation ∷ 0 ∷ lacking ∷ PAGE-WORDS ∷ 9 ∷ []) ⟼ 2 ∷ 0 ∷ 0 ∷ 0 ∷ [])
     (row (operation ∷ 0 ∷ lacking ∷ 511 ∷ 9 ∷ []) ⟼ 16 ∷ 0 ∷ 0 ∷ 0 ∷ []))
     ∷ []
 
@@ -340,8 +340,8 @@ abbrev pub packedOrders : List Order
 packedOrders =
     -- 7 and 8: 6, 14
     (inRow []
-    (row (7 ∷ 2 ∷ 512 ∷ 9 ∷ 3 ∷ 0 ∷ []) ⟼ 6 ∷ 0 ∷ 0 ∷ 0 ∷ [])
-    (row (7 ∷ 2 ∷ 512 ∷ 8 ∷ 3 ∷ 0 ∷ []) ⟼ 14 ∷ 0 ∷ 0 ∷ 0 ∷ []))
+    (row (7 ∷ 2 ∷ ENTRIES ∷ 9 ∷ 3 ∷ 0 ∷ []) ⟼ 6 ∷ 0 ∷ 0 ∷ 0 ∷ [])
+    (row (7 ∷ 2 ∷ ENTRIES ∷ 8 ∷ 3 ∷ 0 ∷ []) ⟼ 14 ∷ 0 ∷ 0 ∷ 0 ∷ []))
     ∷ (inRow []
     (row (8 ∷ 1 ∷ 40 ∷ 2 ∷ 3 ∷ 0 ∷ []) ⟼ 6 ∷ 0 ∷ 0 ∷ 0 ∷ [])
     (row (8 ∷ 1 ∷ 40 ∷ 15 ∷ 3 ∷ 0 ∷ []) ⟼ 14 ∷ 0 ∷ 0 ∷ 0 ∷ []))

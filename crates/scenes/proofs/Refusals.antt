@@ -2,14 +2,14 @@
 -- (docs/MACHINE.md, 7). An answer is the paper's four numbers: refusal, index, dropped slots, word. The comment at a scene
 -- names its refusals in the order of its lines, each with its causes. The lists that they are held against at the end stand in
 -- AnswerNumbers.
-use Prim.Native.Nat.{ℕ, zero, suc, _+_, _*_, _/_, _%_}
+use Prim.Native.Nat.{ℕ, zero, suc, _+_, _*_, _/_, _%_, _-_}
 use mathlib.Core.Bool.{Bool, true}
 use mathlib.Core.List.{List, [], _∷_, _++_, map}
 use mathlib.Core.Path.{_≡_, refl}
 use native.Mathlib.Omega.{arith}
 use lib.ListN.{getD, replicate}
 use Rattle.numbers.specs.Choice.{if_then_else_}
-use Rattle.numbers.specs.Limits.{PAGE-WORDS, IDLE}
+use Rattle.numbers.specs.Limits.{PAGE-WORDS, IDLE, VMS, PORTS, GUEST-PAGES, ACCESSES, GENERATIONS, ENTRIES, SLOTS, PAIRS}
 use Rattle.numbers.specs.declared.Side.the-variants.{Cpu, Dma}
 use Rattle.model.specs.State.{State}
 use Rattle.model.specs.Views.{knows, mayMap}
@@ -22,7 +22,7 @@ use Rattle.model.proofs.Worked.{Said, row, query, Line, _⟼_, heardIn, hear, a
 use Rattle.model.proofs.StartKept.{start-valid}
 use Rattle.model.proofs.Kept.{row-valid}
 use Rattle.model.proofs.FullMaps.{mappingsFrom, withFullMaps, full-maps-valid}
-use Rattle.model.proofs.AnswerNumbers.{isIn, refusalLists, listed}
+use Rattle.model.proofs.AnswerNumbers.{isIn, refusalLists, listed, operations}
 
 -- ---- a scene: rows, all accepted, that lead to a state, and lines, each of them said in that state
 pub record Scene : Type 0 where
@@ -124,7 +124,7 @@ running =
     ++ ((7 ∷ 1 ∷ 41 ∷ 0 ∷ 2 ∷ 0 ∷ [])
     ∷ (7 ∷ 1 ∷ 42 ∷ 0 ∷ 1 ∷ 0 ∷ [])
     ∷ (15 ∷ 0 ∷ 1 ∷ [])
-    ∷ (23 ∷ 0 ∷ 40 ∷ 511 ∷ 9 ∷ [])
+    ∷ (23 ∷ 0 ∷ 40 ∷ (PAGE-WORDS - 1) ∷ 9 ∷ [])
     ∷ [])
 
 abbrev pub bound : List (List ℕ)
@@ -133,7 +133,7 @@ bound =
     ++ ((8 ∷ 1 ∷ 41 ∷ 15 ∷ 2 ∷ 0 ∷ [])
     ∷ (8 ∷ 1 ∷ 42 ∷ 15 ∷ 1 ∷ 0 ∷ [])
     ∷ (16 ∷ 0 ∷ 1 ∷ [])
-    ∷ (24 ∷ 0 ∷ 40 ∷ 511 ∷ 9 ∷ [])
+    ∷ (24 ∷ 0 ∷ 40 ∷ (PAGE-WORDS - 1) ∷ 9 ∷ [])
     ∷ [])
 
 -- every pair is taken: VM 0 shares nine pages, eight with all the others and one with eight of them
@@ -145,7 +145,7 @@ abbrev pub pairsFull : List (List ℕ)
 pairsFull =
     rowsBelow (λ vm. 1 ∷ vm ∷ []) 16
     ++ rowsBelow (λ page. 3 ∷ 0 ∷ page ∷ []) 9
-    ++ rowsBelow (λ k. 5 ∷ 0 ∷ (k % 15 + 1) ∷ (k / 15) ∷ []) 128
+    ++ rowsBelow (λ k. 5 ∷ 0 ∷ (k % 15 + 1) ∷ (k / 15) ∷ []) PAIRS
 
 -- ---- 1: add VM
 abbrev pub addVm : List Scene
@@ -153,7 +153,7 @@ addVm =
     -- accepted; 2 by VM
     ([] ▸
     (row (1 ∷ 1 ∷ []) ⟼ 0 ∷ 0 ∷ 0 ∷ 0 ∷ [])
-    ∷ (row (1 ∷ 16 ∷ []) ⟼ 2 ∷ 0 ∷ 0 ∷ 0 ∷ [])
+    ∷ (row (1 ∷ VMS ∷ []) ⟼ 2 ∷ 0 ∷ 0 ∷ 0 ∷ [])
     ∷ [])
     -- 5
     ∷ (two ▸ (row (1 ∷ 1 ∷ []) ⟼ 5 ∷ 0 ∷ 0 ∷ 0 ∷ []) ∷ [])
@@ -165,7 +165,7 @@ removeVm =
     -- accepted; 2 by VM; 4
     (two ▸
     (row (2 ∷ 1 ∷ []) ⟼ 0 ∷ 0 ∷ 0 ∷ 0 ∷ [])
-    ∷ (row (2 ∷ 16 ∷ []) ⟼ 2 ∷ 0 ∷ 0 ∷ 0 ∷ [])
+    ∷ (row (2 ∷ VMS ∷ []) ⟼ 2 ∷ 0 ∷ 0 ∷ 0 ∷ [])
     ∷ (row (2 ∷ 3 ∷ []) ⟼ 4 ∷ 0 ∷ 0 ∷ 0 ∷ [])
     ∷ [])
     -- 13 by CPU pages
@@ -190,7 +190,7 @@ assignPage =
     -- accepted; 2 by VM, by page; 4; 6 of the shared span
     (two ▸
     (row (3 ∷ 1 ∷ 0 ∷ []) ⟼ 0 ∷ 0 ∷ 0 ∷ 0 ∷ [])
-    ∷ (row (3 ∷ 16 ∷ 0 ∷ []) ⟼ 2 ∷ 0 ∷ 0 ∷ 0 ∷ [])
+    ∷ (row (3 ∷ VMS ∷ 0 ∷ []) ⟼ 2 ∷ 0 ∷ 0 ∷ 0 ∷ [])
     ∷ (row (3 ∷ 1 ∷ 16 ∷ []) ⟼ 2 ∷ 0 ∷ 0 ∷ 0 ∷ [])
     ∷ (row (3 ∷ 3 ∷ 0 ∷ []) ⟼ 4 ∷ 0 ∷ 0 ∷ 0 ∷ [])
     ∷ (row (3 ∷ 1 ∷ 15 ∷ []) ⟼ 6 ∷ 0 ∷ 0 ∷ 0 ∷ [])
@@ -213,7 +213,7 @@ reclaimPage =
     -- accepted; 2 by VM, by page; 4; 6 of the pool, of another VM's
     (owned ▸
     (row (4 ∷ 1 ∷ 0 ∷ []) ⟼ 0 ∷ 0 ∷ 0 ∷ 0 ∷ [])
-    ∷ (row (4 ∷ 16 ∷ 0 ∷ []) ⟼ 2 ∷ 0 ∷ 0 ∷ 0 ∷ [])
+    ∷ (row (4 ∷ VMS ∷ 0 ∷ []) ⟼ 2 ∷ 0 ∷ 0 ∷ 0 ∷ [])
     ∷ (row (4 ∷ 1 ∷ 16 ∷ []) ⟼ 2 ∷ 0 ∷ 0 ∷ 0 ∷ [])
     ∷ (row (4 ∷ 3 ∷ 0 ∷ []) ⟼ 4 ∷ 0 ∷ 0 ∷ 0 ∷ [])
     ∷ (row (4 ∷ 1 ∷ 1 ∷ []) ⟼ 6 ∷ 0 ∷ 0 ∷ 0 ∷ [])
@@ -231,8 +231,8 @@ sharePage =
     -- accepted; 2 by left, by right, by page; 4 by left, by right; 12; 6 of the pool, of the right one's page
     (owned ▸
     (row (5 ∷ 1 ∷ 2 ∷ 0 ∷ []) ⟼ 0 ∷ 0 ∷ 0 ∷ 0 ∷ [])
-    ∷ (row (5 ∷ 16 ∷ 2 ∷ 0 ∷ []) ⟼ 2 ∷ 0 ∷ 0 ∷ 0 ∷ [])
-    ∷ (row (5 ∷ 1 ∷ 16 ∷ 0 ∷ []) ⟼ 2 ∷ 0 ∷ 0 ∷ 0 ∷ [])
+    ∷ (row (5 ∷ VMS ∷ 2 ∷ 0 ∷ []) ⟼ 2 ∷ 0 ∷ 0 ∷ 0 ∷ [])
+    ∷ (row (5 ∷ 1 ∷ VMS ∷ 0 ∷ []) ⟼ 2 ∷ 0 ∷ 0 ∷ 0 ∷ [])
     ∷ (row (5 ∷ 1 ∷ 2 ∷ 16 ∷ []) ⟼ 2 ∷ 0 ∷ 0 ∷ 0 ∷ [])
     ∷ (row (5 ∷ 3 ∷ 2 ∷ 0 ∷ []) ⟼ 4 ∷ 0 ∷ 0 ∷ 0 ∷ [])
     ∷ (row (5 ∷ 1 ∷ 3 ∷ 0 ∷ []) ⟼ 4 ∷ 0 ∷ 0 ∷ 0 ∷ [])
@@ -256,8 +256,8 @@ unsharePage =
     (shared ▸
     (row (6 ∷ 1 ∷ 2 ∷ 0 ∷ []) ⟼ 0 ∷ 0 ∷ 0 ∷ 0 ∷ [])
     ∷ (row (6 ∷ 2 ∷ 1 ∷ 0 ∷ []) ⟼ 0 ∷ 0 ∷ 0 ∷ 0 ∷ [])
-    ∷ (row (6 ∷ 16 ∷ 2 ∷ 0 ∷ []) ⟼ 2 ∷ 0 ∷ 0 ∷ 0 ∷ [])
-    ∷ (row (6 ∷ 1 ∷ 16 ∷ 0 ∷ []) ⟼ 2 ∷ 0 ∷ 0 ∷ 0 ∷ [])
+    ∷ (row (6 ∷ VMS ∷ 2 ∷ 0 ∷ []) ⟼ 2 ∷ 0 ∷ 0 ∷ 0 ∷ [])
+    ∷ (row (6 ∷ 1 ∷ VMS ∷ 0 ∷ []) ⟼ 2 ∷ 0 ∷ 0 ∷ 0 ∷ [])
     ∷ (row (6 ∷ 1 ∷ 2 ∷ 16 ∷ []) ⟼ 2 ∷ 0 ∷ 0 ∷ 0 ∷ [])
     ∷ (row (6 ∷ 3 ∷ 2 ∷ 0 ∷ []) ⟼ 4 ∷ 0 ∷ 0 ∷ 0 ∷ [])
     ∷ (row (6 ∷ 1 ∷ 3 ∷ 0 ∷ []) ⟼ 4 ∷ 0 ∷ 0 ∷ 0 ∷ [])
@@ -276,11 +276,11 @@ unsharePage =
 -- ---- 7, 8: map. 2 by VM, by guest page, by page, by access, by generation; 4
 abbrev pub mapEarly : ℕ → List Line
 mapEarly operation =
-    (row (operation ∷ 16 ∷ 40 ∷ 0 ∷ 3 ∷ 0 ∷ []) ⟼ 2 ∷ 0 ∷ 0 ∷ 0 ∷ [])
-    ∷ (row (operation ∷ 1 ∷ 65536 ∷ 0 ∷ 3 ∷ 0 ∷ []) ⟼ 2 ∷ 0 ∷ 0 ∷ 0 ∷ [])
+    (row (operation ∷ VMS ∷ 40 ∷ 0 ∷ 3 ∷ 0 ∷ []) ⟼ 2 ∷ 0 ∷ 0 ∷ 0 ∷ [])
+    ∷ (row (operation ∷ 1 ∷ GUEST-PAGES ∷ 0 ∷ 3 ∷ 0 ∷ []) ⟼ 2 ∷ 0 ∷ 0 ∷ 0 ∷ [])
     ∷ (row (operation ∷ 1 ∷ 40 ∷ 16 ∷ 3 ∷ 0 ∷ []) ⟼ 2 ∷ 0 ∷ 0 ∷ 0 ∷ [])
-    ∷ (row (operation ∷ 1 ∷ 40 ∷ 0 ∷ 8 ∷ 0 ∷ []) ⟼ 2 ∷ 0 ∷ 0 ∷ 0 ∷ [])
-    ∷ (row (operation ∷ 1 ∷ 40 ∷ 0 ∷ 3 ∷ 65536 ∷ []) ⟼ 2 ∷ 0 ∷ 0 ∷ 0 ∷ [])
+    ∷ (row (operation ∷ 1 ∷ 40 ∷ 0 ∷ ACCESSES ∷ 0 ∷ []) ⟼ 2 ∷ 0 ∷ 0 ∷ 0 ∷ [])
+    ∷ (row (operation ∷ 1 ∷ 40 ∷ 0 ∷ 3 ∷ GENERATIONS ∷ []) ⟼ 2 ∷ 0 ∷ 0 ∷ 0 ∷ [])
     ∷ (row (operation ∷ 3 ∷ 40 ∷ 0 ∷ 3 ∷ 0 ∷ []) ⟼ 4 ∷ 0 ∷ 0 ∷ 0 ∷ [])
     ∷ []
 
@@ -290,7 +290,7 @@ cpuMap =
     (owned ▸ mapEarly 7)
     -- accepted; 6 of the pool, of the shared span, of another VM's page
     ∷ (owned ▸
-    (row (7 ∷ 1 ∷ 65535 ∷ 0 ∷ 7 ∷ 65535 ∷ []) ⟼ 0 ∷ 0 ∷ 0 ∷ 0 ∷ [])
+    (row (7 ∷ 1 ∷ (GUEST-PAGES - 1) ∷ 0 ∷ (ACCESSES - 1) ∷ (GENERATIONS - 1) ∷ []) ⟼ 0 ∷ 0 ∷ 0 ∷ 0 ∷ [])
     ∷ (row (7 ∷ 1 ∷ 40 ∷ 1 ∷ 3 ∷ 0 ∷ []) ⟼ 6 ∷ 0 ∷ 0 ∷ 0 ∷ [])
     ∷ (row (7 ∷ 1 ∷ 40 ∷ 15 ∷ 3 ∷ 0 ∷ []) ⟼ 6 ∷ 0 ∷ 0 ∷ 0 ∷ [])
     ∷ (row (7 ∷ 2 ∷ 40 ∷ 0 ∷ 3 ∷ 0 ∷ []) ⟼ 6 ∷ 0 ∷ 0 ∷ 0 ∷ [])
@@ -308,7 +308,7 @@ dmaMap =
     (dmaIn ▸ mapEarly 8)
     -- accepted, on a DMA page, on the shared span; 6 of the pool, of another VM's DMA page
     ∷ (dmaIn ▸
-    (row (8 ∷ 1 ∷ 65535 ∷ 0 ∷ 7 ∷ 65535 ∷ []) ⟼ 0 ∷ 0 ∷ 0 ∷ 0 ∷ [])
+    (row (8 ∷ 1 ∷ (GUEST-PAGES - 1) ∷ 0 ∷ (ACCESSES - 1) ∷ (GENERATIONS - 1) ∷ []) ⟼ 0 ∷ 0 ∷ 0 ∷ 0 ∷ [])
     ∷ (row (8 ∷ 2 ∷ 40 ∷ 15 ∷ 3 ∷ 0 ∷ []) ⟼ 0 ∷ 0 ∷ 0 ∷ 0 ∷ [])
     ∷ (row (8 ∷ 1 ∷ 40 ∷ 3 ∷ 3 ∷ 0 ∷ []) ⟼ 6 ∷ 0 ∷ 0 ∷ 0 ∷ [])
     ∷ (row (8 ∷ 2 ∷ 40 ∷ 0 ∷ 3 ∷ 0 ∷ []) ⟼ 6 ∷ 0 ∷ 0 ∷ 0 ∷ [])
@@ -321,8 +321,8 @@ dmaMap =
 abbrev pub unmapLines : ℕ → List Line
 unmapLines operation =
     (row (operation ∷ 1 ∷ 40 ∷ []) ⟼ 0 ∷ 0 ∷ 0 ∷ 0 ∷ [])
-    ∷ (row (operation ∷ 16 ∷ 40 ∷ []) ⟼ 2 ∷ 0 ∷ 0 ∷ 0 ∷ [])
-    ∷ (row (operation ∷ 1 ∷ 65536 ∷ []) ⟼ 2 ∷ 0 ∷ 0 ∷ 0 ∷ [])
+    ∷ (row (operation ∷ VMS ∷ 40 ∷ []) ⟼ 2 ∷ 0 ∷ 0 ∷ 0 ∷ [])
+    ∷ (row (operation ∷ 1 ∷ GUEST-PAGES ∷ []) ⟼ 2 ∷ 0 ∷ 0 ∷ 0 ∷ [])
     ∷ (row (operation ∷ 3 ∷ 40 ∷ []) ⟼ 4 ∷ 0 ∷ 0 ∷ 0 ∷ [])
     ∷ (row (operation ∷ 1 ∷ 41 ∷ []) ⟼ 9 ∷ 0 ∷ 0 ∷ 0 ∷ [])
     ∷ (row (operation ∷ 2 ∷ 40 ∷ []) ⟼ 9 ∷ 0 ∷ 0 ∷ 0 ∷ [])
@@ -334,12 +334,12 @@ unmap = (mapped ▸ unmapLines 9) ∷ (dmaMapped ▸ unmapLines 10) ∷ []
 -- ---- 11 to 14: regions. 2 by VM, by access; 3 by count, by guest page, by page, never 2 and never wrapping; 8 by each field
 abbrev pub regionEarly : ℕ → List Line
 regionEarly operation =
-    (row (operation ∷ 16 ∷ 16 ∷ 0 ∷ 3 ∷ 3 ∷ []) ⟼ 2 ∷ 0 ∷ 0 ∷ 0 ∷ [])
-    ∷ (row (operation ∷ 1 ∷ 16 ∷ 0 ∷ 3 ∷ 8 ∷ []) ⟼ 2 ∷ 0 ∷ 0 ∷ 0 ∷ [])
+    (row (operation ∷ VMS ∷ 16 ∷ 0 ∷ 3 ∷ 3 ∷ []) ⟼ 2 ∷ 0 ∷ 0 ∷ 0 ∷ [])
+    ∷ (row (operation ∷ 1 ∷ 16 ∷ 0 ∷ 3 ∷ ACCESSES ∷ []) ⟼ 2 ∷ 0 ∷ 0 ∷ 0 ∷ [])
     ∷ (row (operation ∷ 1 ∷ 16 ∷ 0 ∷ 0 ∷ 3 ∷ []) ⟼ 3 ∷ 0 ∷ 0 ∷ 0 ∷ [])
     ∷ (row (operation ∷ 1 ∷ 16 ∷ 0 ∷ 18446744073709551615 ∷ 3 ∷ []) ⟼ 3 ∷ 0 ∷ 0 ∷ 0 ∷ [])
-    ∷ (row (operation ∷ 1 ∷ 65534 ∷ 0 ∷ 3 ∷ 3 ∷ []) ⟼ 3 ∷ 0 ∷ 0 ∷ 0 ∷ [])
-    ∷ (row (operation ∷ 1 ∷ 65536 ∷ 0 ∷ 3 ∷ 3 ∷ []) ⟼ 3 ∷ 0 ∷ 0 ∷ 0 ∷ [])
+    ∷ (row (operation ∷ 1 ∷ (GUEST-PAGES - 2) ∷ 0 ∷ 3 ∷ 3 ∷ []) ⟼ 3 ∷ 0 ∷ 0 ∷ 0 ∷ [])
+    ∷ (row (operation ∷ 1 ∷ GUEST-PAGES ∷ 0 ∷ 3 ∷ 3 ∷ []) ⟼ 3 ∷ 0 ∷ 0 ∷ 0 ∷ [])
     ∷ (row (operation ∷ 1 ∷ 16 ∷ 14 ∷ 3 ∷ 3 ∷ []) ⟼ 3 ∷ 0 ∷ 0 ∷ 0 ∷ [])
     ∷ (row (operation ∷ 1 ∷ 16 ∷ 16 ∷ 3 ∷ 3 ∷ []) ⟼ 3 ∷ 0 ∷ 0 ∷ 0 ∷ [])
     ∷ (row (operation ∷ 2 ∷ 16 ∷ 0 ∷ 3 ∷ 3 ∷ []) ⟼ 8 ∷ 0 ∷ 0 ∷ 0 ∷ [])
@@ -451,7 +451,7 @@ abbrev pub portLines : ℕ → List Line
 portLines operation =
     (row (operation ∷ 7 ∷ 1 ∷ []) ⟼ 0 ∷ 0 ∷ 0 ∷ 0 ∷ [])
     ∷ (row (operation ∷ 7 ∷ IDLE ∷ []) ⟼ 0 ∷ 0 ∷ 0 ∷ 0 ∷ [])
-    ∷ (row (operation ∷ 8 ∷ 1 ∷ []) ⟼ 2 ∷ 0 ∷ 0 ∷ 0 ∷ [])
+    ∷ (row (operation ∷ PORTS ∷ 1 ∷ []) ⟼ 2 ∷ 0 ∷ 0 ∷ 0 ∷ [])
     ∷ (row (operation ∷ 0 ∷ 16 ∷ []) ⟼ 2 ∷ 0 ∷ 0 ∷ 0 ∷ [])
     ∷ (row (operation ∷ 0 ∷ 3 ∷ []) ⟼ 4 ∷ 0 ∷ 0 ∷ 0 ∷ [])
     ∷ []
@@ -460,8 +460,8 @@ portLines operation =
 abbrev pub fillLines : ℕ → List Line
 fillLines operation =
     (row (operation ∷ 0 ∷ 40 ∷ []) ⟼ 0 ∷ 0 ∷ 0 ∷ 0 ∷ [])
-    ∷ (row (operation ∷ 8 ∷ 40 ∷ []) ⟼ 2 ∷ 0 ∷ 0 ∷ 0 ∷ [])
-    ∷ (row (operation ∷ 0 ∷ 65536 ∷ []) ⟼ 2 ∷ 0 ∷ 0 ∷ 0 ∷ [])
+    ∷ (row (operation ∷ PORTS ∷ 40 ∷ []) ⟼ 2 ∷ 0 ∷ 0 ∷ 0 ∷ [])
+    ∷ (row (operation ∷ 0 ∷ GUEST-PAGES ∷ []) ⟼ 2 ∷ 0 ∷ 0 ∷ 0 ∷ [])
     ∷ (row (operation ∷ 1 ∷ 40 ∷ []) ⟼ 15 ∷ 0 ∷ 0 ∷ 0 ∷ [])
     ∷ (row (operation ∷ 0 ∷ 43 ∷ []) ⟼ 9 ∷ 0 ∷ 0 ∷ 0 ∷ [])
     ∷ []
@@ -469,32 +469,32 @@ fillLines operation =
 -- ---- 19, 20: empty a slot. Accepted; 2
 abbrev pub emptyLines : ℕ → List Line
 emptyLines operation =
-    (row (operation ∷ 63 ∷ []) ⟼ 0 ∷ 0 ∷ 0 ∷ 0 ∷ [])
-    ∷ (row (operation ∷ 64 ∷ []) ⟼ 2 ∷ 0 ∷ 0 ∷ 0 ∷ [])
+    (row (operation ∷ (SLOTS - 1) ∷ []) ⟼ 0 ∷ 0 ∷ 0 ∷ 0 ∷ [])
+    ∷ (row (operation ∷ SLOTS ∷ []) ⟼ 2 ∷ 0 ∷ 0 ∷ 0 ∷ [])
     ∷ []
 
 -- ---- 21, 22: read. Accepted, with the word; 2 by port, by guest page, by word; 15; 9; 16
 abbrev pub readLines : ℕ → List Line
 readLines operation =
-    (row (operation ∷ 0 ∷ 40 ∷ 511 ∷ []) ⟼ 0 ∷ 0 ∷ 0 ∷ 9 ∷ [])
-    ∷ (row (operation ∷ 8 ∷ 40 ∷ 511 ∷ []) ⟼ 2 ∷ 0 ∷ 0 ∷ 0 ∷ [])
-    ∷ (row (operation ∷ 0 ∷ 65536 ∷ 511 ∷ []) ⟼ 2 ∷ 0 ∷ 0 ∷ 0 ∷ [])
-    ∷ (row (operation ∷ 0 ∷ 40 ∷ 512 ∷ []) ⟼ 2 ∷ 0 ∷ 0 ∷ 0 ∷ [])
-    ∷ (row (operation ∷ 1 ∷ 40 ∷ 511 ∷ []) ⟼ 15 ∷ 0 ∷ 0 ∷ 0 ∷ [])
-    ∷ (row (operation ∷ 0 ∷ 43 ∷ 511 ∷ []) ⟼ 9 ∷ 0 ∷ 0 ∷ 0 ∷ [])
-    ∷ (row (operation ∷ 0 ∷ 41 ∷ 511 ∷ []) ⟼ 16 ∷ 0 ∷ 0 ∷ 0 ∷ [])
+    (row (operation ∷ 0 ∷ 40 ∷ (PAGE-WORDS - 1) ∷ []) ⟼ 0 ∷ 0 ∷ 0 ∷ 9 ∷ [])
+    ∷ (row (operation ∷ PORTS ∷ 40 ∷ (PAGE-WORDS - 1) ∷ []) ⟼ 2 ∷ 0 ∷ 0 ∷ 0 ∷ [])
+    ∷ (row (operation ∷ 0 ∷ GUEST-PAGES ∷ (PAGE-WORDS - 1) ∷ []) ⟼ 2 ∷ 0 ∷ 0 ∷ 0 ∷ [])
+    ∷ (row (operation ∷ 0 ∷ 40 ∷ PAGE-WORDS ∷ []) ⟼ 2 ∷ 0 ∷ 0 ∷ 0 ∷ [])
+    ∷ (row (operation ∷ 1 ∷ 40 ∷ (PAGE-WORDS - 1) ∷ []) ⟼ 15 ∷ 0 ∷ 0 ∷ 0 ∷ [])
+    ∷ (row (operation ∷ 0 ∷ 43 ∷ (PAGE-WORDS - 1) ∷ []) ⟼ 9 ∷ 0 ∷ 0 ∷ 0 ∷ [])
+    ∷ (row (operation ∷ 0 ∷ 41 ∷ (PAGE-WORDS - 1) ∷ []) ⟼ 16 ∷ 0 ∷ 0 ∷ 0 ∷ [])
     ∷ []
 
 -- ---- 23, 24: write. Accepted with any value; 2 by port, by guest page, by word; 15; 9; 16
 abbrev pub writeLines : ℕ → List Line
 writeLines operation =
-    (row (operation ∷ 0 ∷ 40 ∷ 511 ∷ 18446744073709551615 ∷ []) ⟼ 0 ∷ 0 ∷ 0 ∷ 0 ∷ [])
-    ∷ (row (operation ∷ 8 ∷ 40 ∷ 511 ∷ 9 ∷ []) ⟼ 2 ∷ 0 ∷ 0 ∷ 0 ∷ [])
-    ∷ (row (operation ∷ 0 ∷ 65536 ∷ 511 ∷ 9 ∷ []) ⟼ 2 ∷ 0 ∷ 0 ∷ 0 ∷ [])
-    ∷ (row (operation ∷ 0 ∷ 40 ∷ 512 ∷ 9 ∷ []) ⟼ 2 ∷ 0 ∷ 0 ∷ 0 ∷ [])
-    ∷ (row (operation ∷ 1 ∷ 40 ∷ 511 ∷ 9 ∷ []) ⟼ 15 ∷ 0 ∷ 0 ∷ 0 ∷ [])
-    ∷ (row (operation ∷ 0 ∷ 43 ∷ 511 ∷ 9 ∷ []) ⟼ 9 ∷ 0 ∷ 0 ∷ 0 ∷ [])
-    ∷ (row (operation ∷ 0 ∷ 42 ∷ 511 ∷ 9 ∷ []) ⟼ 16 ∷ 0 ∷ 0 ∷ 0 ∷ [])
+    (row (operation ∷ 0 ∷ 40 ∷ (PAGE-WORDS - 1) ∷ 18446744073709551615 ∷ []) ⟼ 0 ∷ 0 ∷ 0 ∷ 0 ∷ [])
+    ∷ (row (operation ∷ PORTS ∷ 40 ∷ (PAGE-WORDS - 1) ∷ 9 ∷ []) ⟼ 2 ∷ 0 ∷ 0 ∷ 0 ∷ [])
+    ∷ (row (operation ∷ 0 ∷ GUEST-PAGES ∷ (PAGE-WORDS - 1) ∷ 9 ∷ []) ⟼ 2 ∷ 0 ∷ 0 ∷ 0 ∷ [])
+    ∷ (row (operation ∷ 0 ∷ 40 ∷ PAGE-WORDS ∷ 9 ∷ []) ⟼ 2 ∷ 0 ∷ 0 ∷ 0 ∷ [])
+    ∷ (row (operation ∷ 1 ∷ 40 ∷ (PAGE-WORDS - 1) ∷ 9 ∷ []) ⟼ 15 ∷ 0 ∷ 0 ∷ 0 ∷ [])
+    ∷ (row (operation ∷ 0 ∷ 43 ∷ (PAGE-WORDS - 1) ∷ 9 ∷ []) ⟼ 9 ∷ 0 ∷ 0 ∷ 0 ∷ [])
+    ∷ (row (operation ∷ 0 ∷ 42 ∷ (PAGE-WORDS - 1) ∷ 9 ∷ []) ⟼ 16 ∷ 0 ∷ 0 ∷ 0 ∷ [])
     ∷ []
 
 abbrev pub ports : List Scene
@@ -518,7 +518,8 @@ barriers =
     (row (25 ∷ []) ⟼ 0 ∷ 0 ∷ 0 ∷ 0 ∷ [])
     ∷ (row (26 ∷ []) ⟼ 0 ∷ 0 ∷ 0 ∷ 0 ∷ [])
     ∷ (row (0 ∷ []) ⟼ 2 ∷ 0 ∷ 0 ∷ 0 ∷ [])
-    ∷ (row (27 ∷ []) ⟼ 2 ∷ 0 ∷ 0 ∷ 0 ∷ [])
+    ∷ (row ((operations + 1) ∷ []) ⟼ 2 ∷ 0 ∷ 0 ∷ 0 ∷ [])
+    ∷ (row (18446744073709551615 ∷ []) ⟼ 2 ∷ 0 ∷ 0 ∷ 0 ∷ [])
     ∷ [])
     ∷ []
 
@@ -557,17 +558,17 @@ abbrev pub fullScenes : List Scene
 fullScenes =
     -- 14; a replacement is accepted
     ([] ▸
-    (row (7 ∷ 1 ∷ 512 ∷ 0 ∷ 3 ∷ 0 ∷ []) ⟼ 14 ∷ 0 ∷ 0 ∷ 0 ∷ [])
-    ∷ (row (7 ∷ 1 ∷ 511 ∷ 0 ∷ 3 ∷ 0 ∷ []) ⟼ 0 ∷ 0 ∷ 0 ∷ 0 ∷ [])
-    ∷ (row (8 ∷ 1 ∷ 512 ∷ 15 ∷ 3 ∷ 0 ∷ []) ⟼ 14 ∷ 0 ∷ 0 ∷ 0 ∷ [])
-    ∷ (row (8 ∷ 1 ∷ 511 ∷ 15 ∷ 3 ∷ 0 ∷ []) ⟼ 0 ∷ 0 ∷ 0 ∷ 0 ∷ [])
+    (row (7 ∷ 1 ∷ ENTRIES ∷ 0 ∷ 3 ∷ 0 ∷ []) ⟼ 14 ∷ 0 ∷ 0 ∷ 0 ∷ [])
+    ∷ (row (7 ∷ 1 ∷ (ENTRIES - 1) ∷ 0 ∷ 3 ∷ 0 ∷ []) ⟼ 0 ∷ 0 ∷ 0 ∷ 0 ∷ [])
+    ∷ (row (8 ∷ 1 ∷ ENTRIES ∷ 15 ∷ 3 ∷ 0 ∷ []) ⟼ 14 ∷ 0 ∷ 0 ∷ 0 ∷ [])
+    ∷ (row (8 ∷ 1 ∷ (ENTRIES - 1) ∷ 15 ∷ 3 ∷ 0 ∷ []) ⟼ 0 ∷ 0 ∷ 0 ∷ 0 ∷ [])
     ∷ (row (11 ∷ 2 ∷ 48 ∷ 4 ∷ 1 ∷ 1 ∷ []) ⟼ 14 ∷ 0 ∷ 0 ∷ 0 ∷ [])
     ∷ (row (13 ∷ 2 ∷ 16 ∷ 2 ∷ 2 ∷ 3 ∷ []) ⟼ 14 ∷ 0 ∷ 0 ∷ 0 ∷ [])
     ∷ [])
     -- an emptied entry counts as free, enough for a region of one page and not for one of two
     ∷ ((9 ∷ 1 ∷ 5 ∷ []) ∷ (10 ∷ 1 ∷ 5 ∷ []) ∷ [] ▸
-    (row (7 ∷ 1 ∷ 512 ∷ 0 ∷ 3 ∷ 0 ∷ []) ⟼ 0 ∷ 0 ∷ 0 ∷ 0 ∷ [])
-    ∷ (row (8 ∷ 1 ∷ 512 ∷ 15 ∷ 3 ∷ 0 ∷ []) ⟼ 0 ∷ 0 ∷ 0 ∷ 0 ∷ [])
+    (row (7 ∷ 1 ∷ ENTRIES ∷ 0 ∷ 3 ∷ 0 ∷ []) ⟼ 0 ∷ 0 ∷ 0 ∷ 0 ∷ [])
+    ∷ (row (8 ∷ 1 ∷ ENTRIES ∷ 15 ∷ 3 ∷ 0 ∷ []) ⟼ 0 ∷ 0 ∷ 0 ∷ 0 ∷ [])
     ∷ (row (11 ∷ 2 ∷ 48 ∷ 4 ∷ 1 ∷ 1 ∷ []) ⟼ 0 ∷ 0 ∷ 0 ∷ 0 ∷ [])
     ∷ (row (13 ∷ 2 ∷ 16 ∷ 2 ∷ 2 ∷ 3 ∷ []) ⟼ 14 ∷ 0 ∷ 0 ∷ 0 ∷ [])
     ∷ [])
