@@ -25,35 +25,11 @@ abbrev μ-region : tie.MeasureT-region
 region-holds : tie.Need-region-holds Inv-loop μ-loop Inv-region μ-region
 region-holds c = rise-start _ _
 
-key-in-requires : tie.Need-key-in-requires Inv-loop μ-loop Inv-region μ-region
-key-in-requires c κs = search needs
-
 loop-holds : tie.Need-loop-holds Inv-loop μ-loop Inv-region μ-region
 loop-holds c = seek-start _ _
 
-mul-key-of : tie.Need-mul-key-of Inv-loop μ-loop Inv-region μ-region
-mul-key-of c = search needs
-
-shared-slice-read-key-of : tie.Need-shared-slice-read-key-of Inv-loop μ-loop Inv-region μ-region
-shared-slice-read-key-of c = search needs
-
-key-of-requires : tie.Need-key-of-requires Inv-loop μ-loop Inv-region μ-region
-key-of-requires c κs = search needs
-
-add-i : tie.Need-add-i Inv-loop μ-loop Inv-region μ-region
-add-i c = search needs
-
-loop-less : tie.Need-loop-less Inv-loop μ-loop Inv-region μ-region
-loop-less c = search needs
-
 loop-again : tie.Need-loop-again Inv-loop μ-loop Inv-region μ-region
 loop-again c = seek-next _ _ _ (c .before .before .before .before .loop .inv) (c .before .before .before .loop-test .taken) (ne-eqb _ _ (λ q. c .if2 .left (c .before .key-of .ensures ∙ q)))
-
-add-k : tie.Need-add-k Inv-loop μ-loop Inv-region μ-region
-add-k c = search needs
-
-region-less : tie.Need-region-less Inv-loop μ-loop Inv-region μ-region
-region-less c = search needs
 
 region-again : tie.Need-region-again Inv-loop μ-loop Inv-region μ-region
 unfolding find
@@ -76,16 +52,16 @@ lowest-present-spec =
     Inv-region
     μ-region
     region-holds
-    key-in-requires
+    (λ c κs. search needs)
     loop-holds
-    mul-key-of
-    shared-slice-read-key-of
-    key-of-requires
-    add-i
-    loop-less
+    (λ c. search needs)
+    (λ c. search needs)
+    (λ c κs. search needs)
+    (λ c. search needs)
+    (λ c. search needs)
     loop-again
-    add-k
-    region-less
+    (λ c. search needs)
+    (λ c. search needs)
     region-again
     returns
     returns-2)
