@@ -200,7 +200,8 @@ pub pair-either : (left right page : ℕ) → pairKey left right page ≡ pairKe
 pair-either left right page = omega arith
 
 -- a pair's key says its page, and its ends but for their order
-pub pair-same : (left right page left′ right′ page′ : ℕ) → left < GUEST-FIELD → right < GUEST-FIELD → page < PAGE-FIELD → left′ < GUEST-FIELD → right′ < GUEST-FIELD → page′ < PAGE-FIELD → pairKey left right page ≡ pairKey left′ right′ page′ → (page ≡ page′) × (min left right ≡ min left′ right′) × (max left right ≡ max left′ right′)
+pub pair-same : (left right page left′ right′ page′ : ℕ) → left < GUEST-FIELD → right < GUEST-FIELD → page < PAGE-FIELD → left′ < GUEST-FIELD → right′ < GUEST-FIELD →
+    page′ < PAGE-FIELD → pairKey left right page ≡ pairKey left′ right′ page′ → (page ≡ page′) × (min left right ≡ min left′ right′) × (max left right ≡ max left′ right′)
 pair-same left right page left′ right′ page′ l r p l′ r′ p′ e =
     let a : (min left right * GUEST-FIELD + max left right) * PAGE-FIELD + page ≡ (min left′ right′ * GUEST-FIELD + max left′ right′) * PAGE-FIELD + page′ = omega arith in
     (omega arith, omega arith, omega arith)

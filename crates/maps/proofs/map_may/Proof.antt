@@ -29,7 +29,16 @@ unfolding mapMay
 returns-3 c =
     let c1 = c .before in
     let c3 = c1 .before .before in
-    let p = c3 .before .before .before .before in rw (← p .before .before .map-early .ensures, p .enum-told .given .1, ← c3 .before .before .before .may-map .ensures, c3 .before .before .if1 .left, ← c3 .before .key .ensures, ← c3 .place .ensures, c1 .enum-told2 .given .1, c .refuse2 .ensures) (record { answer = refl; ready = λ e. never-both e })
+    let p = c3 .before .before .before .before in rw (
+      ← p .before .before .map-early .ensures,
+      p .enum-told .given .1,
+      ← c3 .before .before .before .may-map .ensures,
+      c3 .before .before .if1 .left,
+      ← c3 .before .key .ensures,
+      ← c3 .place .ensures,
+      c1 .enum-told2 .given .1,
+      c .refuse2 .ensures,
+    ) (record { answer = refl; ready = λ e. never-both e })
 
 returns-4 : tie.Need-returns-4
 unfolding mapMay

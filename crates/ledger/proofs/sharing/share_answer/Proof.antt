@@ -31,7 +31,15 @@ claims-requires c κs = let r = ready (c .before .before .before) in search need
 
 returns-3 : tie.Need-returns-3
 unfolding shareAnswer
-returns-3 c = let p = c .before .before .before .before .before .before in rw (← p .before .before .pair-early .ensures, p .enum-told .given .1, ne-eqb _ _ (c .before .before .before .if1 .left), ← c .before .before .claims .ensures, c .before .if2 .taken, c .refuse2 .ensures) (record { answer = refl; ready = λ e. never-both e })
+returns-3 c =
+    let p = c .before .before .before .before .before .before in rw (
+      ← p .before .before .pair-early .ensures,
+      p .enum-told .given .1,
+      ne-eqb _ _ (c .before .before .before .if1 .left),
+      ← c .before .before .claims .ensures,
+      c .before .if2 .taken,
+      c .refuse2 .ensures,
+    ) (record { answer = refl; ready = λ e. never-both e })
 
 find-pair-requires : tie.Need-find-pair-requires
 find-pair-requires c κs = let r = ready (c .before .before .before .before .before) in search needs
@@ -53,7 +61,19 @@ returns-5 c =
     let c3 = c1 .before .before in
     let c4 = c3 .before in
     let c6 = c4 .before .before in
-    let p = c6 .before .before .before .before .before .before in rw (← p .before .before .pair-early .ensures, p .enum-told .given .1, ne-eqb _ _ (c6 .before .before .before .if1 .left), ← c6 .before .before .claims .ensures, c6 .before .if2 .left, ← c6 .find-pair .ensures, c4 .enum-told3 .given .1, room-free, ← c3 .lowest-free .ensures, c1 .enum-told4 .given .1, c .refuse3 .ensures) (record { answer = refl; ready = λ e. never-both e })
+    let p = c6 .before .before .before .before .before .before in rw (
+      ← p .before .before .pair-early .ensures,
+      p .enum-told .given .1,
+      ne-eqb _ _ (c6 .before .before .before .if1 .left),
+      ← c6 .before .before .claims .ensures,
+      c6 .before .if2 .left,
+      ← c6 .find-pair .ensures,
+      c4 .enum-told3 .given .1,
+      room-free,
+      ← c3 .lowest-free .ensures,
+      c1 .enum-told4 .given .1,
+      c .refuse3 .ensures,
+    ) (record { answer = refl; ready = λ e. never-both e })
 
 returns-6 : tie.Need-returns-6
 unfolding shareAnswer sharePlace paired

@@ -33,14 +33,32 @@ unfolding unshareAnswer paired
 returns-3 c =
     let c1 = c .before in
     let c3 = c1 .before .before in
-    let p = c3 .before .before .before .before in rw (← p .before .before .pair-early .ensures, p .enum-told .given .1, ← c3 .before .before .before .find-pair .ensures, c3 .before .enum-told3 .given .1, ← c3 .borrower-maps .ensures, ← c1 .before .borrower-maps2 .ensures, c1 .if1 .taken, c .refuse2 .ensures)
+    let p = c3 .before .before .before .before in rw (
+      ← p .before .before .pair-early .ensures,
+      p .enum-told .given .1,
+      ← c3 .before .before .before .find-pair .ensures,
+      c3 .before .enum-told3 .given .1,
+      ← c3 .borrower-maps .ensures,
+      ← c1 .before .borrower-maps2 .ensures,
+      c1 .if1 .taken,
+      c .refuse2 .ensures,
+    )
 
 returns-4 : tie.Need-returns-4
 unfolding unshareAnswer paired
 returns-4 c =
     let c1 = c .before in
     let c3 = c1 .before .before in
-    let p = c3 .before .before .before .before in rw (← p .before .before .pair-early .ensures, p .enum-told .given .1, ← c3 .before .before .before .find-pair .ensures, c3 .before .enum-told3 .given .1, ← c3 .borrower-maps .ensures, ← c1 .before .borrower-maps2 .ensures, c1 .if1 .left, c .accept .ensures)
+    let p = c3 .before .before .before .before in rw (
+      ← p .before .before .pair-early .ensures,
+      p .enum-told .given .1,
+      ← c3 .before .before .before .find-pair .ensures,
+      c3 .before .enum-told3 .given .1,
+      ← c3 .borrower-maps .ensures,
+      ← c1 .before .borrower-maps2 .ensures,
+      c1 .if1 .left,
+      c .accept .ensures,
+    )
 
 pub unshare-answer-spec : {M : Type 1} → statement M
 unshare-answer-spec =

@@ -28,7 +28,19 @@ returns-2 c =
     let c4 = c2 .before .before in
     let c6 = c4 .before .before in
     let c8 = c6 .before .before in
-    let p = c8 .before .before .before in rw (← p .before .before .vm-early .ensures, p .enum-told .given .1, ← c8 .before .before .has-pages .ensures, ← c8 .before .has-pages2 .ensures, ← c8 .any .ensures, ← c6 .before .any2 .ensures, ← c6 .any3 .ensures, ← c4 .any4 .ensures, ← c2 .any5 .ensures, c1 .if1 .taken, c .refuse .ensures)
+    let p = c8 .before .before .before in rw (
+      ← p .before .before .vm-early .ensures,
+      p .enum-told .given .1,
+      ← c8 .before .before .has-pages .ensures,
+      ← c8 .before .has-pages2 .ensures,
+      ← c8 .any .ensures,
+      ← c6 .before .any2 .ensures,
+      ← c6 .any3 .ensures,
+      ← c4 .any4 .ensures,
+      ← c2 .any5 .ensures,
+      c1 .if1 .taken,
+      c .refuse .ensures,
+    )
 
 returns-3 : tie.Need-returns-3
 unfolding removeVmAnswer hasMappings edgeOf onPort
@@ -38,7 +50,19 @@ returns-3 c =
     let c4 = c2 .before .before in
     let c6 = c4 .before .before in
     let c8 = c6 .before .before in
-    let p = c8 .before .before .before in rw (← p .before .before .vm-early .ensures, p .enum-told .given .1, ← c8 .before .before .has-pages .ensures, ← c8 .before .has-pages2 .ensures, ← c8 .any .ensures, ← c6 .before .any2 .ensures, ← c6 .any3 .ensures, ← c4 .any4 .ensures, ← c2 .any5 .ensures, c1 .if1 .left, c .accept .ensures)
+    let p = c8 .before .before .before in rw (
+      ← p .before .before .vm-early .ensures,
+      p .enum-told .given .1,
+      ← c8 .before .before .has-pages .ensures,
+      ← c8 .before .has-pages2 .ensures,
+      ← c8 .any .ensures,
+      ← c6 .before .any2 .ensures,
+      ← c6 .any3 .ensures,
+      ← c4 .any4 .ensures,
+      ← c2 .any5 .ensures,
+      c1 .if1 .left,
+      c .accept .ensures,
+    )
 
 pub remove-vm-answer-spec : {M : Type 1} → statement M
 remove-vm-answer-spec =
