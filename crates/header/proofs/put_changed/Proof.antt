@@ -7,8 +7,14 @@ use Rattle.header.specs.PieceLaws.{three-writes}
 use Rattle.header.proofs.put_changed.Statement.{statement}
 use Rattle.header.proofs.put_changed.Tie as tie
 
+slice-aggregate-put-numbers-2 : tie.Need-slice-aggregate-put-numbers-2
+slice-aggregate-put-numbers-2 c = search needs
+
 put-numbers-requires-2 : tie.Need-put-numbers-requires-2
 put-numbers-requires-2 c κs = omega (arith, slice-aggregate-put-numbers-2 c)
+
+slice-aggregate-put-numbers-3 : tie.Need-slice-aggregate-put-numbers-3
+slice-aggregate-put-numbers-3 c = search needs
 
 put-numbers-requires-3 : tie.Need-put-numbers-requires-3
 put-numbers-requires-3 c κs = omega (arith, slice-aggregate-put-numbers-3 c)
@@ -28,9 +34,9 @@ put-changed-spec =
     (tie.spec
     (λ c. search needs)
     (λ c κs. search needs)
-    (λ c. search needs)
+    slice-aggregate-put-numbers-2
     put-numbers-requires-2
-    (λ c. search needs)
+    slice-aggregate-put-numbers-3
     put-numbers-requires-3
     (λ c. search needs)
     returns)
