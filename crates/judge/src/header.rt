@@ -5,9 +5,11 @@ ghost use lib.ListN.{getD};
 ghost use Rattle.numbers.specs.Decides.{Decides};
 ghost use Rattle.numbers.specs.Limits.{UNITS};
 ghost use Rattle.units.specs.Units.{noUnit};
+ghost use Rattle.model.specs.Header.{setupOf};
 ghost use Rattle.model.specs.Valid.{UnitGood, SetupGood, KnownGood};
 ghost use Rattle.model.specs.Views.{knows};
-ghost use Rattle.judge.specs.Parts.{RouteSizes, Sizes, SetupNumbers, setupWith};
+ghost use Rattle.judge.specs.Parts.{RouteSizes, Sizes, SetupNumbers};
+use model::Fixed;
 use numbers::ACCESSES;
 use numbers::ENTRIES;
 use numbers::PAGES;
@@ -90,19 +92,19 @@ fn setup_numbers(pages: u64, shared_base: u64, shared_count: u64, unit_count: u6
         & (unit_count <= UNITS as u64)
 }
 
-pub fn setup(
-    pages: u64,
-    shared_base: u64,
-    shared_count: u64,
-    units: [Unit; UNITS],
-    unit_count: u64,
-) -> bool
-    ensures { λ r. ⌜ Decides r (SetupGood (setupWith pages «shared_base» «shared_count» units «unit_count»)) ⌝ }
+pub fn setup(fixed: Fixed) -> bool
+    ensures { λ r. ⌜ Decides r (SetupGood (setupOf fixed)) ⌝ }
 {
-    if !setup_numbers(pages, shared_base, shared_count, unit_count) {
+    if !setup_numbers(
+        fixed.pages,
+        fixed.shared_base,
+        fixed.shared_count,
+        fixed.unit_count,
+    ) {
         return false;
     }
-    units_good(units, unit_count, pages)
+    let units = fixed.units;
+    units_good(units, fixed.unit_count, fixed.pages)
 }
 
 // ---- 3: known VMs.

@@ -160,8 +160,8 @@ pub fn free(
             lowest: Lowest::Nothing,
         };
     }
-    let count = pages::free_count(sets, m.pages);
-    let lowest = pages::lowest_free(sets, m.pages);
+    let count = pages::free_count(sets, m.fixed.pages);
+    let lowest = pages::lowest_free(sets, m.fixed.pages);
     FreePages {
         answer: numbers::accept(0),
         count,

@@ -10,15 +10,17 @@ use Rattle.numbers.specs.declared.SideOperation.{SideOperation}
 use Rattle.numbers.specs.declared.VmId.{VmId}
 use Rattle.numbers.specs.declared.PhysPage.{PhysPage}
 use Rattle.numbers.specs.declared.Operation.the-variants.{AddVm, RemoveVm, AssignPage, ReclaimPage, SharePage, UnsharePage, On, DataBarrier, InstructionBarrier}
-use Rattle.model.specs.Header.{setupOf, tablesOf, stateOf}
+use Rattle.model.specs.Header.{headerOf, setupOf, tablesOf, stateOf}
+use Rattle.model.specs.declared.Fixed.{Fixed}
+use Rattle.model.specs.declared.SideRegisters.{SideRegisters}
+use Rattle.model.specs.declared.Registers.{Registers}
 use Rattle.model.specs.declared.Machine.{Machine}
 use Rattle.model.specs.State.{Tables, Route, State, route, withSide, withKnown, withSets, withPairs}
 use Rattle.model.specs.Effect.{Effect, clears, quiet, kept, decided, accepted, apply, clearedPages}
 use Rattle.model.specs.Ledger.{addVmAnswer, addVmKnown, removeVmAnswer, removeVmKnown, assignAnswer, assignSets, reclaimAnswer, reclaimSets, reclaimClears, shareAnswer, sharePairs, unshareAnswer, unsharePairs}
 use Rattle.model.specs.Step.{Stepped, carriedOut, control, step}
 use Rattle.sides.specs.Sides.{Sight, SideStepped, sight, sideStepped, sideDecided, sideStep}
-use Rattle.operate.specs.declared.Registers.{Registers}
-use Rattle.operate.specs.Outcome.{outcome, withRegisters, withKnownIn, withSideIn}
+use Rattle.operate.specs.Outcome.{outcome}
 
 abbrev pub stepped : Answer → Tables → List ℕ → Stepped
 stepped answer t memory = record { answer = answer; state = record { tables = t; memory = memory } }
@@ -69,9 +71,13 @@ module _ (t : Tables) (memory : List ℕ) where
   side-step side operation = sym (side-arm side _ _ _ _)
 
 -- ---- each operation, over what start fixed, the registers and the lists
-module _ (fixed : Machine) (r : Registers) (sets pairs cpuMap cpuWalker cpuCache dmaMap dmaWalker dmaCache memory : List ℕ) where
+module _ (fixed : Fixed) (r : Registers) (sets pairs cpuMap cpuWalker cpuCache dmaMap dmaWalker dmaCache memory : List ℕ) where
   abbrev header : Machine
-  header = withRegisters fixed r
+  header = headerOf fixed r
+
+  -- the same with other known VMs
+  abbrev known : ℕ → Machine
+  known v = headerOf fixed (record { known = v; cpu = r .cpu; dma = r .dma })
 
   abbrev here : Tables
   here = tablesOf header sets pairs cpuMap cpuWalker cpuCache dmaMap dmaWalker dmaCache
@@ -79,11 +85,11 @@ module _ (fixed : Machine) (r : Registers) (sets pairs cpuMap cpuWalker cpuCache
   abbrev now : State
   now = stateOf header sets pairs cpuMap cpuWalker cpuCache dmaMap dmaWalker dmaCache memory
 
-  pub add-vm-step : (vm : VmId) → let a = addVmAnswer (r .known) (vm .0) in outcome a (withRegisters fixed (withKnownIn r (kept a (r .known) (addVmKnown (r .known) (vm .0))))) sets pairs cpuMap cpuWalker cpuCache dmaMap dmaWalker dmaCache memory ≡ step now (AddVm vm)
+  pub add-vm-step : (vm : VmId) → let a = addVmAnswer (r .known) (vm .0) in outcome a (known (kept a (r .known) (addVmKnown (r .known) (vm .0)))) sets pairs cpuMap cpuWalker cpuCache dmaMap dmaWalker dmaCache memory ≡ step now (AddVm vm)
   unfolding step control
   add-vm-step vm = sym (known-arm here memory _ _)
 
-  pub remove-vm-step : (vm : VmId) → let a = removeVmAnswer (r .known) sets pairs cpuMap dmaMap (r .cpus) (r .devices) (vm .0) in outcome a (withRegisters fixed (withKnownIn r (kept a (r .known) (removeVmKnown (r .known) (vm .0))))) sets pairs cpuMap cpuWalker cpuCache dmaMap dmaWalker dmaCache memory ≡ step now (RemoveVm vm)
+  pub remove-vm-step : (vm : VmId) → let a = removeVmAnswer (r .known) sets pairs cpuMap dmaMap (r .cpu .ports) (r .dma .ports) (vm .0) in outcome a (known (kept a (r .known) (removeVmKnown (r .known) (vm .0)))) sets pairs cpuMap cpuWalker cpuCache dmaMap dmaWalker dmaCache memory ≡ step now (RemoveVm vm)
   unfolding step control
   remove-vm-step vm = sym (known-arm here memory _ _)
 
@@ -113,15 +119,15 @@ module _ (fixed : Machine) (r : Registers) (sets pairs cpuMap cpuWalker cpuCache
 
   -- ---- an operation of a side, where a step over the side's tables left what is given
   pub cpu-step :
-      (operation : SideOperation) {a : Answer} {sets′ map′ walker′ cache′ : List ℕ} {hand′ : ℕ} {ports′ memory′ : List ℕ} →
-      sideStepped a (sight sets′ map′ walker′ cache′ hand′ ports′ memory′)
-      ≡ sideStep Cpu (setupOf fixed) (r .known) pairs (sight sets cpuMap cpuWalker cpuCache (r .«cpu_hand») (r .cpus) memory) operation →
-      outcome a (withRegisters fixed (withSideIn Cpu r ports′ hand′)) sets′ pairs map′ walker′ cache′ dmaMap dmaWalker dmaCache memory′ ≡ step now (On Cpu operation)
+      (operation : SideOperation) {a : Answer} {sets′ map′ walker′ cache′ : List ℕ} {own′ : SideRegisters} {memory′ : List ℕ} →
+      sideStepped a (sight sets′ map′ walker′ cache′ (own′ .hand) (own′ .ports) memory′)
+      ≡ sideStep Cpu (setupOf fixed) (r .known) pairs (sight sets cpuMap cpuWalker cpuCache (r .cpu .hand) (r .cpu .ports) memory) operation →
+      outcome a (headerOf fixed (record { known = r .known; cpu = own′; dma = r .dma })) sets′ pairs map′ walker′ cache′ dmaMap dmaWalker dmaCache memory′ ≡ step now (On Cpu operation)
   cpu-step operation e = ap (joined here memory Cpu) e ∙ side-step here memory Cpu operation
 
   pub dma-step :
-      (operation : SideOperation) {a : Answer} {sets′ map′ walker′ cache′ : List ℕ} {hand′ : ℕ} {ports′ memory′ : List ℕ} →
-      sideStepped a (sight sets′ map′ walker′ cache′ hand′ ports′ memory′)
-      ≡ sideStep Dma (setupOf fixed) (r .known) pairs (sight sets dmaMap dmaWalker dmaCache (r .«dma_hand») (r .devices) memory) operation →
-      outcome a (withRegisters fixed (withSideIn Dma r ports′ hand′)) sets′ pairs cpuMap cpuWalker cpuCache map′ walker′ cache′ memory′ ≡ step now (On Dma operation)
+      (operation : SideOperation) {a : Answer} {sets′ map′ walker′ cache′ : List ℕ} {own′ : SideRegisters} {memory′ : List ℕ} →
+      sideStepped a (sight sets′ map′ walker′ cache′ (own′ .hand) (own′ .ports) memory′)
+      ≡ sideStep Dma (setupOf fixed) (r .known) pairs (sight sets dmaMap dmaWalker dmaCache (r .dma .hand) (r .dma .ports) memory) operation →
+      outcome a (headerOf fixed (record { known = r .known; cpu = r .cpu; dma = own′ })) sets′ pairs cpuMap cpuWalker cpuCache map′ walker′ cache′ memory′ ≡ step now (On Dma operation)
   dma-step operation e = ap (joined here memory Dma) e ∙ side-step here memory Dma operation

@@ -10,7 +10,7 @@ use Rattle.numbers.specs.declared.SideOperation.{SideOperation}
 use Rattle.model.specs.State.{Setup, Route}
 use Rattle.model.specs.Effect.{Effect, kept, quiet, apply}
 use Rattle.model.specs.Step.{answerWith, sideAnswer, sideSets, sideRoute, sideEffect}
-use Rattle.model.specs.declared.Machine.{Machine}
+use Rattle.model.specs.declared.Fixed.{Fixed}
 
 -- all that an operation of one side may touch
 pub record Sight : Type 0 where
@@ -47,8 +47,8 @@ sideStep side setup known pairs s operation =
     (sideEffect side (s .sets) (s .route) operation)
 
 -- ---- what an operation asks for: numbers that size its work, and the lengths of the page sets and of memory
-pub record Fit (m : Machine) (sets memory : List ℕ) : Type 0 where
-  pub few-pages : m .pages ≤ PAGES
-  pub few-units : m .«unit_count» ≤ UNITS
+pub record Fit (fixed : Fixed) (sets memory : List ℕ) : Type 0 where
+  pub few-pages : fixed .pages ≤ PAGES
+  pub few-units : fixed .«unit_count» ≤ UNITS
   pub sets-length : length sets ≡ SETS * SET-WORDS
-  pub memory-length : length memory ≡ PAGE-WORDS * m .pages
+  pub memory-length : length memory ≡ PAGE-WORDS * fixed .pages

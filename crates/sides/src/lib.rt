@@ -2,7 +2,8 @@
 ghost use mathlib.Core.Path.{_≡_};
 ghost use Rattle.model.specs.Header.{setupOf};
 ghost use Rattle.sides.specs.Sides.{sight, sideStepped, sideStep, Fit};
-use model::Machine;
+use model::Fixed;
+use model::SideRegisters;
 use numbers::Answer;
 use numbers::Side;
 use numbers::SideOperation;
@@ -10,17 +11,15 @@ use numbers::SideOperation;
 // The answer, and the part of the header that a side's operation may change.
 pub struct SideDone {
     pub answer: Answer,
-    pub ports: [u64; 8],
-    pub hand: u64,
+    pub registers: SideRegisters,
 }
 
 // Each arm hands on the slices that it touches; a region operation alone copies the units.
 pub fn side_step(
     side: Side,
-    fixed: Machine,
+    fixed: Fixed,
     known: u64,
-    ports: [u64; 8],
-    hand: u64,
+    registers: SideRegisters,
     sets: &mut [u64],
     pairs: &[u64],
     map: &mut [u64],
@@ -30,8 +29,8 @@ pub fn side_step(
     operation: SideOperation,
 ) -> SideDone
     requires { ⌜ Fit fixed (now sets) (now memory) ⌝ }
-    ensures { λ r. ⌜ sideStepped (r .answer) (sight (now (sets .exit)) (now (map .exit)) (now (walker .exit)) (now (cache .exit)) (r .hand) (r .ports) (now (memory .exit)))
-        ≡ sideStep side (setupOf fixed) known (now (pairs .entry)) (sight (now (sets .entry)) (now (map .entry)) (now (walker .entry)) (now (cache .entry)) hand ports (now (memory .entry))) operation ⌝ }
+    ensures { λ r. ⌜ sideStepped (r .answer) (sight (now (sets .exit)) (now (map .exit)) (now (walker .exit)) (now (cache .exit)) (r .registers .hand) (r .registers .ports) (now (memory .exit)))
+        ≡ sideStep side (setupOf fixed) known (now (pairs .entry)) (sight (now (sets .entry)) (now (map .entry)) (now (walker .entry)) (now (cache .entry)) (registers .hand) (registers .ports) (now (memory .entry))) operation ⌝ }
 {
     match operation {
         SideOperation::MapPage {
@@ -58,16 +57,14 @@ pub fn side_step(
             );
             SideDone {
                 answer: answer,
-                ports: ports,
-                hand: hand,
+                registers: registers,
             }
         }
         SideOperation::UnmapPage(vm, guest) => {
             let answer = maps::unmap_page(known, map, walker, cache, vm, guest);
             SideDone {
                 answer: answer,
-                ports: ports,
-                hand: hand,
+                registers: registers,
             }
         }
         SideOperation::InsertRegion(region) => {
@@ -85,8 +82,7 @@ pub fn side_step(
             );
             SideDone {
                 answer: answer,
-                ports: ports,
-                hand: hand,
+                registers: registers,
             }
         }
         SideOperation::RemoveRegion(region) => {
@@ -107,43 +103,47 @@ pub fn side_step(
             );
             SideDone {
                 answer: answer,
-                ports: ports,
-                hand: hand,
+                registers: registers,
             }
         }
         SideOperation::GivePort(port, target) => {
+            let ports = registers.ports;
             let given = maps::give_port(known, ports, port, target);
             let answer = given.answer;
             let next = given.ports;
             SideDone {
                 answer: answer,
-                ports: next,
-                hand: hand,
+                registers: SideRegisters {
+                    ports: next,
+                    hand: registers.hand,
+                },
             }
         }
         SideOperation::FillSlot(port, guest) => {
-            let filled = maps::fill_slot(ports, walker, cache, hand, port, guest);
+            let ports = registers.ports;
+            let filled = maps::fill_slot(ports, walker, cache, registers.hand, port, guest);
             let answer = filled.answer;
             SideDone {
                 answer: answer,
-                ports: ports,
-                hand: filled.hand,
+                registers: SideRegisters {
+                    ports: ports,
+                    hand: filled.hand,
+                },
             }
         }
         SideOperation::EmptySlot(slot) => {
             let answer = maps::empty_slot(cache, slot);
             SideDone {
                 answer: answer,
-                ports: ports,
-                hand: hand,
+                registers: registers,
             }
         }
         SideOperation::ReadWord { port, guest, word } => {
+            let ports = registers.ports;
             let answer = access::read_word(ports, cache, walker, memory, port, guest, word);
             SideDone {
                 answer: answer,
-                ports: ports,
-                hand: hand,
+                registers: registers,
             }
         }
         SideOperation::WriteWord {
@@ -152,11 +152,11 @@ pub fn side_step(
             word,
             value,
         } => {
+            let ports = registers.ports;
             let answer = access::write_word(ports, cache, walker, memory, port, guest, word, value);
             SideDone {
                 answer: answer,
-                ports: ports,
-                hand: hand,
+                registers: registers,
             }
         }
     }

@@ -8,8 +8,11 @@ ghost use Rattle.numbers.specs.Limits.{PAGES, SETS, SET-WORDS, UNITS};
 ghost use Rattle.table.specs.Scan.{anyBelow, repeat};
 ghost use Rattle.units.specs.Units.{noUnit};
 ghost use Rattle.model.specs.Start.{UNIT-NUMBERS, countTold, numberTold, unitTold, unitsTold, badField, badSpan, lengthsGood, startAnswer, firstHome, start};
-ghost use Rattle.start.specs.Begun.{told, lent, began, zeros, freshHeader, emptyHeader};
+ghost use Rattle.start.specs.Begun.{told, lent, began, zeros, freshRegisters, freshHeader, emptyHeader};
+use model::Fixed;
 use model::Machine;
+use model::Registers;
+use model::SideRegisters;
 use numbers::ACCESSES;
 use numbers::Answer;
 use numbers::ENTRIES;
@@ -292,25 +295,35 @@ fn clear_route(map: &mut [u64], walker: &mut [u64], cache: &mut [u64])
 
 // ---- The two headers that start gives. Crate `header` reads one from numbers, and `changes` has its own to be damaged.
 
+// No VM is known, every port is idle, and replacement begins at the first slot.
+fn fresh_registers() -> Registers
+    ensures { λ r. ⌜ r ≡ freshRegisters ⌝ }
+{
+    let side = SideRegisters {
+        ports: [IDLE; PORTS as usize],
+        hand: 0,
+    };
+    Registers {
+        known: 0,
+        cpu: side,
+        dma: side,
+    }
+}
+
 fn fresh_machine(pages: u64, shared_base: u64, shared_count: u64, units: &[u64]) -> Machine
     requires { ⌜ countTold (now units) ≤ UNITS ⌝ }
     ensures { λ r. ⌜ r ≡ freshHeader (told pages «shared_base» «shared_count» (now (units .entry))) ⌝ }
 {
     let all = units_told(units);
-    // Replacement begins at the first slot.
-    let hand = 0;
-    Machine {
+    let registers = fresh_registers();
+    let fixed = Fixed {
         pages,
         shared_base,
         shared_count,
         units: all,
         unit_count: (units.len() / UNIT_NUMBERS) as u64,
-        known: 0,
-        cpus: [IDLE; PORTS as usize],
-        devices: [IDLE; PORTS as usize],
-        cpu_hand: hand,
-        dma_hand: hand,
-    }
+    };
+    Machine { fixed, registers }
 }
 
 // The machine of no pages, which is never valid.
@@ -318,18 +331,15 @@ pub fn empty_machine() -> Machine
     ensures { λ r. ⌜ r ≡ emptyHeader ⌝ }
 {
     let none = no_units();
-    Machine {
+    let registers = fresh_registers();
+    let fixed = Fixed {
         pages: 0,
         shared_base: 0,
         shared_count: 0,
         units: none,
         unit_count: 0,
-        known: 0,
-        cpus: [IDLE; PORTS as usize],
-        devices: [IDLE; PORTS as usize],
-        cpu_hand: 0,
-        dma_hand: 0,
-    }
+    };
+    Machine { fixed, registers }
 }
 
 // ---- Start.

@@ -61,8 +61,8 @@ ground c =
     }
 
 -- ---- rule 1, with the lengths that the header's arrays have by type
-by-type : (s : tie.Start) → (length (s .args .m .units) ≡ UNITS) × (length (s .args .m .cpus) ≡ PORTS) × (length (s .args .m .devices) ≡ PORTS)
-by-type s = (sym (length-map (s .args .m .units) _) ∙ s .good .0 .1 .1 .1 .1 .1 .0 .1 .0 .1, search needs, search needs)
+by-type : (s : tie.Start) → (length (s .args .m .fixed .units) ≡ UNITS) × (length (s .args .m .registers .cpu .ports) ≡ PORTS) × (length (s .args .m .registers .dma .ports) ≡ PORTS)
+by-type s = (sym (length-map (s .args .m .fixed .units) _) ∙ s .good .0 .1 .1 .0 .1 .1 .1 .1 .1 .0 .1 .0 .1, search needs, search needs)
 
 lengths : (c : tie.Else1) → Lengths (tables (before1 c))
 lengths c = let (units, cpus, devices) = by-type (before1 c) in lengths-of _ (rule1 c) units cpus devices

@@ -5,15 +5,15 @@ use Rattle.operate.proofs.step.Tie as tie
 
 returns : tie.Need-returns
 returns c =
-    let c3 = c .before .before .before in
-    let c14 = c3 .before .before .before .before .before .before .before .before .before .before .before in
-    rw (c3 .operation .given .1, c .with-known .ensures, c .before .add-vm .ensures .known, c .before .add-vm .ensures .answer) (add-vm-step (c14 .args .fixed) (c14 .args .registers) _ _ _ _ _ _ _ _ _ _)
+    let c2 = c .before .before in
+    let c13 = c2 .before .before .before .before .before .before .before .before .before .before .before in
+    rw (c2 .operation .given .1, c .add-vm .ensures .known, c .add-vm .ensures .answer) (add-vm-step (c13 .args .fixed) (c13 .args .registers) _ _ _ _ _ _ _ _ _ _)
 
 returns-2 : tie.Need-returns-2
 returns-2 c =
-    let c9 = c .before .before .before .before .before .before .before .before .before in
-    let c20 = c9 .before .before .before .before .before .before .before .before .before .before .before in
-    rw (c9 .operation2 .given .1, c .with-known2 .ensures, c .before .remove-vm .ensures .known, c .before .remove-vm .ensures .answer) (remove-vm-step (c20 .args .fixed) (c20 .args .registers) _ _ _ _ _ _ _ _ _ _)
+    let c8 = c .before .before .before .before .before .before .before .before in
+    let c19 = c8 .before .before .before .before .before .before .before .before .before .before .before in
+    rw (c8 .operation2 .given .1, c .remove-vm .ensures .known, c .remove-vm .ensures .answer) (remove-vm-step (c19 .args .fixed) (c19 .args .registers) _ _ _ _ _ _ _ _ _ _)
 
 returns-3 : tie.Need-returns-3
 returns-3 c =
@@ -45,19 +45,19 @@ returns-6 c =
 
 returns-7 : tie.Need-returns-7
 returns-7 c =
-    let c12 = c .before .before .before .before .before .before .before .before .before .before .before .before in
-    let c20 = c12 .before .before .before .before .before .before .before .before in
-    let c23 = c20 .before .before .before in
-    let c34 = c23 .before .before .before .before .before .before .before .before .before .before .before in
-    rw (c23 .operation7 .given .1, c20 .enum-told .given .1, c .with-side .ensures) (cpu-step (c34 .args .fixed) (c34 .args .registers) _ _ _ _ _ _ _ _ _ _ (c12 .side-step .ensures))
+    let c11 = c .before .before .before .before .before .before .before .before .before .before .before in
+    let c19 = c11 .before .before .before .before .before .before .before .before in
+    let c22 = c19 .before .before .before in
+    let c33 = c22 .before .before .before .before .before .before .before .before .before .before .before in
+    rw (c22 .operation7 .given .1, c19 .enum-told .given .1) (cpu-step (c33 .args .fixed) (c33 .args .registers) _ _ _ _ _ _ _ _ _ _ (c11 .side-step .ensures))
 
 returns-8 : tie.Need-returns-8
 returns-8 c =
-    let c12 = c .before .before .before .before .before .before .before .before .before .before .before .before in
-    let c20 = c12 .before .before .before .before .before .before .before .before in
-    let c23 = c20 .before .before .before in
-    let c34 = c23 .before .before .before .before .before .before .before .before .before .before .before in
-    rw (c23 .operation7 .given .1, c20 .enum-told2 .given .1, c .with-side2 .ensures) (dma-step (c34 .args .fixed) (c34 .args .registers) _ _ _ _ _ _ _ _ _ _ (c12 .side-step2 .ensures))
+    let c11 = c .before .before .before .before .before .before .before .before .before .before .before in
+    let c19 = c11 .before .before .before .before .before .before .before .before in
+    let c22 = c19 .before .before .before in
+    let c33 = c22 .before .before .before .before .before .before .before .before .before .before .before in
+    rw (c22 .operation7 .given .1, c19 .enum-told2 .given .1) (dma-step (c33 .args .fixed) (c33 .args .registers) _ _ _ _ _ _ _ _ _ _ (c11 .side-step2 .ensures))
 
 returns-9 : tie.Need-returns-9
 returns-9 c =
@@ -75,9 +75,7 @@ step-spec =
     (tie.spec
     (λ c. search needs)
     (λ c κs. search needs)
-    (λ c κs. search needs)
     (λ c. search needs)
-    (λ c κs. search needs)
     (λ c κs. search needs)
     (λ c. search needs)
     (λ c κs. search needs)
@@ -90,9 +88,7 @@ step-spec =
     (λ c. search needs)
     (λ c. search needs)
     (λ c κs. search needs)
-    (λ c κs. search needs)
     (λ c. search needs)
-    (λ c κs. search needs)
     (λ c κs. search needs)
     (λ c. search needs)
     (λ c. search needs)

@@ -14,17 +14,16 @@ returns c =
 
 run-requires : tie.Need-run-requires
 run-requires c κs =
-    let c11 = c .before .before .before .before .before .before .before .before .before .before .before in
-    (c11 .before .before .before .before .before .before .before .before .before .before .before .before .before .before .pre, (omega arith, shape-room _ _ _ (c11 .before .before .shape .ensures) (c11 .enum-told .given .1)))
+    let c12 = c .before .before .before .before .before .before .before .before .before .before .before .before in
+    (c12 .before .before .before .before .before .before .before .before .before .before .before .before .before .before .pre, (omega arith, shape-room _ _ _ (c12 .before .before .shape .ensures) (c12 .enum-told .given .1)))
 
 returns-2 : tie.Need-returns-2
 returns-2 c =
-    let c21 = c .before .before .before .before .before .before .before .before .before .before .before .before .before .before .before .before .before .before .before .before .before in
-    let c32 = c21 .before .before .before .before .before .before .before .before .before .before .before in
-    let c33 = c32 .before in
+    let c20 = c .before .before .before .before .before .before .before .before .before .before .before .before .before .before .before .before .before .before .before .before in
+    let c33 = c20 .before .before .before .before .before .before .before .before .before .before .before .before .before in
     let c35 = c33 .before .before in
     let c47 = c35 .before .before .before .before .before .before .before .before .before .before .before .before in
-    rw (c .with-registers .ensures) (sequence-done (stateOf (c47 .args .m) (c47 .args .sets .now) (c47 .args .pairs .now) (c47 .args .cpu-map .now) (c47 .args .cpu-walker .now) (c47 .args .cpu-cache .now) (c47 .args .dma-map .now) (c47 .args .dma-walker .now) (c47 .args .dma-cache .now) (c47 .args .memory .now)) (c47 .args .rows .now) (c47 .args .room .now) _ (c35 .shape .ensures) _ (c33 .enum-told .given .1) (rw (c32 .registers-of .ensures) at (c21 .run .ensures)))
+    sequence-done (stateOf (c47 .args .m) (c47 .args .sets .now) (c47 .args .pairs .now) (c47 .args .cpu-map .now) (c47 .args .cpu-walker .now) (c47 .args .cpu-cache .now) (c47 .args .dma-map .now) (c47 .args .dma-walker .now) (c47 .args .dma-cache .now) (c47 .args .memory .now)) (c47 .args .rows .now) (c47 .args .room .now) _ (c35 .shape .ensures) _ (c33 .enum-told .given .1) (c20 .run .ensures)
 
 pub carry-out-spec : {M : Type 1} → statement M
 carry-out-spec =
@@ -34,9 +33,7 @@ carry-out-spec =
     (λ c. search needs)
     returns
     (λ c. search needs)
-    (λ c κs. search needs)
     run-requires
-    (λ c κs. search needs)
     (λ c. search needs)
     (λ c. search needs)
     (λ c. search needs)

@@ -1,6 +1,6 @@
 use Prim.Native.Nat.{_-_}
 use native.Mathlib.Omega.{arith}
-use Rattle.operate.specs.Outcome.{withRegisters}
+use Rattle.model.specs.Header.{headerOf}
 use Rattle.sequence.specs.Run.{progress}
 use Rattle.sequence.specs.RunLaws.{Running, run-start, run-next, run-end, fit-kept}
 use Rattle.sequence.proofs.run.Statement.{statement}
@@ -8,7 +8,7 @@ use Rattle.sequence.proofs.run.Tie as tie
 
 abbrev Inv-loop : tie.InvT-loop
 Inv-loop fixed sets₀ pairs₀ cpu-map₀ cpu-walker₀ cpu-cache₀ dma-map₀ dma-walker₀ dma-cache₀ memory₀ rows room₀ count next₀ k₀ sets pairs cpu-map cpu-walker cpu-cache dma-map dma-walker dma-cache memory room next k =
-    Running rows count (progress (withRegisters fixed next₀) sets₀ pairs₀ cpu-map₀ cpu-walker₀ cpu-cache₀ dma-map₀ dma-walker₀ dma-cache₀ memory₀ room₀) (progress (withRegisters fixed next) sets pairs cpu-map cpu-walker cpu-cache dma-map dma-walker dma-cache memory room) k
+    Running rows count (progress (headerOf fixed next₀) sets₀ pairs₀ cpu-map₀ cpu-walker₀ cpu-cache₀ dma-map₀ dma-walker₀ dma-cache₀ memory₀ room₀) (progress (headerOf fixed next) sets pairs cpu-map cpu-walker cpu-cache dma-map dma-walker dma-cache memory room) k
 
 abbrev μ-loop : tie.MeasureT-loop
 μ-loop fixed sets₀ pairs₀ cpu-map₀ cpu-walker₀ cpu-cache₀ dma-map₀ dma-walker₀ dma-cache₀ memory₀ rows room₀ count next₀ k₀ sets pairs cpu-map cpu-walker cpu-cache dma-map dma-walker dma-cache memory room next k =

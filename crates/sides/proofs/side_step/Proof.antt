@@ -25,21 +25,21 @@ returns-4 c =
     rw (c10 .before .before .before .before .before .before .before .before .operation4 .given .1) (side-same (c10 .remove-region .ensures .answer) (c10 .remove-region .ensures .sets) (c10 .remove-region .ensures .map) (c10 .remove-region .ensures .walker) (c10 .remove-region .ensures .cache) refl refl (c10 .remove-region .ensures .memory) ∙ remove-arm _ _ _ _ _ _ _ _ _ _ _ _)
 
 returns-5 : tie.Need-returns-5
-returns-5 c = rw (c .before .before .before .operation5 .given .1) (side-same (c .before .give-port .ensures .answer) refl refl refl refl refl (c .before .give-port .ensures .ports) refl ∙ give-arm _ _ _ _ _ _ _ _ _ _ _ _ _)
+returns-5 c = rw (c .before .before .before .before .operation5 .given .1) (side-same (c .before .give-port .ensures .answer) refl refl refl refl refl (c .before .give-port .ensures .ports) refl ∙ give-arm _ _ _ _ _ _ _ _ _ _ _ _ _)
 
 returns-6 : tie.Need-returns-6
 returns-6 c =
     let c2 = c .before .before in
-    rw (c2 .before .before .before .before .operation6 .given .1) (side-same (c2 .fill-slot .ensures .answer) refl refl refl (c2 .fill-slot .ensures .cache) (c2 .fill-slot .ensures .hand) refl refl ∙ fill-arm _ _ _ _ _ _ _ _ _ _ _ _ _)
+    rw (c2 .before .before .before .before .before .operation6 .given .1) (side-same (c2 .fill-slot .ensures .answer) refl refl refl (c2 .fill-slot .ensures .cache) (c2 .fill-slot .ensures .hand) refl refl ∙ fill-arm _ _ _ _ _ _ _ _ _ _ _ _ _)
 
 returns-7 : tie.Need-returns-7
 returns-7 c = rw (c .before .before .before .before .before .operation7 .given .1) (side-same (c .before .before .empty-slot .ensures .answer) refl refl refl (c .before .before .empty-slot .ensures .cache) refl refl refl ∙ empty-arm _ _ _ _ _ _ _ _ _ _ _ _)
 
 returns-8 : tie.Need-returns-8
-returns-8 c = rw (c .before .before .before .before .before .operation8 .given .1) (side-same (c .read-word .ensures) refl refl refl refl refl refl refl ∙ read-arm _ _ _ _ _ _ _ _ _ _ _ _ _ _)
+returns-8 c = rw (c .before .before .before .before .before .before .operation8 .given .1) (side-same (c .read-word .ensures) refl refl refl refl refl refl refl ∙ read-arm _ _ _ _ _ _ _ _ _ _ _ _ _ _)
 
 returns-9 : tie.Need-returns-9
-returns-9 c = rw (c .before .before .before .before .before .before .before .operation9 .given .1) (side-same (c .before .before .write-word .ensures .0) refl refl refl refl refl refl (c .before .before .write-word .ensures .1) ∙ write-arm _ _ _ _ _ _ _ _ _ _ _ _ _ _ _)
+returns-9 c = rw (c .before .before .before .before .before .before .before .before .operation9 .given .1) (side-same (c .before .before .write-word .ensures .0) refl refl refl refl refl refl (c .before .before .write-word .ensures .1) ∙ write-arm _ _ _ _ _ _ _ _ _ _ _ _ _ _ _)
 
 pub side-step-spec : {M : Type 1} → statement M
 side-step-spec =

@@ -36,6 +36,9 @@ fresh-machine-requires c κs = start-passed _ _ (sym (passed c .before .before .
 same-length-10 : tie.Need-same-length-10
 same-length-10 c = c .before .before .before .before .before .before .before .before .before .before .before .before .before .before .before .before .before .before .before .before .before .before .before .before .before .before .before .before .before .before .sets .given
 
+same-length-11 : tie.Need-same-length-11
+same-length-11 c = c .before .before .before .before .before .before .before .before .before .before .before .before .before .before .before .before .before .before .before .before .before .before .before .before .before .before .pairs .given
+
 returns-2 : tie.Need-returns-2
 returns-2 c =
     let c1 = c .before in
@@ -78,7 +81,7 @@ start-spec =
     (λ c κs. search needs)
     fresh-machine-requires
     same-length-10
-    (λ c. search needs)
+    same-length-11
     (λ c. search needs)
     (λ c. search needs)
     (λ c. search needs)
