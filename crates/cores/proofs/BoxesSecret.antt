@@ -25,7 +25,7 @@ use Rattle.model.specs.State.{Tables, State}
 use Rattle.model.specs.Valid.{Valid}
 use Rattle.model.proofs.Answers.{four, shape-accepted}
 use Rattle.model.proofs.Secrecy.{Unchanged, StepAlike, WrittenIn, secret-step, secrecy, own-write, own-writes, secret-step-one, secrecy-one, own-write-one, own-writes-one}
-use Rattle.model.proofs.SecrecyCalls.{begun, valid-as, numbers-alike, CallsAlike, two-calls}
+use Rattle.model.proofs.SecrecyCalls.{valid-as, numbers-alike, CallsAlike, two-calls}
 use Rattle.header.specs.Numbers.{HeaderGood, changed, freeNumbers}
 use Rattle.cores.specs.BoxSecrecy.{WORD-AT, withMemory, BoxesAlike, SeenIn, Calls, done, call, AllAlike, OperationsAlike, SequencesAlike, FreesAlike, OperationSecret, SequenceSecret, FreeSecret, WordKept, WrittenBy, OperationOwnWrite, SequenceOwnWrite}
 use Rattle.cores.specs.CoreLaws.{answered-here, answered-other}
@@ -162,7 +162,7 @@ module _ (members : ℕ → Bool) (Secret : Tables → ℕ → Type 0) (reading 
       let ran′ = sequence s′ rows′ room′ in
       let calls : CallsAlike members Secret s rows room room′ ran ran′ =
       two-calls members Secret s s′ rows rows′ room room′ (states-alike b b′ like) same roomSame ran ran′ (valid (v .state) refl) (valid (v′ .state) refl)
-      (λ w a. reading .rows (begun s room) (begun s′ room′) rows rows′ (rowCount rows) w (states-alike b b′ like) (asked v (ap (λ (g : Given C). g .number) e ∙ ap numberOf a))) in
+      (λ w a. reading .rows (beginning s room) (beginning s′ room′) rows rows′ (rowCount rows) w (states-alike b b′ like) (asked v (ap (λ (g : Given C). g .number) e ∙ ap numberOf a))) in
       rw (e, e′)
       (record {
         number = ap numberOf (calls .answer);
@@ -210,7 +210,7 @@ module _ (members : ℕ → Bool) (Secret : Tables → ℕ → Type 0) (reading 
       (reading .writes rows p (v .state) page word h (rowCount rows) private)
     where
       p : Progress
-      p = begun (stateIn wordsOf b) room
+      p = beginning (stateIn wordsOf b) room
 
       stays : (x : Answer) → Unchanged (stateIn wordsOf b) (after rows (rowCount rows) p .state) page word → Unchanged (stateIn wordsOf b) (kept x p (after rows (rowCount rows) p) .state) page word
       stays (Accepted d w) same = same

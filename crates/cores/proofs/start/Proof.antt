@@ -15,6 +15,9 @@ returns-2 c =
     let c5 = c3 .before .before in
     short-core (c5 .before .before .before .if1 .left) (failed (c5 .before .before .whole .ensures) (c5 .before .if2 .taken)) (c5 .empty-machine .ensures) (c .number-of2 .ensures ∙ ap numberOf (c5 .before .before .before .before .refuse .ensures)) (c3 .put-machine .ensures)
 
+put-machine-requires-2 : tie.Need-put-machine-requires-2
+put-machine-requires-2 c κs = c .before .before .before .before .before .before .before .before .before .before .before .before .before .before .before .before .before .before .before .before .before .before .before .before .before .before .before .before .before .before .if1 .left
+
 returns-3 : tie.Need-returns-3
 returns-3 c =
     let c3 = c .before .before .before in
@@ -38,7 +41,7 @@ start-spec =
     (λ c. search needs)
     (λ c. search needs)
     (λ c κs. search needs)
-    (λ c κs. search needs)
+    put-machine-requires-2
     (λ c κs. search needs)
     (λ c. search needs)
     (λ c. search needs)
