@@ -85,7 +85,8 @@ pub fn sequence(
     rows: &[u64],
     room: &mut [u64],
 ) -> Ran
-    ensures { λ r. ⌜ JudgedSequence (stateOf m (now (sets .entry)) (now (pairs .entry)) (now («cpu_map» .entry)) (now («cpu_walker» .entry)) (now («cpu_cache» .entry)) (now («dma_map» .entry)) (now («dma_walker» .entry)) (now («dma_cache» .entry)) (now (memory .entry))) (now (rows .entry)) (now (room .entry))
+    ensures { λ r. ⌜ JudgedSequence (stateOf m (now (sets .entry)) (now (pairs .entry)) (now («cpu_map» .entry)) (now («cpu_walker» .entry)) (now («cpu_cache» .entry))
+        (now («dma_map» .entry)) (now («dma_walker» .entry)) (now («dma_cache» .entry)) (now (memory .entry))) (now (rows .entry)) (now (room .entry))
         (ran (r .answer) (progress (r .machine) (now (sets .exit)) (now (pairs .exit)) (now («cpu_map» .exit)) (now («cpu_walker» .exit)) (now («cpu_cache» .exit)) (now («dma_map» .exit)) (now («dma_walker» .exit)) (now («dma_cache» .exit)) (now (memory .exit)) (now (room .exit)))) ⌝ }
 {
     if !judge::valid(
@@ -140,7 +141,8 @@ pub fn free(
     dma_cache: &[u64],
     memory: &[u64],
 ) -> FreePages
-    ensures { λ r. ⌜ JudgedFree (stateOf m (now (sets .entry)) (now (pairs .entry)) (now («cpu_map» .entry)) (now («cpu_walker» .entry)) (now («cpu_cache» .entry)) (now («dma_map» .entry)) (now («dma_walker» .entry)) (now («dma_cache» .entry)) (now (memory .entry))) (freeOf (r .answer) (r .count) (r .lowest)) ⌝ }
+    ensures { λ r. ⌜ JudgedFree (stateOf m (now (sets .entry)) (now (pairs .entry)) (now («cpu_map» .entry)) (now («cpu_walker» .entry)) (now («cpu_cache» .entry))
+        (now («dma_map» .entry)) (now («dma_walker» .entry)) (now («dma_cache» .entry)) (now (memory .entry))) (freeOf (r .answer) (r .count) (r .lowest)) ⌝ }
 {
     if !judge::valid(
         m,

@@ -89,7 +89,9 @@ module _ (fixed : Fixed) (r : Registers) (sets pairs cpuMap cpuWalker cpuCache d
   unfolding step control
   add-vm-step vm = sym (known-arm here memory _ _)
 
-  pub remove-vm-step : (vm : VmId) → let a = removeVmAnswer (r .known) sets pairs cpuMap dmaMap (r .cpu .ports) (r .dma .ports) (vm .0) in outcome a (known (kept a (r .known) (removeVmKnown (r .known) (vm .0)))) sets pairs cpuMap cpuWalker cpuCache dmaMap dmaWalker dmaCache memory ≡ step now (RemoveVm vm)
+  pub remove-vm-step : (vm : VmId) →
+      let a = removeVmAnswer (r .known) sets pairs cpuMap dmaMap (r .cpu .ports) (r .dma .ports) (vm .0) in outcome a
+      (known (kept a (r .known) (removeVmKnown (r .known) (vm .0)))) sets pairs cpuMap cpuWalker cpuCache dmaMap dmaWalker dmaCache memory ≡ step now (RemoveVm vm)
   unfolding step control
   remove-vm-step vm = sym (known-arm here memory _ _)
 
@@ -97,15 +99,21 @@ module _ (fixed : Fixed) (r : Registers) (sets pairs cpuMap cpuWalker cpuCache d
   unfolding step control
   assign-step vm page = sym (move-arm here memory _ _)
 
-  pub reclaim-step : (vm : VmId) (page : PhysPage) → let a = reclaimAnswer (r .known) (fixed .pages) sets pairs cpuMap (vm .0) (page .0) in outcome a header (kept a sets (reclaimSets sets (vm .0) (page .0))) pairs cpuMap cpuWalker cpuCache dmaMap dmaWalker dmaCache (apply (kept a quiet (clears (reclaimClears sets (vm .0) (page .0)))) memory) ≡ step now (ReclaimPage vm page)
+  pub reclaim-step : (vm : VmId) (page : PhysPage) →
+      let a = reclaimAnswer (r .known) (fixed .pages) sets pairs cpuMap (vm .0) (page .0) in outcome a header (kept a sets (reclaimSets sets (vm .0) (page .0))) pairs cpuMap
+      cpuWalker cpuCache dmaMap dmaWalker dmaCache (apply (kept a quiet (clears (reclaimClears sets (vm .0) (page .0)))) memory) ≡ step now (ReclaimPage vm page)
   unfolding step control
   reclaim-step vm page = sym (sets-arm here memory _ _ _)
 
-  pub share-step : (left right : VmId) (page : PhysPage) → let a = shareAnswer (r .known) (fixed .pages) sets pairs (left .0) (right .0) (page .0) in outcome a header sets (kept a pairs (sharePairs pairs (left .0) (right .0) (page .0))) cpuMap cpuWalker cpuCache dmaMap dmaWalker dmaCache memory ≡ step now (SharePage left right page)
+  pub share-step : (left right : VmId) (page : PhysPage) →
+      let a = shareAnswer (r .known) (fixed .pages) sets pairs (left .0) (right .0) (page .0) in outcome a header sets
+      (kept a pairs (sharePairs pairs (left .0) (right .0) (page .0))) cpuMap cpuWalker cpuCache dmaMap dmaWalker dmaCache memory ≡ step now (SharePage left right page)
   unfolding step control
   share-step left right page = sym (pairs-arm here memory _ _)
 
-  pub unshare-step : (left right : VmId) (page : PhysPage) → let a = unshareAnswer (r .known) (fixed .pages) sets pairs cpuMap (left .0) (right .0) (page .0) in outcome a header sets (kept a pairs (unsharePairs pairs (left .0) (right .0) (page .0))) cpuMap cpuWalker cpuCache dmaMap dmaWalker dmaCache memory ≡ step now (UnsharePage left right page)
+  pub unshare-step : (left right : VmId) (page : PhysPage) →
+      let a = unshareAnswer (r .known) (fixed .pages) sets pairs cpuMap (left .0) (right .0) (page .0) in outcome a header sets
+      (kept a pairs (unsharePairs pairs (left .0) (right .0) (page .0))) cpuMap cpuWalker cpuCache dmaMap dmaWalker dmaCache memory ≡ step now (UnsharePage left right page)
   unfolding step control
   unshare-step left right page = sym (pairs-arm here memory _ _)
 

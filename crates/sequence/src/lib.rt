@@ -53,7 +53,8 @@ fn turn(
     requires { ⌜ Fit fixed (now sets) (now memory) ⌝ }
     requires { ⌜ ((k + 1) * ROW-NUMBERS ≤ length (now rows)) × ((k + 1) * ANSWER-NUMBERS ≤ length (now room)) ⌝ }
     ensures { λ r. ⌜ progress (headerOf fixed r) (now (sets .exit)) (now (pairs .exit)) (now («cpu_map» .exit)) (now («cpu_walker» .exit)) (now («cpu_cache» .exit)) (now («dma_map» .exit)) (now («dma_walker» .exit)) (now («dma_cache» .exit)) (now (memory .exit)) (now (room .exit))
-        ≡ turn (now (rows .entry)) k (progress (headerOf fixed registers) (now (sets .entry)) (now (pairs .entry)) (now («cpu_map» .entry)) (now («cpu_walker» .entry)) (now («cpu_cache» .entry)) (now («dma_map» .entry)) (now («dma_walker» .entry)) (now («dma_cache» .entry)) (now (memory .entry)) (now (room .entry))) ⌝ }
+        ≡ turn (now (rows .entry)) k (progress (headerOf fixed registers) (now (sets .entry)) (now (pairs .entry)) (now («cpu_map» .entry)) (now («cpu_walker» .entry))
+        (now («cpu_cache» .entry)) (now («dma_map» .entry)) (now («dma_walker» .entry)) (now («dma_cache» .entry)) (now (memory .entry)) (now (room .entry))) ⌝ }
 {
     let decoded = rows::operation_at(rows, k);
     match decoded {
@@ -111,7 +112,8 @@ fn run(
     requires { ⌜ Fit fixed (now sets) (now memory) ⌝ }
     requires { ⌜ (count * ROW-NUMBERS ≤ length (now rows)) × (count * ANSWER-NUMBERS ≤ length (now room)) ⌝ }
     ensures { λ r. ⌜ progress (headerOf fixed r) (now (sets .exit)) (now (pairs .exit)) (now («cpu_map» .exit)) (now («cpu_walker» .exit)) (now («cpu_cache» .exit)) (now («dma_map» .exit)) (now («dma_walker» .exit)) (now («dma_cache» .exit)) (now (memory .exit)) (now (room .exit))
-        ≡ after (now (rows .entry)) count (progress (headerOf fixed registers) (now (sets .entry)) (now (pairs .entry)) (now («cpu_map» .entry)) (now («cpu_walker» .entry)) (now («cpu_cache» .entry)) (now («dma_map» .entry)) (now («dma_walker» .entry)) (now («dma_cache» .entry)) (now (memory .entry)) (now (room .entry))) ⌝ }
+        ≡ after (now (rows .entry)) count (progress (headerOf fixed registers) (now (sets .entry)) (now (pairs .entry)) (now («cpu_map» .entry)) (now («cpu_walker» .entry))
+        (now («cpu_cache» .entry)) (now («dma_map» .entry)) (now («dma_walker» .entry)) (now («dma_cache» .entry)) (now (memory .entry)) (now (room .entry))) ⌝ }
 {
     let mut next = registers;
     let mut k = 0;

@@ -28,7 +28,8 @@ returns-2 c =
     let c3 = c .before .before .before in
     let c24 = c3 .before .before .before .before .before .before .before .before .before .before .before .before .before .before .before .before .before .before .before .before .before in
     let c35 = c24 .before .before .before .before .before .before .before .before .before .before .before in
-    sequence-core (c35 .before .before .before .before .before .before .before .before .before .before .before .before .before .before .before .args .rows .now) (passed (c35 .before .before .before .ready .ensures) (c35 .before .before .if1 .left)) (c35 .machine-in .ensures) (c24 .sequence .ensures) (c .number-of2 .ensures) (c3 .put-changed .ensures)
+    sequence-core (c35 .before .before .before .before .before .before .before .before .before .before .before .before .before .before .before .args .rows .now)
+    (passed (c35 .before .before .before .ready .ensures) (c35 .before .before .if1 .left)) (c35 .machine-in .ensures) (c24 .sequence .ensures) (c .number-of2 .ensures) (c3 .put-changed .ensures)
 
 pub sequence-spec : {M : Type 1} → statement M
 sequence-spec =

@@ -6,7 +6,8 @@ use Rattle.sequence.proofs.turn.Statement.{statement}
 use Rattle.sequence.proofs.turn.Tie as tie
 
 write-answer-requires : tie.Need-write-answer-requires
-write-answer-requires c κs = c .before .before .before .before .before .before .before .before .before .before .before .before .before .before .before .before .before .before .before .before .before .before .before .before .before .before .before .before .before .before .before .before .before .before .before .before .before .before .before .before .before .before .before .before .pre .1 .1
+write-answer-requires c κs =
+    c .before .before .before .before .before .before .before .before .before .before .before .before .before .before .before .before .before .before .before .before .before .before .before .before .before .before .before .before .before .before .before .before .before .before .before .before .before .before .before .before .before .before .before .before .pre .1 .1
 
 returns : tie.Need-returns
 returns c =

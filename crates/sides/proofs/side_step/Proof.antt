@@ -22,7 +22,8 @@ returns-3 c =
 returns-4 : tie.Need-returns-4
 returns-4 c =
     let c10 = c .before .before .before .before .before .before .before .before .before .before in
-    rw (c10 .before .before .before .before .before .before .before .before .operation4 .given .1) (side-same (c10 .remove-region .ensures .answer) (c10 .remove-region .ensures .sets) (c10 .remove-region .ensures .map) (c10 .remove-region .ensures .walker) (c10 .remove-region .ensures .cache) refl refl (c10 .remove-region .ensures .memory) ∙ remove-arm _ _ _ _ _ _ _ _ _ _ _ _)
+    rw (c10 .before .before .before .before .before .before .before .before .operation4 .given .1)
+    (side-same (c10 .remove-region .ensures .answer) (c10 .remove-region .ensures .sets) (c10 .remove-region .ensures .map) (c10 .remove-region .ensures .walker) (c10 .remove-region .ensures .cache) refl refl (c10 .remove-region .ensures .memory) ∙ remove-arm _ _ _ _ _ _ _ _ _ _ _ _)
 
 returns-5 : tie.Need-returns-5
 returns-5 c = rw (c .before .before .before .before .operation5 .given .1) (side-same (c .before .give-port .ensures .answer) refl refl refl refl refl (c .before .give-port .ensures .ports) refl ∙ give-arm _ _ _ _ _ _ _ _ _ _ _ _ _)

@@ -15,7 +15,8 @@ operate-requires c κs =
     let c13 = c .before .before .before .before .before .before .before .before .before .before .before .before .before in
     let c14 = c13 .before in
     let c33 = c14 .before .before .before .before .before .before .before .before .before .before .before .before .before .before .before .before .before .before .before in
-    fit (c33 .args .m) (c33 .args .sets .now) (c33 .args .pairs .now) (c33 .args .cpu-map .now) (c33 .args .cpu-walker .now) (c33 .args .cpu-cache .now) (c33 .args .dma-map .now) (c33 .args .dma-walker .now) (c33 .args .dma-cache .now) (c33 .args .memory .now) (passed (c14 .valid .ensures) (c13 .if1 .left))
+    fit (c33 .args .m) (c33 .args .sets .now) (c33 .args .pairs .now) (c33 .args .cpu-map .now) (c33 .args .cpu-walker .now) (c33 .args .cpu-cache .now)
+    (c33 .args .dma-map .now) (c33 .args .dma-walker .now) (c33 .args .dma-cache .now) (c33 .args .memory .now) (passed (c14 .valid .ensures) (c13 .if1 .left))
 
 returns-2 : tie.Need-returns-2
 returns-2 c =

@@ -13,7 +13,8 @@ carry-out-requires c κs =
     let c10 = c .before .before .before .before .before .before .before .before .before .before in
     let c11 = c10 .before in
     let c32 = c11 .before .before .before .before .before .before .before .before .before .before .before .before .before .before .before .before .before .before .before .before .before in
-    fit (c32 .args .m) (c32 .args .sets .now) (c32 .args .pairs .now) (c32 .args .cpu-map .now) (c32 .args .cpu-walker .now) (c32 .args .cpu-cache .now) (c32 .args .dma-map .now) (c32 .args .dma-walker .now) (c32 .args .dma-cache .now) (c32 .args .memory .now) (passed (c11 .valid .ensures) (c10 .if1 .left))
+    fit (c32 .args .m) (c32 .args .sets .now) (c32 .args .pairs .now) (c32 .args .cpu-map .now) (c32 .args .cpu-walker .now) (c32 .args .cpu-cache .now)
+    (c32 .args .dma-map .now) (c32 .args .dma-walker .now) (c32 .args .dma-cache .now) (c32 .args .memory .now) (passed (c11 .valid .ensures) (c10 .if1 .left))
 
 returns-2 : tie.Need-returns-2
 returns-2 c =
