@@ -17,7 +17,10 @@ use crate::state::WORDS;
 use crate::toggle;
 use crate::toggle_cpu;
 use crate::toggle_dma;
+use model::Fixed;
 use model::Machine;
+use model::Registers;
+use model::SideRegisters;
 use numbers::ACCESS_BIT;
 use numbers::ACCESSES;
 use numbers::ENTRIES;
@@ -78,17 +81,23 @@ pub fn unit(vm: u64, guest: u64, page: u64, count: u64, access: u64) -> Unit {
 // ---- After start: N pages, all in the pool, and an empty shared span at their end.
 
 pub fn fresh_header() -> Machine {
+    let side = SideRegisters {
+        ports: [IDLE; PORTS as usize],
+        hand: 0,
+    };
     Machine {
-        pages: N,
-        shared_base: N,
-        shared_count: 0,
-        units: [unit(0, 0, 0, 0, 0); UNITS],
-        unit_count: 0,
-        known: 0,
-        cpus: [IDLE; PORTS as usize],
-        devices: [IDLE; PORTS as usize],
-        cpu_hand: 0,
-        dma_hand: 0,
+        fixed: Fixed {
+            pages: N,
+            shared_base: N,
+            shared_count: 0,
+            units: [unit(0, 0, 0, 0, 0); UNITS],
+            unit_count: 0,
+        },
+        registers: Registers {
+            known: 0,
+            cpu: side,
+            dma: side,
+        },
     }
 }
 
@@ -114,17 +123,25 @@ pub fn busy_header() -> Machine {
     devices[2] = 1;
     devices[4] = 9;
     Machine {
-        pages: N,
-        shared_base: 66,
-        shared_count: 2,
-        units,
-        unit_count: UNITS as u64 - 1,
-        // 1, 2, 5 to 11, 14 and the last.
-        known: 20454 | (1 << LAST_VM),
-        cpus,
-        devices,
-        cpu_hand: 7,
-        dma_hand: 5,
+        fixed: Fixed {
+            pages: N,
+            shared_base: 66,
+            shared_count: 2,
+            units,
+            unit_count: UNITS as u64 - 1,
+        },
+        registers: Registers {
+            // 1, 2, 5 to 11, 14 and the last.
+            known: 20454 | (1 << LAST_VM),
+            cpu: SideRegisters {
+                ports: cpus,
+                hand: 7,
+            },
+            dma: SideRegisters {
+                ports: devices,
+                hand: 5,
+            },
+        },
     }
 }
 

@@ -79,8 +79,8 @@ pub fn rule_1(m: Machine, words: &[u64; WORDS]) {
 // What a refused start gives, over words that are all 0 and no memory: all that is wrong is that it has no pages.
 pub fn rule_2_empty_machine(m: Machine, words: &[u64; WORDS]) {
     let mut none = m;
-    none.pages = 0;
-    none.shared_base = 0;
+    none.fixed.pages = 0;
+    none.fixed.shared_base = 0;
     show_lent(b"2 setup", b"empty machine", none, words, MEMORY_AT, 0);
 }
 
