@@ -2,6 +2,9 @@ use borrow.Author.Needs.{needs}
 use Rattle.batch.proofs.carry.settle.Statement.{statement}
 use Rattle.batch.proofs.carry.settle.Tie as tie
 
+print-answers-requires : tie.Need-print-answers-requires
+print-answers-requires c κs = c .before .before .before .before .before .before .before .before .before .before .before .before .before .begin .ensures .few-rows
+
 returns-2 : tie.Need-returns-2
 returns-2 c =
     let kept = c .moved .ensures in
@@ -15,6 +18,6 @@ settle-spec =
     (λ c. search needs)
     (λ c κs. search needs)
     (λ c κs. search needs)
-    (λ c κs. search needs)
+    print-answers-requires
     (λ c κs. search needs)
     returns-2)
