@@ -1,5 +1,5 @@
 //! (a) The machine in ordinary Rust over the same bounded tables: arrays of packed words searched
-//! from the front, page sets as bits, 64 slots a cache. It trusts its own state and judges nothing.
+//! from the front, page sets as bits, SLOTS slots a cache. It trusts its own state and judges nothing.
 
 use crate::rows::*;
 
@@ -11,8 +11,9 @@ impl Word {
     const EMPTY: Word = Word(0);
 
     fn new(port: usize, vm: usize, guest: usize, entry: Entry) -> Word {
-        let low = 1 << 31 | entry.page << 19 | entry.access << 16 | entry.generation;
-        Word((port << 56 | vm << 48 | guest << 32 | low) as u64)
+        let Entry { page, access, generation } = entry;
+        let low = 1 << FILLED_AT | page << PAGE_AT | access << ACCESS_AT | generation;
+        Word((port << PORT_AT | vm << VM_AT | guest << GUEST_AT | low) as u64)
     }
 
     fn is_empty(self) -> bool {
@@ -25,28 +26,28 @@ impl Word {
 
     /// Port, VM, guest page and the filled bit, as one number.
     fn key(self) -> u64 {
-        self.0 >> 31
+        self.0 >> FILLED_AT
     }
 
     /// The key without its port.
     fn address(self) -> u64 {
-        self.0 << 8 >> 39
+        bits(self.0, FILLED_AT, PORT_AT)
     }
 
     fn vm(self) -> usize {
-        (self.0 >> 48 & 0xff) as usize
+        bits(self.0, VM_AT, PORT_AT) as usize
     }
 
     fn guest(self) -> usize {
-        (self.0 >> 32 & 0xffff) as usize
+        bits(self.0, GUEST_AT, VM_AT) as usize
     }
 
     fn page(self) -> usize {
-        (self.0 >> 19 & 0xfff) as usize
+        bits(self.0, PAGE_AT, FILLED_AT) as usize
     }
 
     fn access(self) -> usize {
-        (self.0 >> 16 & 0x7) as usize
+        bits(self.0, ACCESS_AT, PAGE_AT) as usize
     }
 
     fn on_page(self, page: usize) -> bool {
@@ -68,12 +69,13 @@ impl Word {
 
     /// The same entry, held for a port.
     fn at_port(self, port: usize) -> Word {
-        Word(self.0 | (port as u64) << 56)
+        Word(self.0 | (port as u64) << PORT_AT)
     }
 }
 
 fn key(port: usize, vm: usize, guest: usize) -> u64 {
-    (port << 25 | vm << 17 | guest << 1 | 1) as u64
+    let above = port << PORT_AT | vm << VM_AT | guest << GUEST_AT;
+    (above >> FILLED_AT | 1) as u64
 }
 
 /// The word of a pair, its ends in the order given.

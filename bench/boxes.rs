@@ -3,14 +3,11 @@
 use second::author::Rng;
 use tiligormis::*;
 
-use crate::inputs::{Held, Input, Keys, Low, Onto, Places, Walker, CLASSES, VARIANTS};
+use crate::inputs::{Held, Input, Keys, Low, Onto, Places, Walker, CLASSES, PLACES, VARIANTS};
 use crate::quadratic::word;
-use crate::rows::Side;
+use crate::rows::{bits, Side, ACCESS_AT, FILLED_AT, GUEST_AT, PAGE_AT, PORT_AT, VM_AT};
 
-/// Keys of a class: the low ten bits of a guest page.
-const PLACES: u64 = 1024;
-
-// ---- The machine: 1,024 pages. Each VM owns some, and holds half of these and some of the pool for
+// ---- The machine: all of PAGES. Each VM owns some, and holds half of these and some of the pool for
 // DMA.
 
 const OWNED: u64 = 56;
@@ -61,7 +58,8 @@ fn pairs(count: usize) -> Vec<u64> {
     let pair = |k: u64| {
         let (owner, next) = (k % VMS, (k + 1) % VMS);
         let [left, right] = if k % 2 == 0 { [owner, next] } else { [next, owner] };
-        left << 48 | right << 32 | 1 << 31 | (owner * OWNED + k / VMS) << 19
+        let page = owner * OWNED + k / VMS;
+        left << VM_AT | right << GUEST_AT | 1 << FILLED_AT | page << PAGE_AT
     };
     (0..PAIRS).map(|k| if k < count { pair(k as u64) } else { 0 }).collect()
 }
@@ -73,8 +71,8 @@ fn shuffle<T>(all: &mut [T], random: &mut Rng) {
 }
 
 fn slot(word: u64) -> Slot {
-    let [port, vm] = [word >> 56, word >> 48].map(|byte| byte as u8);
-    Slot { port, vm, guest: (word >> 32) as u16, entry: word as u32 }
+    let [port, vm] = [word >> PORT_AT, word >> VM_AT].map(|byte| byte as u8);
+    Slot { port, vm, guest: (word >> GUEST_AT) as u16, entry: word as u32 }
 }
 
 // ---- Maps and caches.
@@ -130,7 +128,8 @@ impl Input {
             shuffle(&mut places, random);
         }
         let mut entries = keys.iter().zip(0..).map(|(key, k)| {
-            key << 32 | 1 << 31 | self.page(side, key >> 16, k) << 19 | ACCESS << 16 | k
+            let page = self.page(side, key >> (VM_AT - GUEST_AT), k);
+            key << GUEST_AT | 1 << FILLED_AT | page << PAGE_AT | ACCESS << ACCESS_AT | k
         });
         let mut place = |filled: bool| if filled { entries.next().unwrap_or(0) } else { 0 };
         places.into_iter().map(&mut place).collect()
@@ -156,7 +155,7 @@ impl Input {
                 Held::EightPorts => entries[k / PORTS],
                 Held::Nothing => return Slot::default(),
             };
-            slot(entry | (k as u64 % PORTS as u64) << 56)
+            slot(entry | (k as u64 % PORTS as u64) << PORT_AT)
         };
         (0..SLOTS).map(|k| if k < count { held(k) } else { Slot::default() }).collect()
     }
@@ -206,13 +205,13 @@ fn change_sets(sets: &mut [u64], random: &mut Rng) {
 /// The same, or another place's pair with its ends in the other order or one end twice.
 fn change_pair(pairs: &mut [u64], random: &mut Rng) {
     let [place, other] = [0; 2].map(|_| random.below(pairs.len() as u64) as usize);
-    let (left, right) = (pairs[other] >> 48, pairs[other] >> 32 & 0xffff);
+    let (left, right) = (pairs[other] >> VM_AT, bits(pairs[other], GUEST_AT, VM_AT));
     let [left, right] = match random.below(4) {
         0 => [right, left],
         1 => [left, left],
         _ => return change(pairs, random),
     };
-    pairs[place] = left << 48 | right << 32 | pairs[other] & 0xffff_ffff;
+    pairs[place] = left << VM_AT | right << GUEST_AT | bits(pairs[other], 0, GUEST_AT);
 }
 
 fn change_slot(cache: &mut [Slot], random: &mut Rng) {

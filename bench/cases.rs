@@ -23,13 +23,16 @@ impl Level {
         }
     }
 
-    /// Of eight VMs each: mappings on either side, pairs, and slots of either cache.
+    /// Of each working VM: mappings on either side, pairs, and slots of either cache.
     fn each(self) -> (u64, u64, u64) {
-        match self {
-            Level::Empty => (0, 0, 0),
-            Level::Half => (32, 8, 4),
-            Level::Full => (60, 12, 8),
-        }
+        let (entries, pairs, slots) = (ENTRIES as u64, PAIRS as u64, SLOTS as u64);
+        let all = match self {
+            Level::Empty => [0, 0, 0],
+            Level::Half => [entries / 2, pairs / 2, slots / 2],
+            Level::Full => [entries - NEW, pairs * 3 / 4, slots],
+        };
+        let [mappings, pairs, slots] = all.map(|count| count / WORKING);
+        (mappings, pairs, slots)
     }
 }
 
@@ -45,23 +48,23 @@ pub struct Case {
     pub undo: Vec<Row>,
 }
 
-/// VMs 0 to 7 work; the next has the regions and the new mappings; the last comes and goes.
-const WORKING: u64 = 8;
+/// A VM for each port works; the next has the regions and the new mappings; the last comes and goes.
+const WORKING: u64 = PORTS as u64;
 const NEWCOMER: u64 = WORKING;
 const PASSING: u64 = VMS - 1;
 /// Pages of each working VM, from page 0 on.
 const OWNED: u64 = 64;
 /// Pages that nobody has.
-const LOOSE: u64 = 512;
+const LOOSE: u64 = WORKING * OWNED;
 const LOOSE_COUNT: u64 = 256;
 /// Pages of the units, and the shared span.
 const UNIT_PAGES: u64 = 800;
-const SHARED: u64 = 1008;
+const SHARED: u64 = PAGES - SHARED_COUNT;
 const SHARED_COUNT: u64 = 16;
-/// Four units of eight pages fill the maps at `Full`, and so do 32 new mappings.
+/// Four units of eight pages fill the maps at `Full`, and so do as many new mappings.
 const REGIONS: u64 = 4;
 const REGION: u64 = 8;
-const NEW: u64 = 32;
+const NEW: u64 = REGIONS * REGION;
 const READ_WRITE: u64 = READ + WRITE;
 /// Guest pages of the newcomer: of its regions, and of its new mappings.
 const REGION_GUESTS: u64 = 1000;
@@ -74,7 +77,7 @@ fn region(operation: u64, k: u64) -> Row {
     row([operation, NEWCOMER, REGION_GUESTS + from, UNIT_PAGES + from, REGION, READ_WRITE])
 }
 
-/// 1,024 pages, a shared span of 16, and the units that cases insert.
+/// All of PAGES, a shared span at their end, and the units that cases insert.
 pub fn setup() -> Setup {
     let unit = |k| {
         let [_, vm, guest, page, count, access, ..] = region(INSERT_REGION, k);

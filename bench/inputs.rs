@@ -5,9 +5,11 @@
 use std::fmt;
 
 use second::author::Rng;
-use tiligormis::ENTRIES;
+use tiligormis::{ENTRIES, GUEST_PAGES, VMS};
 
-pub const CLASSES: u64 = 1024;
+/// Keys of a class: the low ten bits of a guest page.
+pub const PLACES: u64 = 1024;
+pub const CLASSES: u64 = VMS * GUEST_PAGES / PLACES;
 
 /// Sets of tables of one input: alike, but with other numbers wherever it takes them at random.
 pub const VARIANTS: u64 = 8;

@@ -7,7 +7,7 @@ use tiligormis::Row;
 use crate::agree::mixed;
 use crate::cases::{self, Case, Level, LEVELS};
 use crate::contest::{contest, time, Machine, Three, Times};
-use crate::rows::{Setup, PAGE_WORDS};
+use crate::rows::{Setup, PAGES, PAGE_WORDS};
 
 /// The aim: at most the time of (a), and at most twice that of (b).
 const AIM_BOUNDED: f64 = 1.0;
@@ -102,7 +102,7 @@ fn mixed_times(setup: &Setup, rows: &[Row], each: usize, rounds: usize) -> [Time
 fn mixed_lines(rounds: usize) {
     heading("Ten thousand mixed operations, ns a row", CONTEST);
     let rounds = rounds.div_ceil(MIXED_SHARE);
-    for pages in [8, 64, 1024] {
+    for pages in [8, 64, PAGES] {
         let (setup, rows) = mixed(pages);
         let [whole, bare] = mixed_times(&setup, &rows, rows.len(), rounds);
         let [hundreds, _] = mixed_times(&setup, &rows, 100, rounds);
@@ -173,7 +173,7 @@ fn clearing_lines(rounds: usize) {
 
 fn start_lines(rounds: usize) {
     heading("Start", CONTEST);
-    for pages in [8, 64, 1024] {
+    for pages in [8, 64, PAGES] {
         let units = vec![[1, 16, 0, 3, 3, 3], [2, 16, 2, 2, 3, 1]];
         let setup = Setup { pages, shared_base: pages - 1, shared_count: 1, units };
         let mut three = Three::started(&setup);

@@ -4,7 +4,7 @@
 
 use tiligormis::*;
 
-use crate::rows::{span_fits, Side};
+use crate::rows::{bits, span_fits, Side, FILLED_AT, GUEST_AT, PAGE_AT, PORT_AT, VM_AT};
 
 const POOL: usize = 0;
 const SHARED: usize = 1;
@@ -23,44 +23,44 @@ pub fn valid(lent: LentRef) -> bool {
 // ---- Words, as section 3 packs them.
 
 fn port(word: u64) -> u64 {
-    word >> 56
+    word >> PORT_AT
 }
 
 /// The left end of a pair too.
 fn vm(word: u64) -> u64 {
-    word >> 48 & 0xff
+    bits(word, VM_AT, PORT_AT)
 }
 
 /// The right end of a pair too.
 fn guest(word: u64) -> u64 {
-    word >> 32 & 0xffff
+    bits(word, GUEST_AT, VM_AT)
 }
 
 fn is_filled(word: u64) -> bool {
-    word >> 31 & 1 == 1
+    bits(word, FILLED_AT, GUEST_AT) == 1
 }
 
 fn page(word: u64) -> u64 {
-    word >> 19 & 0xfff
+    bits(word, PAGE_AT, FILLED_AT)
 }
 
 fn access_and_generation(word: u64) -> u64 {
-    word & 0x7_ffff
+    bits(word, 0, PAGE_AT)
 }
 
 /// Port, VM, guest page and the filled bit.
 fn key(word: u64) -> u64 {
-    word >> 31
+    word >> FILLED_AT
 }
 
 fn without_port(word: u64) -> u64 {
-    word << 8 >> 8
+    bits(word, 0, PORT_AT)
 }
 
 /// The word that a slot is.
 pub fn word(slot: Slot) -> u64 {
     let [port, vm, guest] = [slot.port as u64, slot.vm as u64, slot.guest as u64];
-    port << 56 | vm << 48 | guest << 32 | slot.entry as u64
+    port << PORT_AT | vm << VM_AT | guest << GUEST_AT | slot.entry as u64
 }
 
 fn filled(words: &[u64]) -> impl Iterator<Item = u64> + '_ {

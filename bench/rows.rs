@@ -16,6 +16,21 @@ pub const ROW_NUMBERS: usize = 8;
 pub const ANSWER_NUMBERS: usize = 4;
 pub const IDLE: u64 = 4_294_967_295;
 
+/// Where the fields of a packed word begin, each at the end of the one before; generation stands
+/// lowest, and one bit says filled.
+pub const ACCESS_AT: u32 = 16;
+pub const PAGE_AT: u32 = 19;
+pub const FILLED_AT: u32 = 31;
+pub const GUEST_AT: u32 = 32;
+pub const VM_AT: u32 = 48;
+pub const PORT_AT: u32 = 56;
+
+/// The bits of a word from one place up to another.
+#[inline]
+pub fn bits(word: u64, from: u32, to: u32) -> u64 {
+    word >> from & ((1 << (to - from)) - 1)
+}
+
 /// The access bits that reads and writes need.
 pub const READ: usize = 1;
 pub const WRITE: usize = 2;

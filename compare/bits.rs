@@ -1,7 +1,7 @@
 //! Every bit of a header and of tables, to be turned one by one.
 
 use tiligormis::{
-    Owned, Slot, Unit, ENTRIES, MACHINE_NUMBERS, PAIRS, SETS, SET_WORDS, SLOTS, UNIT_NUMBERS,
+    Owned, Slot, Unit, ENTRIES, MACHINE_NUMBERS, PAIRS, PORTS, SETS, SET_WORDS, SLOTS, UNIT_NUMBERS,
 };
 
 /// A part of a box: its name, how many words it has, and how to turn a bit of one.
@@ -19,6 +19,11 @@ pub const PARTS: [Part; 9] = [
     ("DMA cache", SLOTS, |owned, place, bit| turn_in_slot(&mut owned.dma_cache[place], bit)),
 ];
 
+/// Where in a header the CPUs begin, the devices and the units.
+const CPUS_AT: usize = 7;
+const DEVICES_AT: usize = CPUS_AT + PORTS;
+const UNITS_AT: usize = DEVICES_AT + PORTS;
+
 /// A number of the header, counted as its fields stand.
 fn header_number(owned: &mut Owned, place: usize) -> &mut u64 {
     let header = &mut *owned.machine;
@@ -30,10 +35,10 @@ fn header_number(owned: &mut Owned, place: usize) -> &mut u64 {
         4 => &mut header.known,
         5 => &mut header.cpu_hand,
         6 => &mut header.dma_hand,
-        7..=14 => &mut header.cpus[place - 7],
-        15..=22 => &mut header.devices[place - 15],
+        CPUS_AT..DEVICES_AT => &mut header.cpus[place - CPUS_AT],
+        DEVICES_AT..UNITS_AT => &mut header.devices[place - DEVICES_AT],
         _ => {
-            let place = place - 23;
+            let place = place - UNITS_AT;
             unit_number(&mut header.units[place / UNIT_NUMBERS], place % UNIT_NUMBERS)
         }
     }

@@ -27,7 +27,7 @@ pub const SETUP: &[(&str, Damage)] = &[
         let pages = m.pages;
         resize(m, pages - 1)
     }),
-    ("1,025 pages", |m, _| resize(m, PAGES + 1)),
+    ("more than PAGES pages", |m, _| resize(m, PAGES + 1)),
     ("pages far out", |m, rng| {
         m.pages = any(rng, FAR)?;
         Some(())
@@ -56,7 +56,13 @@ pub const SETUP: &[(&str, Damage)] = &[
     ("a unit with another mark", |m, _| Some(unit(m)?.mark = Mark::Dma)),
     ("a unit more", |m, _| {
         (m.units.len() < UNITS).then_some(())?;
-        let region = Region { vm: 15, guest: GUESTS - 1, page: m.pages - 1, count: 1, access: 7 };
+        let region = Region {
+            vm: VMS - 1,
+            guest: GUESTS - 1,
+            page: m.pages - 1,
+            count: 1,
+            access: ACCESSES - 1,
+        };
         Some(m.units.push(Unit { region, mark: Mark::Both }))
     }),
     ("a unit less", |m, _| m.units.pop().map(|_| ())),
@@ -87,7 +93,7 @@ pub const SETUP: &[(&str, Damage)] = &[
 ];
 
 pub const TABLES: &[(&str, Damage)] = &[
-    ("VM 16 known", |m, _| learn(m, VMS)),
+    ("a VM past the last known", |m, _| learn(m, VMS)),
     ("VM 63 known", |m, _| learn(m, 63)),
     ("a VM known", |m, rng| {
         let vm = unknown(m, rng)?;
@@ -127,7 +133,7 @@ pub const TABLES: &[(&str, Damage)] = &[
         let ((owner, page), other) = (held(m, Side::Cpu, rng)?, unknown(m, rng)?);
         m.pairs.insert(pair(owner, other, page)).then_some(())
     }),
-    ("a pair with VM 16", |m, rng| {
+    ("a pair with a VM past the last", |m, rng| {
         let (owner, page) = held(m, Side::Cpu, rng)?;
         m.pairs.insert((owner, VMS, page)).then_some(())
     }),
@@ -196,7 +202,7 @@ pub const SIDES: &[(&str, SideDamage)] = &[
         m.pool.insert(page);
         m.half_mut(side).owned.get_mut(&vm)?.remove(&page).then_some(())
     }),
-    ("hand 64", |m, side, _| Some(m.half_mut(side).cache.hand = SLOTS)),
+    ("hand past the last slot", |m, side, _| Some(m.half_mut(side).cache.hand = SLOTS)),
     ("hand far out", |m, side, rng| {
         let far = any(rng, FAR)?;
         Some(m.half_mut(side).cache.hand = far as usize)
@@ -208,7 +214,7 @@ pub const SIDES: &[(&str, SideDamage)] = &[
         let vm = unknown(m, rng)?;
         Some(*port(m, side, rng) = Some(vm))
     }),
-    ("a port with VM 16", |m, side, rng| Some(*port(m, side, rng) = Some(VMS))),
+    ("a port with a VM past the last", |m, side, rng| Some(*port(m, side, rng) = Some(VMS))),
     ("a port with a VM far out", |m, side, rng| {
         let far = any(rng, [IDLE - 1, IDLE + 1, 1 << 63, u64::MAX])?;
         Some(*port(m, side, rng) = Some(far))

@@ -5,11 +5,11 @@ use std::collections::BTreeMap;
 use std::process::ExitCode;
 
 use second::author::Rng;
-use second::machine::{Free, Lent, Machine};
+use second::machine::{Free, Lent, Machine, OPERATIONS, ROW_NUMBERS};
 use second::operate::Row;
 use second::script::Setup;
 use second::valid::broken;
-use tiligormis::{Answer, Owned, ENTRIES, PAIRS, SETS, SET_WORDS, STATE_NOT_VALID};
+use tiligormis::{Answer, Owned, DATA_BARRIER, ENTRIES, PAIRS, SETS, SET_WORDS, STATE_NOT_VALID};
 
 use crate::cases::{cases, Case, State};
 use crate::couple::{after_refused_start, after_start, UNWRITTEN};
@@ -39,9 +39,15 @@ const ASKED: [(Asked, &str); 5] = [
 
 /// How many of the rows that come next a changed state is given.
 const ROWS: usize = 8;
-/// An operation that no state refuses but for not being valid, and an unknown one.
-const BARRIER: Row = [25, 0, 0, 0, 0, 0, 0, 0];
-const UNKNOWN: Row = [27, 0, 0, 0, 0, 0, 0, 0];
+/// An operation that no state refuses but for not being valid, and unknown ones.
+const BARE: [Row; 4] = [bare(DATA_BARRIER), bare(0), bare(OPERATIONS + 1), bare(u64::MAX)];
+
+const fn bare(operation: u64) -> Row {
+    let mut row = [0; ROW_NUMBERS];
+    row[0] = operation;
+    row
+}
+
 const REFUSED: Answer = Answer { number: STATE_NOT_VALID, index: 0, dropped: 0, word: 0 };
 
 /// What a run found, the first of each kind, and how often each case gave a state that was valid
@@ -119,7 +125,7 @@ pub fn ask(
             return goes_on_by_sequence(&mut *subject, second, rows);
         }
         (Asked::Operation, _) => {
-            for row in rows.iter().take(2).chain([&BARRIER, &UNKNOWN]) {
+            for row in rows.iter().take(2).chain(&BARE) {
                 same("answer", subject.operation(row), REFUSED)?;
                 unchanged(&*subject, &state.owned)?;
             }

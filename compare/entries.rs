@@ -5,6 +5,12 @@ use second::author::Rng;
 use second::machine::*;
 
 use crate::damage::{any, known, unknown, SideDamage};
+use crate::pack::{GENERATION, PORT, VM};
+
+/// How many bits these fields of a word have.
+const GENERATION_BITS: u64 = GENERATION.1 as u64;
+const VM_BITS: u32 = VM.1;
+const PORT_BITS: u32 = PORT.1;
 
 type Key = (Vm, Guest);
 /// What stands under some keys from now on.
@@ -34,7 +40,10 @@ pub const ENTRY_CHANGES: &[(&str, MapDamage)] = &[
     }),
     ("an entry of another generation", |m, side, rng| {
         let (key, entry) = filled(m, side, rng)?;
-        put(key, Entry { generation: entry.generation ^ (1 << rng.below(16)), ..entry })
+        put(
+            key,
+            Entry { generation: entry.generation ^ (1 << rng.below(GENERATION_BITS)), ..entry },
+        )
     }),
     ("an entry at another guest page", |m, side, rng| {
         let (key, entry) = filled(m, side, rng)?;
@@ -49,9 +58,9 @@ pub const ENTRY_CHANGES: &[(&str, MapDamage)] = &[
         let ((_, entry), vm) = (filled(m, side, rng)?, unknown(m, rng)?);
         put((vm, rng.below(GUESTS)), entry)
     }),
-    ("an entry of VM 16 or above", |m, side, rng| {
+    ("an entry of a VM past the last", |m, side, rng| {
         let (_, entry) = filled(m, side, rng)?;
-        put((VMS + rng.below(256 - VMS), rng.below(GUESTS)), entry)
+        put((VMS + rng.below((1 << VM_BITS) - VMS), rng.below(GUESTS)), entry)
     }),
 ];
 
@@ -107,17 +116,17 @@ pub const SLOT_CHANGES: &[(&str, SideDamage)] = &[
         let port = rng.below(PORTS as u64);
         fill(m, side, place, Some(Slot { port, vm: key.0, guest: key.1, entry }))
     }),
-    ("a slot of port 8 or above", |m, side, rng| {
+    ("a slot of a port past the last", |m, side, rng| {
         let ports = PORTS as u64;
-        let port = ports + rng.below(256 - ports);
+        let port = ports + rng.below((1 << PORT_BITS) - ports);
         change(m, side, rng, |slot| slot.port = port)
     }),
     ("a slot of a VM not known", |m, side, rng| {
         let vm = unknown(m, rng)?;
         change(m, side, rng, |slot| slot.vm = vm)
     }),
-    ("a slot of VM 16 or above", |m, side, rng| {
-        let vm = VMS + rng.below(256 - VMS);
+    ("a slot of a VM past the last", |m, side, rng| {
+        let vm = VMS + rng.below((1 << VM_BITS) - VMS);
         change(m, side, rng, |slot| slot.vm = vm)
     }),
     ("a slot of another VM", |m, side, rng| {
@@ -141,7 +150,7 @@ pub const SLOT_CHANGES: &[(&str, SideDamage)] = &[
         change(m, side, rng, |slot| slot.entry.access ^= flipped)
     }),
     ("a slot of another generation", |m, side, rng| {
-        let flipped = 1 << rng.below(16);
+        let flipped = 1 << rng.below(GENERATION_BITS);
         change(m, side, rng, |slot| slot.entry.generation ^= flipped)
     }),
 ];

@@ -3,11 +3,11 @@
 use second::machine::{Free, Side};
 use second::operate::Row;
 use second::script::Setup;
-use tiligormis::{Answer, Owned, DATA_BARRIER, STATE_NOT_VALID};
+use tiligormis::{Answer, Owned, DATA_BARRIER, ENTRIES, PORTS, SLOTS, STATE_NOT_VALID, UNITS};
 
 use crate::couple::Check;
 use crate::damaged::Asked;
-use crate::pack::{pair_word, set_of, POOL};
+use crate::pack::{pair_word, set_of, ACCESS, FILLED, POOL};
 use crate::subject::{Library, Subject};
 
 /// Where a flaw shows, and what it makes of the right result.
@@ -112,7 +112,7 @@ pub const ANSWERS: &[Flaw<Check>] = &[
     ("room_beyond", Check::Row, "room beyond the answers", Place::Sequence(room_beyond)),
     ("batch_number", Check::Batch, "sequence's number", Place::Batch(|_, _, number| *number = 1)),
     ("batch_answer", Check::Batch, "sequence's answers", Place::Batch(|_, a, _| a[0].word += 1)),
-    ("batch_state", Check::Batch, "known VMs", Place::Batch(|o, _, _| o.machine.known ^= 512)),
+    ("batch_state", Check::Batch, "known VMs", Place::Batch(|o, _, _| o.machine.known ^= 1 << 9)),
     ("short_room", Check::Batch, "short room's number", Place::Batch(never_2)),
     ("refused_box", Check::Row, "refused box", Place::Row(change_if_refused)),
     ("free_count", Check::Free, "free query", Place::Free(|free| free.count += 1)),
@@ -120,7 +120,12 @@ pub const ANSWERS: &[Flaw<Check>] = &[
     ("validity", Check::Validity, "validity", Place::Valid(|_| false)),
     ("start_number", Check::Start, "start's number", Place::Start(|_, number| *number = 3)),
     ("start_memory", Check::Start, "memory", Place::Start(|o, _| o.memory[600] = 1)),
-    ("start_spare_unit", Check::Start, "units", Place::Start(|o, _| o.machine.units[31].mark = 0)),
+    (
+        "start_spare_unit",
+        Check::Start,
+        "units",
+        Place::Start(|o, _| o.machine.units[UNITS - 1].mark = 0),
+    ),
 ];
 
 fn room_beyond(_: &mut Owned, answers: &mut [Answer], _: &mut u64) {
@@ -145,8 +150,8 @@ pub const TABLES: &[(&str, &str, fn(&mut Owned))] = &[
     ("known", "known VMs", |owned| owned.machine.known ^= 1 << 9),
     ("cpu_hand", "CPU hand", |owned| owned.machine.cpu_hand ^= 1),
     ("dma_hand", "DMA hand", |owned| owned.machine.dma_hand ^= 1),
-    ("cpus", "CPUs", |owned| owned.machine.cpus[7] = 1),
-    ("devices", "devices", |owned| owned.machine.devices[7] = 1),
+    ("cpus", "CPUs", |owned| owned.machine.cpus[PORTS - 1] = 1),
+    ("devices", "devices", |owned| owned.machine.devices[PORTS - 1] = 1),
     ("pool", "pool", |owned| turn_page(owned, POOL)),
     ("cpu_pages", "CPU pages", |owned| turn_page(owned, set_of(Side::Cpu, 1))),
     ("dma_pages", "DMA pages", |owned| turn_page(owned, set_of(Side::Dma, 1))),
@@ -154,10 +159,10 @@ pub const TABLES: &[(&str, &str, fn(&mut Owned))] = &[
     ("pair_gone", "pairs", |owned| owned.pairs[0] = 0),
     ("pair_twice", "pairs", |owned| owned.pairs[99] = pair_word(2, 1, 0).unwrap_or(0)),
     ("cpu_map_generation", "CPU map", |owned| owned.cpu_map[0] ^= 1),
-    ("cpu_walker_access", "CPU walker", |owned| owned.cpu_walker[0] ^= 1 << 16),
-    ("dma_map_more", "DMA map", |owned| owned.dma_map[511] = 1 << 31),
-    ("dma_walker_twice", "DMA walker", |owned| owned.dma_walker[511] = owned.dma_walker[0]),
-    ("cpu_slot_elsewhere", "CPU cache", |owned| owned.cpu_cache.swap(0, 63)),
+    ("cpu_walker_access", "CPU walker", |owned| owned.cpu_walker[0] ^= 1 << ACCESS.0),
+    ("dma_map_more", "DMA map", |owned| owned.dma_map[ENTRIES - 1] = 1 << FILLED.0),
+    ("dma_walker_twice", "DMA walker", |owned| owned.dma_walker[ENTRIES - 1] = owned.dma_walker[0]),
+    ("cpu_slot_elsewhere", "CPU cache", |owned| owned.cpu_cache.swap(0, SLOTS - 1)),
     ("dma_slot_port", "DMA cache", |owned| owned.dma_cache[0].port = 3),
     ("memory", "memory", |owned| owned.memory[700] ^= 1),
 ];

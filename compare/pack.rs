@@ -21,18 +21,18 @@ impl Difference {
 }
 
 /// Fields of a word: the lowest bit and how many there are.
-type Field = (u32, u32);
-const GENERATION: Field = (0, 16);
-const ACCESS: Field = (16, 3);
+pub type Field = (u32, u32);
+pub const GENERATION: Field = (0, 16);
+pub const ACCESS: Field = (16, 3);
 const PAGE: Field = (19, 12);
-const FILLED: Field = (31, 1);
+pub const FILLED: Field = (31, 1);
 const GUEST: Field = (32, 16);
-const RIGHT: Field = GUEST;
-const VM: Field = (48, 8);
-const LEFT: Field = VM;
-const PORT: Field = (56, 8);
+pub const RIGHT: Field = GUEST;
+pub const VM: Field = (48, 8);
+pub const LEFT: Field = VM;
+pub const PORT: Field = (56, 8);
 
-fn take(word: u64, (low, bits): Field) -> u64 {
+pub fn take(word: u64, (low, bits): Field) -> u64 {
     word >> low & ((1 << bits) - 1)
 }
 

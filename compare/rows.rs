@@ -4,6 +4,7 @@ use std::collections::BTreeMap;
 use std::process::ExitCode;
 
 use second::generate::{generate_of_size, suite};
+use second::machine::PAGES;
 
 use crate::couple::{run, Check, Finding};
 use crate::report::Report;
@@ -13,7 +14,7 @@ use crate::trial::{shrink, trials, Trial};
 
 /// Sizes of the boxes beyond the suite's, each with its turn.
 const SIZES: [u64; 20] =
-    [8, 1, 64, 2, 1024, 3, 65, 16, 1000, 7, 63, 17, 128, 4, 512, 31, 1023, 9, 300, 24];
+    [8, 1, 64, 2, PAGES, 3, 65, 16, 1000, 7, 63, 17, 128, 4, 512, 31, PAGES - 1, 9, 300, 24];
 /// Rows of a box, each with its turn; the long ones bring their tables to the brim.
 const LENGTHS: [u64; 7] = [400, 3000, 700, 1500, 8000, 200, 4000];
 

@@ -4,7 +4,7 @@ use std::process::ExitCode;
 
 use second::author::Rng;
 use second::generate::generate_of_size;
-use second::machine::Machine;
+use second::machine::{Machine, PAGES, SLOTS};
 use second::operate::Row;
 use tiligormis::{fill_slot, Owned, OUT_OF_RANGE};
 
@@ -107,14 +107,14 @@ fn found_at_once() -> Result<(), String> {
 
 /// A page that no row touches is looked at in its turn, and with all others after 1,000 rows.
 fn far_memory() -> Result<(), String> {
-    let trial = only_trial(&("box 1024 0 0\n".to_string() + &"25\n".repeat(1020)));
+    let trial = only_trial(&(format!("box {PAGES} 0 0\n") + &"25\n".repeat(1020)));
     let step = |place| match run(&trial, 1, &flawed(place), &mut Tally::default()) {
         Err(Finding { check: Check::Row, step, .. }) => Ok(step),
         other => Err(format!("{other:?}")),
     };
-    let in_turn = step(Place::Operation(|owned| owned.memory[512 * 700] = 9))?;
+    let in_turn = step(Place::Operation(|owned| owned.memory[Machine::address(700, 0)] = 9))?;
     expect(in_turn == 699, format!("page 700 was looked at in step {in_turn}"))?;
-    let whole = step(Place::Operation(|owned| owned.memory[512 * 1010] = 9))?;
+    let whole = step(Place::Operation(|owned| owned.memory[Machine::address(1010, 0)] = 9))?;
     expect(whole == 999, format!("memory was looked at whole in step {whole}"))
 }
 
@@ -194,7 +194,10 @@ fn slot_functions() -> Result<(), String> {
             },
         ),
         ("empty's number", Functions { empty: |_, _| Err(OUT_OF_RANGE), ..LIBRARY }),
-        ("slots", Functions { empty: |_, place| (place < 64).then_some(()).ok_or(2), ..LIBRARY }),
+        (
+            "slots",
+            Functions { empty: |_, place| (place < SLOTS).then_some(()).ok_or(2), ..LIBRARY },
+        ),
     ];
     for (part, functions) in flaws {
         let finding = slots::all(1, 5000, &functions).err();

@@ -24,7 +24,7 @@ pub const LIBRARY: Functions = Functions {
     empty: tiligormis::empty_slot,
 };
 
-/// Lengths of the slices that are lent; all but 64 are refused by fill and empty.
+/// Lengths of the slices that are lent; all but SLOTS are refused by fill and empty.
 const LENGTHS: [usize; 6] = [SLOTS, SLOTS, SLOTS, SLOTS - 1, SLOTS + 1, 0];
 /// Calls on one slice.
 const CALLS: u64 = 500;

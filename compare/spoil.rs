@@ -5,17 +5,19 @@ use std::ops::Range;
 
 use second::author::Rng;
 use second::machine::PAGES;
-use tiligormis::{Owned, Slot, IDLE, SETS, SET_WORDS, SLOTS, UNITS, VMS};
+use tiligormis::{Owned, Slot, IDLE, PORTS, SETS, SET_WORDS, SLOTS, UNITS, VMS};
 
 use crate::damage::any;
-use crate::pack::{POOL, SHARED};
+use crate::pack::{take, Field, ACCESS, GENERATION, LEFT, POOL, PORT, RIGHT, SHARED, VM};
 
 /// Changes a part of a box; nothing where it has not got what the change is about.
 pub type Spoil<T> = fn(&mut T, &mut Rng) -> Option<()>;
 /// Its name, and whether a valid box stays so.
 pub type Named<T> = (&'static str, bool, Spoil<T>);
 
-const FILLED: u64 = 1 << 31;
+/// The bit that says filled, which stands above the rest of an entry.
+const FILLED_AT: u32 = crate::pack::FILLED.0;
+const FILLED: u64 = 1 << FILLED_AT;
 
 /// The four maps.
 pub const MAPS: [(&str, fn(&mut Owned) -> &mut Vec<u64>); 4] = [
@@ -31,7 +33,7 @@ pub const CACHES: [(&str, fn(&mut Owned) -> &mut Vec<Slot>); 2] =
 /// Of a table of words, maps and pairs alike.
 pub const WORDS: &[Named<Vec<u64>>] = &[
     ("words in another order", true, |words, rng| Some(shuffle(words, rng))),
-    ("a port in a word", false, |words, rng| add_bit(words, 56..64, rng)),
+    ("a port in a word", false, |words, rng| add_bit(words, bits(PORT), rng)),
     ("a word not marked filled", false, |words, rng| {
         let place = any(rng, (0..words.len()).filter(|&place| words[place] & !FILLED != 0))?;
         Some(words[place] &= !FILLED)
@@ -53,14 +55,17 @@ pub const WORDS: &[Named<Vec<u64>>] = &[
 /// Of a map alone.
 pub const MAP_WORDS: &[Named<Vec<u64>>] = &[("a key twice", false, |words, rng| {
     let (from, to) = (filled(words, rng)?, empty(words, rng)?);
-    Some(words[to] = words[from] ^ (1 << rng.below(31)))
+    Some(words[to] = words[from] ^ (1 << rng.below(FILLED_AT.into())))
 })];
 
 /// Of the pairs alone.
 pub const PAIR_WORDS: &[Named<Vec<u64>>] = &[
-    ("an access in a pair", false, |words, rng| add_bit(words, 16..19, rng)),
-    ("a generation in a pair", false, |words, rng| add_bit(words, 0..16, rng)),
-    ("a right end above 255", false, |words, rng| add_bit(words, 40..48, rng)),
+    ("an access in a pair", false, |words, rng| add_bit(words, bits(ACCESS), rng)),
+    ("a generation in a pair", false, |words, rng| add_bit(words, bits(GENERATION), rng)),
+    ("a right end wider than a VM", false, |words, rng| {
+        let Range { start, end } = bits(RIGHT);
+        add_bit(words, start + VM.1..end, rng)
+    }),
     ("a pair twice, its ends turned", false, |words, rng| {
         let (from, to) = (filled(words, rng)?, empty(words, rng)?);
         Some(words[to] = turned(words[from]))
@@ -81,7 +86,7 @@ pub const SLOTS_OF_A_CACHE: &[Named<Vec<Slot>>] = &[
     ("a VM in an empty slot", false, |slots, rng| Some(empty_slot(slots, rng)?.vm = 1)),
     ("a guest page in an empty slot", false, |slots, rng| Some(empty_slot(slots, rng)?.guest = 1)),
     ("a bit of an entry in an empty slot", false, |slots, rng| {
-        let bit = 1 << rng.below(31);
+        let bit = 1 << rng.below(FILLED_AT.into());
         Some(empty_slot(slots, rng)?.entry = bit)
     }),
     ("a place more", false, |slots, _| Some(slots.push(Slot::default()))),
@@ -127,16 +132,16 @@ pub const SETS_AND_HEADER: &[Named<Owned>] = &[
     ("page sets a word more", false, |owned, _| Some(owned.sets.push(0))),
     ("page sets a word less", false, |owned, _| owned.sets.pop().map(|_| ())),
     ("no page sets", false, |owned, _| Some(owned.sets.clear())),
-    ("a known bit at 16 or above", false, |owned, rng| {
+    ("a known bit past the last VM", false, |owned, rng| {
         Some(owned.machine.known |= 1 << (VMS + rng.below(64 - VMS)))
     }),
     ("a CPU's number out of range", false, |owned, rng| {
-        Some(owned.machine.cpus[rng.below(8) as usize] = out_of_range(rng)?)
+        Some(owned.machine.cpus[rng.below(PORTS as u64) as usize] = out_of_range(rng)?)
     }),
     ("a device's number out of range", false, |owned, rng| {
-        Some(owned.machine.devices[rng.below(8) as usize] = out_of_range(rng)?)
+        Some(owned.machine.devices[rng.below(PORTS as u64) as usize] = out_of_range(rng)?)
     }),
-    ("33 units", false, |owned, _| Some(owned.machine.unit_count = UNITS as u64 + 1)),
+    ("a unit too many", false, |owned, _| Some(owned.machine.unit_count = UNITS as u64 + 1)),
     ("a count of units far out", false, |owned, _| Some(owned.machine.unit_count = u64::MAX)),
     ("mark 0", false, |owned, rng| mark(owned, 0, rng)),
     ("mark 4", false, |owned, rng| mark(owned, 4, rng)),
@@ -174,6 +179,10 @@ fn empty(words: &[u64], rng: &mut Rng) -> Option<usize> {
     any(rng, (0..words.len()).filter(|&place| words[place] == 0))
 }
 
+fn bits((low, count): Field) -> Range<u32> {
+    low..low + count
+}
+
 /// One of these bits in a filled word.
 fn add_bit(words: &mut [u64], bits: Range<u32>, rng: &mut Rng) -> Option<()> {
     let (place, bit) = (filled(words, rng)?, any(rng, bits)?);
@@ -190,8 +199,8 @@ fn twice(map: &mut [u64], walker: &mut [u64], rng: &mut Rng) -> Option<()> {
 
 /// A pair's word with left and right in each other's place.
 fn turned(word: u64) -> u64 {
-    let (left, right) = (word >> 48, word >> 32 & 0xFFFF);
-    right << 48 | left << 32 | word & 0xFFFF_FFFF
+    let (left, right, low) = (LEFT.0, RIGHT.0, (1 << RIGHT.0) - 1);
+    take(word, RIGHT) << left | (word >> left) << right | word & low
 }
 
 fn empty_slot<'a>(slots: &'a mut [Slot], rng: &mut Rng) -> Option<&'a mut Slot> {

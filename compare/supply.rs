@@ -2,14 +2,14 @@
 
 use second::author::Rng;
 use second::generate::generate_of_size;
-use second::machine::Machine;
+use second::machine::{Machine, PAGES};
 use second::operate::Row;
 use second::script::Setup;
 
 use crate::trial::{trials, Step};
 
 /// Sizes and rows of the boxes, each with its turn; the long ones have full tables.
-const SIZES: [u64; 12] = [8, 3, 64, 1, 16, 65, 2, 1024, 24, 63, 1000, 12];
+const SIZES: [u64; 12] = [8, 3, 64, 1, 16, 65, 2, PAGES, 24, 63, 1000, 12];
 const LENGTHS: [u64; 5] = [900, 300, 3600, 600, 1500];
 
 pub struct Supply {

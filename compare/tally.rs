@@ -4,6 +4,7 @@ use std::collections::{BTreeMap, BTreeSet};
 use std::fmt;
 
 use second::coverage::refusals;
+use second::machine::{OPERATIONS, REFUSALS};
 use second::operate::{arguments, Kind};
 
 type Counts = BTreeMap<u64, u64>;
@@ -43,7 +44,7 @@ impl Tally {
     /// Answers that the paper lists and that were never seen.
     pub fn missing(&self) -> Vec<String> {
         let mut missing = Vec::new();
-        for operation in 1..=26 {
+        for operation in 1..=OPERATIONS {
             let kinds = arguments(operation).unwrap_or_default();
             let judged = kinds.iter().any(|&kind| kind != Kind::Any);
             let first = if judged { &[0, 1, 2][..] } else { &[0, 1][..] };
@@ -95,8 +96,8 @@ impl fmt::Display for Tally {
         writeln!(f, "{} free queries, {} validities", self.free_queries, self.validities)?;
         writeln!(f, "answers, number:times  {}", list(self.by_number()))?;
         writeln!(f, "answers of each operation, 0 for unknown ones")?;
-        for operation in 0..=26 {
-            let seen = self.answers.range((operation, 0)..=(operation, 16));
+        for operation in 0..=OPERATIONS {
+            let seen = self.answers.range((operation, 0)..=(operation, REFUSALS));
             let seen = seen.map(|(&(_, number), times)| (number, times));
             writeln!(f, "{operation:>4}  {}", list(seen))?;
         }

@@ -2,7 +2,7 @@
 
 use std::fmt::Write;
 
-use crate::machine::{Machine, Span};
+use crate::machine::{Machine, Span, UnitNumbers};
 use crate::operate::{Answer, Row};
 use crate::script::Setup;
 
@@ -62,7 +62,7 @@ impl Author {
     }
 
     /// Opens a box and gives the answer of its start.
-    pub fn open(&mut self, pages: u64, base: u64, count: u64, units: &[[u64; 6]]) -> u64 {
+    pub fn open(&mut self, pages: u64, base: u64, count: u64, units: &[UnitNumbers]) -> u64 {
         self.line(&format!("box {pages} {base} {count}"));
         for unit in units {
             self.line(&format!("unit{}", join(unit)));

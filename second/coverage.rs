@@ -43,15 +43,15 @@ type Point = (u64, &'static str);
 /// Reasons and brims, each with the operations that must reach it.
 const POINTS: &[(&[u64], &[&str])] = &[
     (&[0], &["start 0", "start 0, empty span at N", "start 0, all pages shared"]),
-    (&[0], &["start 0, 32 units", "start 0, units differ only in mark"]),
+    (&[0], &["start 0, as many units as fit", "start 0, units differ only in mark"]),
     (&[0], &["start 0, unit repeats", "start 0, unit in shared span"]),
-    (&[0], &["start 1, N 0", "start 1, N over 1024", "start 1 before 2 and 3"]),
-    (&[0], &["start 2, over 32 units", "start 2, unit VM", "start 2, unit access"]),
+    (&[0], &["start 1, N 0", "start 1, N over PAGES", "start 1 before 2 and 3"]),
+    (&[0], &["start 2, a unit too many", "start 2, unit VM", "start 2, unit access"]),
     (&[0], &["start 2, unit mark", "start 2, last field before first span"]),
     (&[0], &["start 3, unit count 0", "start 3, unit guest span", "start 3, unit page span"]),
     (&[0], &["start 3, wrapping", "start 3, shared span past N"]),
     (&[0], &["start 3, empty shared span above N", "free", "free none", "free refused"]),
-    (&[0], &["operation 0", "operation 27", "operation over 32 bits"]),
+    (&[0], &["operation 0", "operation past the last", "operation over 32 bits"]),
     (&[2], &["13 CPU pages alone", "13 DMA pages alone", "13 borrower's CPU mapping"]),
     (&[2], &["13 DMA mappings alone", "13 edges alone", "13 a CPU alone", "13 a device alone"]),
     (&[3], &["0 on its own DMA page", "6 another VM's page", "6 shared span"]),
@@ -81,11 +81,14 @@ const POINTS: &[(&[u64], &[&str])] = &[
     (&[13], &["0 on its own CPU pages", "0 on pool pages", "0 on its own DMA pages"]),
     (&[15, 16], &["0 to idle", "0 from one VM to another"]),
     (&[17, 18], &["0 key held", "0 key held, cache full", "0 lowest empty below a filled slot"]),
-    (&[17, 18], &["0 slot at the hand", "0 hand from 63 to 0", "0 empty slot, hand not 0"]),
+    (
+        &[17, 18],
+        &["0 slot at the hand", "0 hand from the last slot to 0", "0 empty slot, hand not 0"],
+    ),
     (&[17, 18], &["0 same guest on another port"]),
     (&[19, 20], &["0 filled slot", "0 empty slot"]),
     (&[21, 22, 23, 24], &["0 by a slot", "0 by the walker", "16 by a slot", "16 by the walker"]),
-    (&[21, 22, 23, 24], &["0 word 511", "9 though another VM maps it"]),
+    (&[21, 22, 23, 24], &["0 last word", "9 though another VM maps it"]),
     (&[21, 22], &["0 nonzero word"]),
     (&[22, 24], &["0 on the shared span"]),
 ];
@@ -140,7 +143,7 @@ impl Coverage {
         if self.unread > 0 {
             missing.push("all that follows a line not understood".to_string());
         }
-        for operation in 1..=26 {
+        for operation in 1..=OPERATIONS {
             let kinds = arguments(operation).unwrap_or_default();
             let judged: Vec<usize> = (0..kinds.len()).filter(|&i| kinds[i] != Kind::Any).collect();
             for number in [0, 1].iter().chain(refusals(operation)) {
@@ -196,7 +199,7 @@ impl Coverage {
             1 => {
                 let others = setup.units.iter().any(|unit| unit[0] >= VMS);
                 self.hit(0, "start 1, N 0", setup.pages == 0);
-                self.hit(0, "start 1, N over 1024", setup.pages > PAGES);
+                self.hit(0, "start 1, N over PAGES", setup.pages > PAGES);
                 self.hit(0, "start 1 before 2 and 3", others && !setup.shared.fits(setup.pages));
             }
             2 => self.start_refused_2(setup),
@@ -207,14 +210,14 @@ impl Coverage {
     fn start_accepted(&mut self, setup: &Setup) {
         let (pages, shared, units) = (setup.pages, setup.shared, &setup.units);
         self.sizes.insert(pages);
-        let two = |alike: fn(&[u64; 6], &[u64; 6]) -> bool| {
+        let two = |alike: fn(&UnitNumbers, &UnitNumbers) -> bool| {
             (0..units.len()).any(|i| units[..i].iter().any(|unit| alike(unit, &units[i])))
         };
         let only_mark = two(|a, b| a[..5] == b[..5] && a[5] != b[5]);
         self.hit(0, "start 0", true);
         self.hit(0, "start 0, empty span at N", shared == Span { base: pages, count: 0 });
         self.hit(0, "start 0, all pages shared", shared.count == pages);
-        self.hit(0, "start 0, 32 units", units.len() == UNITS);
+        self.hit(0, "start 0, as many units as fit", units.len() == UNITS);
         self.hit(0, "start 0, units differ only in mark", only_mark);
         self.hit(0, "start 0, unit repeats", two(|a, b| a == b));
         self.hit(0, "start 0, unit in shared span", units.iter().any(|u| shared.contains(u[2])));
@@ -222,10 +225,11 @@ impl Coverage {
 
     fn start_refused_2(&mut self, setup: &Setup) {
         let units = &setup.units;
-        let bad =
-            |unit: &[u64; 6]| unit[0] >= VMS || unit[4] >= ACCESSES || !(1..=3).contains(&unit[5]);
+        let bad = |unit: &UnitNumbers| {
+            unit[0] >= VMS || unit[4] >= ACCESSES || !(1..=3).contains(&unit[5])
+        };
         let order = units.len() > 1 && bad(&units[units.len() - 1]) && units[0][3] == 0;
-        self.hit(0, "start 2, over 32 units", units.len() > UNITS);
+        self.hit(0, "start 2, a unit too many", units.len() > UNITS);
         self.hit(0, "start 2, unit VM", units.iter().any(|unit| unit[0] >= VMS));
         self.hit(0, "start 2, unit access", units.iter().any(|unit| unit[4] >= ACCESSES));
         self.hit(0, "start 2, unit mark", units.iter().any(|unit| !(1..=3).contains(&unit[5])));
@@ -234,7 +238,7 @@ impl Coverage {
 
     fn start_refused_3(&mut self, setup: &Setup) {
         let (pages, shared, units) = (setup.pages, setup.shared, &setup.units);
-        let wraps = |unit: &[u64; 6]| unit[2].checked_add(unit[3]).is_none();
+        let wraps = |unit: &UnitNumbers| unit[2].checked_add(unit[3]).is_none();
         let past = |base, count, limit| count > 0 && !Span { base, count }.fits(limit);
         let guest_span = units.iter().any(|unit| past(unit[1], unit[3], GUESTS));
         let page_span = units.iter().any(|unit| past(unit[2], unit[3], pages));
@@ -284,7 +288,7 @@ impl Coverage {
     fn out_of_range(&mut self, m: &Machine, row: &Row) {
         let Some(kinds) = arguments(row[0]) else {
             self.hit(0, "operation 0", row[0] == 0);
-            self.hit(0, "operation 27", row[0] == 27);
+            self.hit(0, "operation past the last", row[0] == OPERATIONS + 1);
             self.hit(0, "operation over 32 bits", row[0] > u64::from(u32::MAX));
             return;
         };
@@ -474,7 +478,8 @@ impl Coverage {
         self.hit(operation, "0 one page", region.count == 1);
         self.hit(operation, "0 several pages", region.count > 1);
         if operation == 11 || operation == 13 {
-            self.hit(operation, "0 fills the map", map.len() as u64 + region.count == 512);
+            let filled = map.len() as u64 + region.count;
+            self.hit(operation, "0 fills the map", filled == ENTRIES as u64);
         }
         match operation {
             11 => self.hit(11, "0 on its own DMA pages", own(&m.dma)),
@@ -545,7 +550,7 @@ impl Coverage {
         self.hit(operation, "0 key held, cache full", held && full);
         self.hit(operation, "0 lowest empty below a filled slot", below);
         self.hit(operation, "0 slot at the hand", !held && full);
-        self.hit(operation, "0 hand from 63 to 0", !held && full && hand == SLOTS - 1);
+        self.hit(operation, "0 hand from the last slot to 0", !held && full && hand == SLOTS - 1);
         self.hit(operation, "0 empty slot, hand not 0", !held && !full && hand != 0);
         self.hit(operation, "0 same guest on another port", !held && elsewhere);
     }
@@ -561,7 +566,7 @@ impl Coverage {
             (0, Some(entry)) => {
                 self.hit(operation, "0 by a slot", by_slot);
                 self.hit(operation, "0 by the walker", !by_slot);
-                self.hit(operation, "0 word 511", word == 511);
+                self.hit(operation, "0 last word", word == WORDS - 1);
                 if operation < 23 {
                     let word = m.memory[Machine::address(entry.page, word)];
                     self.hit(operation, "0 nonzero word", word != 0);
@@ -619,9 +624,10 @@ impl fmt::Display for Coverage {
     fn fmt(&self, f: &mut fmt::Formatter) -> fmt::Result {
         writeln!(f, "{} boxes, {} sizes, {} rows", self.boxes, self.sizes.len(), self.rows)?;
         writeln!(f, "\nanswers of each operation, number:times (times above index 0)")?;
-        for operation in 1..=26 {
+        for operation in 1..=OPERATIONS {
             write!(f, "{operation:>3} ")?;
-            for (&(_, number), times) in self.answers.range((operation, 0)..=(operation, 16)) {
+            for (&(_, number), times) in self.answers.range((operation, 0)..=(operation, REFUSALS))
+            {
                 write!(f, " {number}:{times}")?;
                 if let Some(above) = self.above.get(&(operation, number)) {
                     write!(f, "({above})")?;
@@ -630,8 +636,8 @@ impl fmt::Display for Coverage {
             writeln!(f)?;
         }
         writeln!(f, "\nrefusal 2 by one argument alone, argument:times")?;
-        for operation in 1..=26 {
-            let ranges = self.ranges.range((operation, 0)..=(operation, 8));
+        for operation in 1..=OPERATIONS {
+            let ranges = self.ranges.range((operation, 0)..=(operation, ROW_NUMBERS));
             let cells: Vec<String> =
                 ranges.map(|((_, place), times)| format!("{}:{times}", place + 1)).collect();
             if !cells.is_empty() {

@@ -2,10 +2,18 @@
 //! the answer that the machine's paper gives it.
 
 use crate::author::Author;
-use crate::machine::{GUESTS, IDLE};
+use crate::machine::*;
 use crate::operate::{arguments, Kind};
 
 const HUGE: u64 = u64::MAX;
+
+/// Limits of which a row has numbers.
+const PORT_COUNT: u64 = PORTS as u64;
+const ENTRY_COUNT: u64 = ENTRIES as u64;
+const SLOT_COUNT: u64 = SLOTS as u64;
+
+/// The last word of a page.
+const LAST_WORD: u64 = WORDS - 1;
 
 /// Every scenario with its name.
 pub const SCENARIOS: [(&str, fn(&mut Author)); 21] = [
@@ -17,10 +25,10 @@ pub const SCENARIOS: [(&str, fn(&mut Author)); 21] = [
     ("CPUs and devices", running),
     ("assign and reclaim", pages),
     ("share and unshare", sharing),
-    ("128 pairs", pairs_full),
+    ("pairs to the brim", pairs_full),
     ("CPU maps", cpu_maps),
     ("DMA maps", dma_maps),
-    ("512 entries", maps_full),
+    ("maps to the brim", maps_full),
     ("region spans and units", region_units),
     ("CPU regions", cpu_regions),
     ("DMA regions", dma_regions),
@@ -33,12 +41,12 @@ pub const SCENARIOS: [(&str, fn(&mut Author)); 21] = [
 ];
 
 /// Opens a box whose start must be accepted.
-fn open(a: &mut Author, pages: u64, base: u64, count: u64, units: &[[u64; 6]]) {
+fn open(a: &mut Author, pages: u64, base: u64, count: u64, units: &[UnitNumbers]) {
     assert_eq!(a.open(pages, base, count, units), 0);
 }
 
 /// Opens a box whose start must be refused, and shows that nothing works in it.
-fn refused(a: &mut Author, number: u64, size: [u64; 3], units: &[[u64; 6]]) {
+fn refused(a: &mut Author, number: u64, size: [u64; 3], units: &[UnitNumbers]) {
     assert_eq!(a.open(size[0], size[1], size[2], units), number, "{size:?} {units:?}");
     for row in [[1, 1, 0], [15, 0, IDLE], [25, 0, 0], [0, 0, 0], [7, HUGE, HUGE]] {
         a.expect(1, &row);
@@ -55,13 +63,13 @@ fn add(a: &mut Author, vms: &[u64]) {
 
 fn refused_starts(a: &mut Author) {
     let unit = [1, 16, 0, 3, 3, 3];
-    for pages in [0, 1025, 1 << 55, HUGE] {
+    for pages in [0, PAGES + 1, 1 << 55, HUGE] {
         refused(a, 1, [pages, 0, 0], &[unit]);
     }
-    refused(a, 1, [0, 9, 1], &[[16, 16, 0, 3, 3, 3]]);
-    refused(a, 2, [8, 7, 1], &[unit; 33]);
-    refused(a, 2, [8, 7, 1], &[unit; 40]);
-    for bad in [[16, 16, 0, 3, 3, 3], [IDLE, 16, 0, 3, 3, 3], [1, 16, 0, 3, 8, 3]] {
+    refused(a, 1, [0, 9, 1], &[[VMS, 16, 0, 3, 3, 3]]);
+    refused(a, 2, [8, 7, 1], &[unit; UNITS + 1]);
+    refused(a, 2, [8, 7, 1], &[unit; UNITS + 8]);
+    for bad in [[VMS, 16, 0, 3, 3, 3], [IDLE, 16, 0, 3, 3, 3], [1, 16, 0, 3, ACCESSES, 3]] {
         refused(a, 2, [8, 7, 1], &[unit, bad]);
     }
     for mark in [0, 4, HUGE] {
@@ -86,7 +94,7 @@ fn refused_starts(a: &mut Author) {
     }
     // Every row of a refused box answers 1, whatever its operation.
     refused(a, 3, [8, 0, 9], &[]);
-    for operation in 1..=26 {
+    for operation in 1..=OPERATIONS {
         a.expect(1, &[operation, 1, 16, 0, 3, 3]);
     }
 }
@@ -103,13 +111,15 @@ fn edge_starts(a: &mut Author) {
     a.expect_at(6, 0, &[11, 1, 0, 0, 8, 7]);
     a.expect_at(7, 0, &[13, 1, 0, 0, 8, 7]);
     a.note("units at the very end, repeated, and some that differ only in mark");
-    let last = [15, GUESTS - 2, 6, 2, 7, 3];
+    let (vm, access) = (VMS - 1, ACCESSES - 1);
+    let last = [vm, GUESTS - 2, 6, 2, access, 3];
     let mut units = vec![last, last];
-    units.extend((0..15).flat_map(|vm| [[vm, 0, vm % 8, 1, 1, 1], [vm, 0, vm % 8, 1, 1, 2]]));
+    let more = (0..VMS).flat_map(|vm| [[vm, 0, vm % 8, 1, 1, 1], [vm, 0, vm % 8, 1, 1, 2]]);
+    units.extend(more.take(UNITS - 2));
     open(a, 8, 0, 0, &units);
-    add(a, &[15, 3]);
-    a.expect(0, &[11, 15, GUESTS - 2, 6, 2, 7]);
-    a.expect(0, &[13, 15, GUESTS - 2, 6, 2, 7]);
+    add(a, &[vm, 3]);
+    a.expect(0, &[11, vm, GUESTS - 2, 6, 2, access]);
+    a.expect(0, &[13, vm, GUESTS - 2, 6, 2, access]);
     a.expect(0, &[11, 3, 0, 3, 1, 1]);
     a.expect(0, &[13, 3, 0, 3, 1, 1]);
     a.expect(0, &[12, 3, 0, 3, 1, 1]);
@@ -124,10 +134,10 @@ fn edge_starts(a: &mut Author) {
 
 /// Each argument of each operation alone out of range, at its limit and far above.
 fn ranges(a: &mut Author) {
-    for pages in [8, 1024] {
+    for pages in [8, PAGES] {
         open(a, pages, 7, 1, &[[1, 16, 0, 3, 3, 3]]);
         add(a, &[0, 1]);
-        for operation in 1..=26 {
+        for operation in 1..=OPERATIONS {
             let kinds = arguments(operation).expect("a known operation");
             for (place, kind) in kinds.iter().enumerate() {
                 let Some(limit) = kind.limit(pages) else { continue };
@@ -140,11 +150,12 @@ fn ranges(a: &mut Author) {
             }
         }
         a.note("2 comes before all else; a region's spans are never judged by it");
-        a.expect(2, &[11, 16, HUGE, HUGE, 0, 0]);
-        a.expect(2, &[11, 9, HUGE, HUGE, 0, 8]);
-        a.expect(3, &[11, 9, HUGE, HUGE, 0, 7]);
+        a.expect(2, &[11, VMS, HUGE, HUGE, 0, 0]);
+        a.expect(2, &[11, 9, HUGE, HUGE, 0, ACCESSES]);
+        a.expect(3, &[11, 9, HUGE, HUGE, 0, ACCESSES - 1]);
         a.expect(2, &[5, 9, 9, pages]);
-        for operation in [0, 27, 28, 255, 256 + 1, IDLE, 1 << 32, (1 << 32) + 1, HUGE] {
+        let past = OPERATIONS + 1;
+        for operation in [0, past, past + 1, 255, 256 + 1, IDLE, 1 << 32, (1 << 32) + 1, HUGE] {
             a.expect(2, &[operation, 1]);
         }
         a.note("numbers past the arguments are ignored");
@@ -156,19 +167,21 @@ fn ranges(a: &mut Author) {
 
 /// The last number in range and the first out of it, for each kind of argument.
 fn limits(a: &mut Author) {
-    open(a, 8, 7, 1, &[[15, 0, 0, 1, 7, 3]]);
+    let (vm, guest, access, generation) = (VMS - 1, GUESTS - 1, ACCESSES - 1, GENERATIONS - 1);
+    let (port, below) = (PORT_COUNT - 1, guest - 1);
+    open(a, 8, 7, 1, &[[vm, 0, 0, 1, access, 3]]);
     let rows: [[&[u64]; 2]; 11] = [
-        [&[1, 15], &[1, 16]],
-        [&[3, 15, 6], &[3, 15, 8]],
-        [&[7, 15, 65_535, 6, 7, 65_535], &[7, 15, 65_536, 6, 7, 65_535]],
-        [&[8, 15, 65_535, 7, 7, 65_535], &[8, 15, 65_535, 8, 7, 65_535]],
-        [&[7, 15, 65_534, 6, 7, 65_535], &[7, 15, 65_534, 6, 8, 65_535]],
-        [&[8, 15, 65_534, 7, 7, 65_535], &[8, 15, 65_534, 7, 7, 65_536]],
-        [&[11, 15, 0, 0, 1, 7], &[11, 15, 0, 0, 1, 8]],
-        [&[15, 7, 15], &[15, 8, 15]],
-        [&[17, 7, 65_535], &[17, 7, 65_536]],
-        [&[19, 63], &[19, 64]],
-        [&[23, 7, 65_535, 511, HUGE], &[23, 7, 65_535, 512, HUGE]],
+        [&[1, vm], &[1, VMS]],
+        [&[3, vm, 6], &[3, vm, 8]],
+        [&[7, vm, guest, 6, access, generation], &[7, vm, GUESTS, 6, access, generation]],
+        [&[8, vm, guest, 7, access, generation], &[8, vm, guest, 8, access, generation]],
+        [&[7, vm, below, 6, access, generation], &[7, vm, below, 6, ACCESSES, generation]],
+        [&[8, vm, below, 7, access, generation], &[8, vm, below, 7, access, GENERATIONS]],
+        [&[11, vm, 0, 0, 1, access], &[11, vm, 0, 0, 1, ACCESSES]],
+        [&[15, port, vm], &[15, PORT_COUNT, vm]],
+        [&[17, port, guest], &[17, port, GUESTS]],
+        [&[19, SLOT_COUNT - 1], &[19, SLOT_COUNT]],
+        [&[23, port, guest, LAST_WORD, HUGE], &[23, port, guest, WORDS, HUGE]],
     ];
     for [last, over] in rows {
         a.expect(0, last);
@@ -227,7 +240,7 @@ fn running(a: &mut Author) {
     a.expect(0, &[2, 0]);
     a.expect(13, &[2, 1]);
     a.note("idle is one number, and a VM's only in 15 and 16");
-    for port in 0..8 {
+    for port in 0..PORT_COUNT {
         a.expect(0, &[15, port, IDLE]);
         a.expect(0, &[16, port, IDLE]);
         a.expect(2, &[15, port, IDLE - 1]);
@@ -310,17 +323,17 @@ fn sharing(a: &mut Author) {
 
 fn pairs_full(a: &mut Author) {
     open(a, 12, 12, 0, &[]);
-    for vm in 0..16 {
+    for vm in 0..VMS {
         a.expect(0, &[1, vm]);
     }
     for page in 0..10 {
         a.expect(0, &[3, page, page]);
     }
-    let all = (0..9).flat_map(|page| (0..16).map(move |vm| (page, vm)));
-    for (page, vm) in all.filter(|(page, vm)| page != vm).take(128) {
+    let all = (0..9).flat_map(|page| (0..VMS).map(move |vm| (page, vm)));
+    for (page, vm) in all.filter(|(page, vm)| page != vm).take(PAIRS) {
         a.expect(0, &[5, page, vm, page]);
     }
-    a.note("128 pairs: no more, but a stored one may be shared again");
+    a.note("no more pairs, but a stored one may be shared again");
     a.expect(14, &[5, 9, 1, 9]);
     a.expect(0, &[5, 0, 1, 0]);
     a.expect(0, &[5, 3, 2, 3]);
@@ -345,7 +358,7 @@ fn cpu_maps(a: &mut Author) {
     a.expect(6, &[7, 1, 5, 3, 7]);
     a.expect(0, &[3, 1, 0]);
     a.expect(6, &[7, 2, 5, 0, 7]);
-    a.expect(0, &[7, 1, GUESTS - 1, 0, 7, 65_535]);
+    a.expect(0, &[7, 1, GUESTS - 1, 0, 7, GENERATIONS - 1]);
     a.expect(0, &[7, 1, 0, 0, 0, 0]);
     a.expect(0, &[5, 1, 2, 0]);
     a.expect(0, &[7, 2, 5, 0, 7, 1]);
@@ -376,7 +389,7 @@ fn dma_maps(a: &mut Author) {
     a.expect(0, &[13, 1, 16, 0, 2, 3]);
     a.expect(6, &[8, 2, 5, 0, 7]);
     a.expect(0, &[8, 1, 5, 0, 7, 9]);
-    a.expect(0, &[8, 1, 5, 1, 1, 65_535]);
+    a.expect(0, &[8, 1, 5, 1, 1, GENERATIONS - 1]);
     a.expect(0, &[8, 2, 5, 7, 3]);
     a.expect(9, &[9, 2, 5]);
     a.expect(0, &[10, 1, 5]);
@@ -390,20 +403,21 @@ fn maps_full(a: &mut Author) {
     add(a, &[1, 2]);
     a.expect(0, &[3, 1, 0]);
     a.expect(0, &[5, 1, 2, 0]);
+    let apart = GUESTS / ENTRY_COUNT;
     for (map, unmap, page) in [(7, 9, 0), (8, 10, 7)] {
-        for guest in 0..512 {
-            a.expect(0, &[map, 1 + guest % 2, guest * 128, page, 3, guest]);
+        for entry in 0..ENTRY_COUNT {
+            a.expect(0, &[map, 1 + entry % 2, entry * apart, page, 3, entry]);
         }
         a.expect(14, &[map, 1, 1, page, 3]);
         a.expect(14, &[map, 2, 0, page, 3]);
         a.note("6 comes before 14, and a replacement needs no free entry");
         a.expect(6, &[map, 1, 1, 5, 3]);
         a.expect(0, &[map, 1, 0, page, 1, 5]);
-        a.expect(0, &[map, 2, 511 * 128, page, 5, 0]);
+        a.expect(0, &[map, 2, (ENTRY_COUNT - 1) * apart, page, 5, 0]);
         a.note("an emptied entry counts as free");
-        a.expect(0, &[unmap, 2, 128]);
+        a.expect(0, &[unmap, 2, apart]);
         a.expect(0, &[map, 1, 1, page, 3]);
-        a.expect(14, &[map, 2, 128, page, 3]);
+        a.expect(14, &[map, 2, apart, page, 3]);
         a.expect(0, &[unmap, 1, 1]);
     }
     a.note("one entry free in each map: two do not fit, one does");
@@ -612,35 +626,37 @@ fn remove_dma_region(a: &mut Author) {
 
 /// Regions against the free entries of each map.
 fn regions_full(a: &mut Author) {
+    // A hundred entries short of the brim.
+    let most = ENTRY_COUNT - 100;
     let units = [
-        [1, 0, 0, 412, 3, 3],
+        [1, 0, 0, most, 3, 3],
         [1, 2000, 500, 100, 3, 3],
         [2, 2000, 700, 101, 3, 3],
-        [1, 0, 0, 512, 3, 3],
-        [1, 0, 0, 513, 3, 3],
-        [1, 0, 0, 1024, 3, 3],
-        [2, 0, 1023, 1, 3, 3],
+        [1, 0, 0, ENTRY_COUNT, 3, 3],
+        [1, 0, 0, ENTRY_COUNT + 1, 3, 3],
+        [1, 0, 0, PAGES, 3, 3],
+        [2, 0, PAGES - 1, 1, 3, 3],
     ];
     for (insert, remove) in [(11, 12), (13, 14)] {
-        open(a, 1024, 0, 0, &units);
+        open(a, PAGES, 0, 0, &units);
         add(a, &[1, 2]);
-        a.expect(14, &[insert, 1, 0, 0, 513, 3]);
-        a.expect(14, &[insert, 1, 0, 0, 1024, 3]);
-        a.expect(0, &[insert, 1, 0, 0, 512, 3]);
-        a.expect(14, &[insert, 2, 0, 1023, 1, 3]);
-        a.expect(0, &[remove, 1, 0, 0, 512, 3]);
-        a.expect(0, &[insert, 1, 0, 0, 412, 3]);
+        a.expect(14, &[insert, 1, 0, 0, ENTRY_COUNT + 1, 3]);
+        a.expect(14, &[insert, 1, 0, 0, PAGES, 3]);
+        a.expect(0, &[insert, 1, 0, 0, ENTRY_COUNT, 3]);
+        a.expect(14, &[insert, 2, 0, PAGES - 1, 1, 3]);
+        a.expect(0, &[remove, 1, 0, 0, ENTRY_COUNT, 3]);
+        a.expect(0, &[insert, 1, 0, 0, most, 3]);
         a.expect(14, &[insert, 2, 2000, 700, 101, 3]);
         a.expect(0, &[insert, 1, 2000, 500, 100, 3]);
         a.expect(14, &[insert, 2, 2000, 700, 101, 3]);
         a.note("the index of a late clash");
         let late = if insert == 11 { 6 } else { 10 };
-        a.expect_at(late, 0, &[insert, 1, 0, 0, 1024, 3]);
+        a.expect_at(late, 0, &[insert, 1, 0, 0, PAGES, 3]);
         a.free();
-        a.expect(0, &[remove, 1, 0, 0, 412, 3]);
+        a.expect(0, &[remove, 1, 0, 0, most, 3]);
         a.expect_at(late, if insert == 11 { 500 } else { 0 }, &late_region(insert));
         a.expect(0, &[insert, 2, 2000, 700, 101, 3]);
-        a.expect_at(6, 0, &[remove, 1, 0, 0, 412, 3]);
+        a.expect_at(6, 0, &[remove, 1, 0, 0, most, 3]);
         a.free();
     }
 }
@@ -648,7 +664,7 @@ fn regions_full(a: &mut Author) {
 /// For CPU the whole box, whose page 500 is taken; for DMA a region still in.
 fn late_region(insert: u64) -> [u64; 6] {
     if insert == 11 {
-        [11, 1, 0, 0, 1024, 3]
+        [11, 1, 0, 0, PAGES, 3]
     } else {
         [13, 1, 2000, 500, 100, 3]
     }
@@ -690,25 +706,25 @@ const DMA: Numbers = Numbers {
     write: 24,
 };
 
-/// Fills past 64 slots; the unmaps at the end tell which keys were still held.
+/// Fills more than the slots hold; the unmaps at the end tell which keys were still held.
 fn caches(a: &mut Author) {
     open(a, 8, 7, 1, &[]);
     add(a, &[1]);
     a.expect(0, &[3, 1, 0]);
     for (side, page) in [(CPU, 0), (DMA, 7)] {
-        for guest in 0..80 {
+        for guest in 0..SLOT_COUNT + 16 {
             a.expect(0, &[side.map, 1, guest, page, 3, guest]);
         }
-        for port in 0..8 {
+        for port in 0..PORT_COUNT {
             a.expect(0, &[side.run, port, 1]);
         }
-        a.expect(0, &[side.empty, 63]);
-        for guest in 0..64 {
+        a.expect(0, &[side.empty, SLOT_COUNT - 1]);
+        for guest in 0..SLOT_COUNT {
             a.expect(0, &[side.fill, 0, guest]);
         }
         a.expect(0, &[side.fill, 0, 5]);
         a.note("the hand goes from 0 round to 6");
-        for guest in 0..70 {
+        for guest in 0..SLOT_COUNT + 6 {
             a.expect(0, &[side.fill, 7, guest]);
         }
         a.note("emptied slots go first, the lowest of them, and the hand waits");
@@ -716,35 +732,36 @@ fn caches(a: &mut Author) {
             a.expect(0, &[side.empty, slot]);
         }
         a.expect(0, &[side.fill, 7, 60]);
-        for guest in 70..75 {
+        for guest in SLOT_COUNT + 6..SLOT_COUNT + 11 {
             a.expect(0, &[side.fill, 6, guest]);
         }
         show_slots(a, &side);
     }
 }
 
-/// Guests 70 to 74 went into slots 3, 40, 50 and then to the hand at 6 and 7:
-/// once its slot is emptied by number, an unmap drops nothing.
+/// The five guests from `late` on went into slots 3, 40, 50 and then to the
+/// hand at 6 and 7: once its slot is emptied by number, an unmap drops nothing.
 fn show_slots(a: &mut Author, side: &Numbers) {
-    a.expect(9, &[side.fill, 6, 80]);
-    for (slot, guest) in [(3, 70), (40, 71), (50, 72), (6, 73)] {
+    let (late, end) = (SLOT_COUNT + 6, SLOT_COUNT + 16);
+    a.expect(9, &[side.fill, 6, end]);
+    for (slot, guest) in [(3, late), (40, late + 1), (50, late + 2), (6, late + 3)] {
         a.expect(0, &[side.empty, slot]);
         a.expect_drops(0, &[side.unmap, 1, guest]);
     }
-    a.expect_drops(1, &[side.unmap, 1, 74]);
+    a.expect_drops(1, &[side.unmap, 1, late + 4]);
     a.note("the lowest empty slot is taken also where the one at the hand is empty");
     for slot in [8, 2] {
         a.expect(0, &[side.empty, slot]);
     }
-    a.expect(0, &[side.fill, 5, 75]);
+    a.expect(0, &[side.fill, 5, late + 5]);
     a.expect(0, &[side.empty, 2]);
-    a.expect_drops(0, &[side.unmap, 1, 75]);
+    a.expect_drops(0, &[side.unmap, 1, late + 5]);
     a.note("what the hand did not take is still there");
-    for guest in (0..70).chain(76..80).rev() {
+    for guest in (0..late).chain(late + 6..end).rev() {
         a.expect(0, &[side.unmap, 1, guest]);
     }
     a.expect(9, &[side.fill, 0, 0]);
-    for port in 0..8 {
+    for port in 0..PORT_COUNT {
         a.expect(0, &[side.run, port, IDLE]);
         a.expect(15, &[side.fill, port, 0]);
     }
@@ -816,14 +833,14 @@ fn accesses(a: &mut Author) {
         }
         a.expect(0, &[side.insert, 1, 16, 0, 3, 7]);
         a.expect_word(0, &[side.read, 7, 16, 0]);
-        a.expect(0, &[side.write, 7, 18, 511, HUGE]);
+        a.expect(0, &[side.write, 7, 18, LAST_WORD, HUGE]);
         a.expect(0, &[side.fill, 7, 18]);
-        a.expect_word(HUGE, &[side.read, 7, 18, 511]);
-        a.expect(0, &[side.write, 7, 18, 511, 1 << 63]);
-        a.expect_word(1 << 63, &[side.read, 7, 18, 511]);
-        a.expect_word(0, &[side.read, 7, 18, 510]);
-        a.expect(2, &[side.read, 7, 18, 512]);
-        a.expect(2, &[side.write, 7, 18, 512, 1]);
+        a.expect_word(HUGE, &[side.read, 7, 18, LAST_WORD]);
+        a.expect(0, &[side.write, 7, 18, LAST_WORD, 1 << 63]);
+        a.expect_word(1 << 63, &[side.read, 7, 18, LAST_WORD]);
+        a.expect_word(0, &[side.read, 7, 18, LAST_WORD - 1]);
+        a.expect(2, &[side.read, 7, 18, WORDS]);
+        a.expect(2, &[side.write, 7, 18, WORDS, 1]);
         access_bits(a, &side);
     }
     a.note("devices of two VMs meet on the shared span");
@@ -838,11 +855,11 @@ fn accesses(a: &mut Author) {
 /// Read needs bit 1 and write bit 2, by the walker and then by a slot.
 fn access_bits(a: &mut Author, side: &Numbers) {
     let answers = [(16, 16), (0, 16), (16, 0), (0, 0), (16, 16), (0, 16), (16, 0), (0, 0)];
-    for (access, (read, write)) in (0..8).zip(answers) {
+    for (access, (read, write)) in (0..ACCESSES).zip(answers) {
         a.expect(0, &[side.map, 1, 16, 0, access, 3]);
         for _ in 0..2 {
-            a.expect(read, &[side.read, 7, 16, 511]);
-            a.expect(write, &[side.write, 7, 16, 511, access]);
+            a.expect(read, &[side.read, 7, 16, LAST_WORD]);
+            a.expect(write, &[side.write, 7, 16, LAST_WORD, access]);
             a.expect(0, &[side.fill, 7, 16]);
         }
     }
@@ -859,17 +876,17 @@ fn clearing(a: &mut Author) {
     a.expect(0, &region(11));
     a.expect(0, &region(13));
     a.expect(0, &[23, 0, 16, 0, 11]);
-    a.expect(0, &[23, 0, 18, 511, 22]);
+    a.expect(0, &[23, 0, 18, LAST_WORD, 22]);
     a.expect(0, &region(12));
     a.expect_word(11, &[22, 0, 16, 0]);
-    a.expect_word(22, &[22, 0, 18, 511]);
+    a.expect_word(22, &[22, 0, 18, LAST_WORD]);
     a.expect(0, &region(11));
     a.expect_word(11, &[21, 0, 16, 0]);
     a.expect(0, &region(12));
     a.expect(0, &region(14));
     a.expect(0, &region(11));
     a.expect_word(0, &[21, 0, 16, 0]);
-    a.expect_word(0, &[21, 0, 18, 511]);
+    a.expect_word(0, &[21, 0, 18, LAST_WORD]);
     a.note("DMA goes first");
     a.expect(0, &[23, 0, 17, 7, 33]);
     a.expect(0, &region(13));
@@ -886,7 +903,7 @@ fn clearing_by_reclaim(a: &mut Author) {
     for page in 3..6 {
         a.expect(0, &[3, 1, page]);
         a.expect(0, &[7, 1, 100 + page, page, 3]);
-        a.expect(0, &[23, 0, 100 + page, 511, 40 + page]);
+        a.expect(0, &[23, 0, 100 + page, LAST_WORD, 40 + page]);
         a.expect(0, &[23, 0, 100 + page, 0, 50 + page]);
     }
     a.expect(0, &[13, 1, 40, 4, 1, 3]);
@@ -905,8 +922,8 @@ fn clearing_by_reclaim(a: &mut Author) {
     a.expect(0, &[7, 2, 104, 4, 1]);
     a.expect(0, &[15, 1, 2]);
     a.expect_word(0, &[21, 1, 104, 0]);
-    a.expect_word(0, &[21, 1, 104, 511]);
-    a.expect_word(43, &[21, 0, 103, 511]);
+    a.expect_word(0, &[21, 1, 104, LAST_WORD]);
+    a.expect_word(43, &[21, 0, 103, LAST_WORD]);
     a.expect_word(55, &[21, 0, 105, 0]);
 }
 
@@ -914,10 +931,10 @@ fn clearing_by_reclaim(a: &mut Author) {
 fn sizes(a: &mut Author) {
     let all = [
         1, 2, 3, 5, 31, 63, 64, 65, 100, 127, 128, 129, 191, 192, 193, 255, 256, 257, 319, 320,
-        511, 512, 513, 700, 767, 960, 1000, 1023, 1024,
+        511, 512, 513, 700, 767, 960, 1000,
     ];
-    for n in all {
-        let count = n.min(512);
+    for n in all.into_iter().chain([PAGES - 1, PAGES]) {
+        let count = n.min(ENTRY_COUNT);
         open(a, n, n, 0, &[[1, 16, 0, count, 3, 3], [2, 0, n - 1, 1, 7, 3]]);
         add(a, &[1, 2]);
         a.free();
@@ -925,12 +942,12 @@ fn sizes(a: &mut Author) {
         a.expect(0, &[3, 2, n - 1]);
         a.expect(0, &[7, 2, 9, n - 1, 7]);
         a.expect(0, &[15, 0, 2]);
-        a.expect(0, &[23, 0, 9, 511, n]);
+        a.expect(0, &[23, 0, 9, LAST_WORD, n]);
         a.free();
         if count == n {
             a.expect_at(6, n - 1, &[11, 1, 16, 0, count, 3]);
         }
-        a.expect_word(n, &[21, 0, 9, 511]);
+        a.expect_word(n, &[21, 0, 9, LAST_WORD]);
         a.expect(0, &[9, 2, 9]);
         a.expect(0, &[4, 2, n - 1]);
         for operation in [11, 13, 12, 14] {

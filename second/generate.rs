@@ -8,8 +8,22 @@ use crate::machine::*;
 use crate::operate::{arguments, Kind, Row};
 
 /// Numbers at which carelessness shows.
-const ODD: [u64; 14] =
-    [7, 8, 15, 16, 63, 64, 511, 512, 65_535, 65_536, IDLE, 1 << 32, 1 << 63, u64::MAX];
+const ODD: [u64; 14] = [
+    PORTS as u64 - 1,
+    PORTS as u64,
+    VMS - 1,
+    VMS,
+    SLOTS as u64 - 1,
+    SLOTS as u64,
+    WORDS - 1,
+    WORDS,
+    GUESTS - 1,
+    GUESTS,
+    IDLE,
+    1 << 32,
+    1 << 63,
+    u64::MAX,
+];
 
 /// How many rows the writer tries for one wanted answer.
 const TRIES: usize = 24;
@@ -30,7 +44,7 @@ enum Mood {
 
 impl Mood {
     /// How often each operation is chosen, by its number from 1 on.
-    fn weights(self) -> [u64; 26] {
+    fn weights(self) -> [u64; OPERATIONS as usize] {
         match self {
             Mood::Any => {
                 [4, 2, 4, 4, 4, 4, 6, 6, 4, 4, 6, 5, 6, 5, 4, 4, 6, 6, 2, 2, 5, 5, 5, 5, 1, 1]
@@ -96,7 +110,7 @@ struct Writer {
 /// A script of one random box with `rows` rows.
 pub fn generate(seed: u64, rows: u64) -> String {
     let mut rng = Rng::new(seed);
-    let sizes = [1, 2, 3, 4, 5, 8, 8, 12, 16, 24, 40, 63, 64, 65, 100, 128, 200, 300, 600, 1024];
+    let sizes = [1, 2, 3, 4, 5, 8, 8, 12, 16, 24, 40, 63, 64, 65, 100, 128, 200, 300, 600, PAGES];
     let pages = match rng.pick(&sizes) {
         Some(size) if rng.chance(80) => size,
         _ => 1 + rng.below(PAGES),
@@ -136,7 +150,7 @@ pub fn suite(seed: u64, rows: u64) -> Vec<(String, String)> {
         scenario(&mut author);
         (name.to_string(), author.text)
     });
-    let sizes = [8, 8, 3, 16, 40, 1024, 64, 12, 130, 600, 2, 20, 65, 8, 300, 5, 30, 1, 200, 10];
+    let sizes = [8, 8, 3, 16, 40, PAGES, 64, 12, 130, 600, 2, 20, 65, 8, 300, 5, 30, 1, 200, 10];
     let random = (0..40u64).map(|turn| {
         let mut rng = Rng::new(seed.wrapping_add(turn << 32));
         let own = rng.next();
@@ -186,7 +200,7 @@ impl Writer {
     }
 
     /// The numbers of a box line, and the units.
-    fn configuration(&mut self, pages: u64) -> ([u64; 3], Vec<[u64; 6]>) {
+    fn configuration(&mut self, pages: u64) -> ([u64; 3], Vec<UnitNumbers>) {
         let (base, count) = match self.rng.below(4) {
             0 => (self.rng.below(pages + 1), 0),
             1 => (pages - 1, 1),
@@ -196,7 +210,7 @@ impl Writer {
             }
         };
         let wanted = if self.rng.chance(20) { UNITS as u64 } else { 2 + self.rng.below(14) };
-        let mut units: Vec<[u64; 6]> = Vec::new();
+        let mut units: Vec<UnitNumbers> = Vec::new();
         for _ in 0..wanted {
             let unit = self.unit(pages, &units);
             units.push(unit);
@@ -206,7 +220,7 @@ impl Writer {
 
     /// A unit, often close to one before it, so that units overlap and differ
     /// in one field alone.
-    fn unit(&mut self, pages: u64, before: &[[u64; 6]]) -> [u64; 6] {
+    fn unit(&mut self, pages: u64, before: &[UnitNumbers]) -> UnitNumbers {
         let mut unit = match self.rng.pick(before) {
             Some(unit) if self.rng.chance(40) => unit,
             _ => {
@@ -228,7 +242,7 @@ impl Writer {
     }
 
     /// Puts an odd number into the box line or a unit, or adds a unit.
-    fn spoil_start(&mut self, size: &mut [u64; 3], units: &mut Vec<[u64; 6]>) {
+    fn spoil_start(&mut self, size: &mut [u64; 3], units: &mut Vec<UnitNumbers>) {
         let wrong = self.odd();
         match self.rng.below(4) {
             0 => size[self.rng.below(3) as usize] = wrong,
@@ -270,8 +284,10 @@ impl Writer {
 
     /// Any operation with any numbers at all.
     fn noise(&mut self) -> Row {
-        let operation = if self.rng.chance(90) { self.rng.below(28) } else { self.odd() };
-        let mut row = [operation, 0, 0, 0, 0, 0, 0, 0];
+        let operation =
+            if self.rng.chance(90) { self.rng.below(OPERATIONS + 2) } else { self.odd() };
+        let mut row = Row::default();
+        row[0] = operation;
         for number in &mut row[1..] {
             *number = if self.rng.chance(50) { self.odd() } else { self.rng.below(10) };
         }
@@ -310,7 +326,7 @@ impl Writer {
             }
             left -= weight;
         }
-        26
+        OPERATIONS
     }
 
     /// Puts one argument at its limit or far out.
@@ -334,7 +350,8 @@ impl Writer {
 
     /// One row of an operation, near to what the machine holds.
     fn candidate(&mut self, operation: u64) -> Row {
-        let mut row = [operation, 0, 0, 0, 0, 0, 0, 0];
+        let mut row = Row::default();
+        row[0] = operation;
         match operation {
             4 | 5 => self.held_page(&mut row),
             6 => self.stored_pair(&mut row),
@@ -367,7 +384,7 @@ impl Writer {
             Kind::Generation => self.rng.below(GENERATIONS),
             Kind::Port => self.rng.below(PORTS as u64),
             Kind::Slot => self.rng.below(SLOTS as u64),
-            Kind::Word => self.rng.pick(&[0, 1, 2, 511]).unwrap_or(0),
+            Kind::Word => self.rng.pick(&[0, 1, 2, WORDS - 1]).unwrap_or(0),
             Kind::Any => self.rng.next(),
         }
     }
@@ -486,7 +503,7 @@ impl Writer {
     /// The text of a row: mostly plain, at times in one of the spellings that
     /// the script allows.
     fn spell(&mut self, row: &Row) -> String {
-        let arguments = arguments(row[0]).map_or(7, <[Kind]>::len);
+        let arguments = arguments(row[0]).map_or(ROW_NUMBERS - 1, <[Kind]>::len);
         let mut words: Vec<String> = row[..=arguments].iter().map(u64::to_string).collect();
         if self.rng.chance(80) && matches!(row, [15 | 16, _, IDLE, ..]) {
             words[2] = "idle".to_string();
@@ -500,7 +517,7 @@ impl Writer {
             4 => format!("{text}\r"),
             5 => format!("00{text}"),
             6 => format!("\n# between\r\n{text}"),
-            7 if arguments < 7 => format!("{text} {}", u64::MAX),
+            7 if arguments < ROW_NUMBERS - 1 => format!("{text} {}", u64::MAX),
             _ => text,
         }
     }

@@ -21,6 +21,18 @@ pub const UNITS: usize = 32;
 pub const ACCESSES: u64 = 8;
 pub const GENERATIONS: u64 = 65_536;
 
+/// Numbers of a row, of its answer, and of a unit.
+pub const ROW_NUMBERS: usize = 8;
+pub const ANSWER_NUMBERS: usize = 4;
+pub const UNIT_NUMBERS: usize = 6;
+
+/// A unit as start is told it: VM, guest page, page, count, access, mark.
+pub type UnitNumbers = [u64; UNIT_NUMBERS];
+
+/// Operations and refusals are numbered from 1 to these.
+pub const OPERATIONS: u64 = 26;
+pub const REFUSALS: u64 = 16;
+
 /// The number by which a row names idle.
 pub const IDLE: u64 = 4_294_967_295;
 
@@ -178,7 +190,7 @@ pub struct Unit {
 
 impl Unit {
     /// Reads VM, guest, page, count, access, mark; spans are not judged here.
-    fn from_numbers(numbers: &[u64; 6]) -> Option<Self> {
+    fn from_numbers(numbers: &UnitNumbers) -> Option<Self> {
         let [vm, guest, page, count, access, mark] = *numbers;
         if vm >= VMS || access >= ACCESSES {
             return None;
@@ -251,14 +263,14 @@ impl Machine {
     }
 
     /// Gives the number of the answer and the machine, empty unless that is 0.
-    pub fn start(pages: u64, shared: Span, units: &[[u64; 6]], lent: Lent) -> (u64, Self) {
+    pub fn start(pages: u64, shared: Span, units: &[UnitNumbers], lent: Lent) -> (u64, Self) {
         match Self::try_start(pages, shared, units, lent) {
             Ok(machine) => (0, machine),
             Err(number) => (number, Self::empty()),
         }
     }
 
-    fn try_start(pages: u64, shared: Span, units: &[[u64; 6]], lent: Lent) -> Result<Self, u64> {
+    fn try_start(pages: u64, shared: Span, units: &[UnitNumbers], lent: Lent) -> Result<Self, u64> {
         let slots = SLOTS as u64;
         let lengths = pages.checked_mul(WORDS) == Some(lent.memory)
             && lent.cpu_slots == slots

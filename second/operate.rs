@@ -5,7 +5,7 @@ use crate::machine::*;
 use crate::valid;
 
 /// One row: operation number, arguments, the rest ignored.
-pub type Row = [u64; 8];
+pub type Row = [u64; ROW_NUMBERS];
 
 #[derive(Clone, Copy, PartialEq, Eq, Debug, Default)]
 pub struct Answer {
@@ -20,7 +20,7 @@ impl Answer {
         Answer { number, ..Answer::default() }
     }
 
-    pub fn numbers(self) -> [u64; 4] {
+    pub fn numbers(self) -> [u64; ANSWER_NUMBERS] {
         [self.number, self.index, self.dropped, self.word]
     }
 }
@@ -190,11 +190,13 @@ impl Machine {
         if !valid::is_valid(self) {
             return 1;
         }
-        if rows.len() % 8 != 0 || answers.len() < rows.len() / 2 {
+        let count = rows.len() / ROW_NUMBERS;
+        if rows.len() % ROW_NUMBERS != 0 || answers.len() < count * ANSWER_NUMBERS {
             return 2;
         }
-        for (row, answer) in rows.chunks_exact(8).zip(answers.chunks_exact_mut(4)) {
-            let row = row.try_into().expect("a chunk has eight numbers");
+        let answers = answers.chunks_exact_mut(ANSWER_NUMBERS);
+        for (row, answer) in rows.chunks_exact(ROW_NUMBERS).zip(answers) {
+            let row = row.try_into().expect("a chunk is a row");
             answer.copy_from_slice(&self.apply(row).numbers());
         }
         0
@@ -269,7 +271,7 @@ impl Machine {
         self.half(side).ports[port as usize].ok_or(Answer::refused(15))
     }
 
-    /// The VM has pages, mappings, edges, a CPU or a device.
+    /// Something still names the VM: a page, a mapping, an edge or a port.
     fn vm_in_use(&self, vm: Vm) -> bool {
         let in_use = |half: &Half| {
             half.owned.get(&vm).is_some_and(|pages| !pages.is_empty())

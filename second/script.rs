@@ -2,7 +2,9 @@
 
 use std::io::{self, BufRead, Write};
 
-use crate::machine::{Free, Lent, Machine, Span, IDLE, UNITS};
+use crate::machine::{
+    Free, Lent, Machine, Span, UnitNumbers, ANSWER_NUMBERS, IDLE, ROW_NUMBERS, UNITS,
+};
 use crate::operate::{Answer, Row};
 use crate::valid;
 
@@ -11,7 +13,7 @@ use crate::valid;
 enum Line {
     Blank,
     Box([u64; 3]),
-    Unit([u64; 6]),
+    Unit(UnitNumbers),
     Row(Row),
     Free,
 }
@@ -21,7 +23,7 @@ enum Line {
 pub struct Setup {
     pub pages: u64,
     pub shared: Span,
-    pub units: Vec<[u64; 6]>,
+    pub units: Vec<UnitNumbers>,
 }
 
 impl Setup {
@@ -202,18 +204,19 @@ impl Batch {
     const ROWS: usize = 1024;
 
     fn new() -> Self {
-        Batch { rows: Vec::new(), answers: vec![0; Self::ROWS * 4] }
+        Batch { rows: Vec::new(), answers: vec![0; Self::ROWS * ANSWER_NUMBERS] }
     }
 
     fn add(&mut self, row: &Row) -> bool {
         self.rows.extend_from_slice(row);
-        self.rows.len() == Self::ROWS * 8
+        self.rows.len() == Self::ROWS * ROW_NUMBERS
     }
 
     /// Runs the rows; refused as a whole, each of them has that answer.
     fn flush(&mut self, machine: &mut Machine, output: &mut impl Write) -> io::Result<()> {
         let refusal = machine.sequence(&self.rows, &mut self.answers);
-        for answer in self.answers.chunks_exact(4).take(self.rows.len() / 8) {
+        let count = self.rows.len() / ROW_NUMBERS;
+        for answer in self.answers.chunks_exact(ANSWER_NUMBERS).take(count) {
             match refusal {
                 0 => print_answer(output, answer)?,
                 number => print_answer(output, &Answer::refused(number).numbers())?,

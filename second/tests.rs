@@ -9,7 +9,7 @@ use crate::operate::{Answer, Row};
 use crate::script::{check, look, run, Event, Events};
 use crate::valid::{broken, CLAUSES};
 
-const UNITS_OF_TABLE: [[u64; 6]; 2] = [[1, 16, 0, 3, 3, 3], [2, 16, 2, 2, 3, 1]];
+const UNITS_OF_TABLE: [UnitNumbers; 2] = [[1, 16, 0, 3, 3, 3], [2, 16, 2, 2, 3, 1]];
 
 /// The eight-page machine of the worked table with some VMs.
 fn eight(vms: &[u64]) -> Machine {
@@ -56,7 +56,7 @@ mod worked_table {
     fn c1_to_c3() {
         let mut m = eight(&[]);
         assert_eq!(free(&m), (7, Some(0)));
-        let adds = [1, 1, 15, 16].map(|vm| go(&mut m, &[1, vm]));
+        let adds = [1, 1, VMS - 1, VMS].map(|vm| go(&mut m, &[1, vm]));
         assert_eq!(adds, [0, 5, 0, 2]);
         assert_eq!(go(&mut m, &[11, 1, 16, 0, 3, 3]), 0);
         assert_eq!(free(&m), (4, Some(3)));
@@ -124,8 +124,8 @@ mod worked_table {
         assert_eq!(answer(&mut m, &[21, 0, 5, 0]).numbers(), [0, 0, 0, 0]);
         let mut m = with_u1();
         assert_eq!(go(&mut m, &[15, 0, 1]), 0);
-        assert_eq!(answer(&mut m, &[21, 0, 16, 511]).numbers(), [0, 0, 0, 0]);
-        assert_eq!(go(&mut m, &[21, 0, 16, 512]), 2);
+        assert_eq!(answer(&mut m, &[21, 0, 16, WORDS - 1]).numbers(), [0, 0, 0, 0]);
+        assert_eq!(go(&mut m, &[21, 0, 16, WORDS]), 2);
     }
 
     #[test]
@@ -142,14 +142,14 @@ mod entries {
     fn start_judges_what_is_lent_first() {
         let none = Span { base: 0, count: 0 };
         let good = Lent::fitting(8);
-        let start = |pages, lent| Machine::start(pages, none, &[[16, 0, 0, 0, 0, 0]], lent).0;
+        let start = |pages, lent| Machine::start(pages, none, &[[VMS, 0, 0, 0, 0, 0]], lent).0;
         assert_eq!(start(8, good), 2);
-        assert_eq!(start(8, Lent { memory: 8 * 512 - 1, ..good }), 1);
-        assert_eq!(start(8, Lent { memory: 8 * 512 + 1, ..good }), 1);
-        assert_eq!(start(8, Lent { cpu_slots: 63, ..good }), 1);
-        assert_eq!(start(8, Lent { dma_slots: 65, ..good }), 1);
+        assert_eq!(start(8, Lent { memory: 8 * WORDS - 1, ..good }), 1);
+        assert_eq!(start(8, Lent { memory: 8 * WORDS + 1, ..good }), 1);
+        assert_eq!(start(8, Lent { cpu_slots: SLOTS as u64 - 1, ..good }), 1);
+        assert_eq!(start(8, Lent { dma_slots: SLOTS as u64 + 1, ..good }), 1);
         assert_eq!(start(0, Lent { memory: 0, ..good }), 1);
-        assert_eq!(start(1025, Lent::fitting(1025)), 1);
+        assert_eq!(start(PAGES + 1, Lent::fitting(PAGES + 1)), 1);
         assert_eq!(start(1 << 55, Lent { memory: 0, ..good }), 1);
     }
 
@@ -170,28 +170,28 @@ mod entries {
     #[test]
     fn an_empty_machine_refuses_everything_with_1() {
         let mut m = Machine::empty();
-        for operation in 0..30 {
+        for operation in (0..=OPERATIONS + 1).chain([u64::MAX]) {
             assert_eq!(answer(&mut m, &[operation, u64::MAX]), Answer::refused(1));
         }
-        let mut room = [9; 4];
-        assert_eq!(m.sequence(&[1; 7], &mut room), 1);
+        let mut room = [9; ANSWER_NUMBERS];
+        assert_eq!(m.sequence(&[1; ROW_NUMBERS - 1], &mut room), 1);
         assert_eq!(m.sequence(&[], &mut room), 1);
         assert_eq!(m.free(), Free { number: 1, count: 0, lowest: None });
-        assert_eq!((m, room), (Machine::empty(), [9; 4]));
+        assert_eq!((m, room), (Machine::empty(), [9; ANSWER_NUMBERS]));
     }
 
     #[test]
     fn a_sequence_is_refused_as_a_whole_or_goes_on() {
         let mut m = eight(&[]);
         let before = m.clone();
-        let mut room = [7; 12];
-        assert_eq!(m.sequence(&[1; 9], &mut room), 2);
-        assert_eq!(m.sequence(&[1; 16], &mut room[..7]), 2);
-        assert_eq!(m.sequence(&[1; 16], &mut []), 2);
-        assert_eq!((&m, room), (&before, [7; 12]));
+        let mut room = [7; 3 * ANSWER_NUMBERS];
+        assert_eq!(m.sequence(&[1; ROW_NUMBERS + 1], &mut room), 2);
+        assert_eq!(m.sequence(&[1; 2 * ROW_NUMBERS], &mut room[..2 * ANSWER_NUMBERS - 1]), 2);
+        assert_eq!(m.sequence(&[1; 2 * ROW_NUMBERS], &mut []), 2);
+        assert_eq!((&m, room), (&before, [7; 3 * ANSWER_NUMBERS]));
         assert_eq!(m.sequence(&[], &mut []), 0);
         assert_eq!(m, before);
-        assert_eq!(m.sequence(&[1; 16], &mut room), 0);
+        assert_eq!(m.sequence(&[1; 2 * ROW_NUMBERS], &mut room), 0);
         assert_eq!(room, [0, 0, 0, 0, 5, 0, 0, 0, 7, 7, 7, 7]);
         assert_eq!(m.known, BTreeSet::from([1]));
     }
@@ -202,7 +202,7 @@ mod entries {
         m.cpu.walker.clear();
         let before = m.clone();
         assert_eq!(go(&mut m, &[25]), 1);
-        assert_eq!(m.sequence(&[25; 8], &mut [0; 4]), 1);
+        assert_eq!(m.sequence(&[25; ROW_NUMBERS], &mut [0; ANSWER_NUMBERS]), 1);
         assert_eq!(m.free().number, 1);
         assert_eq!(m, before);
     }
@@ -261,33 +261,37 @@ mod effects {
     #[test]
     fn fills_take_slots_in_the_order_of_the_paper() {
         let mut m = with_u1();
-        for guest in 0..70 {
-            assert_eq!(go(&mut m, &[7, 1, 100 + guest, 0, 3]), 0);
+        let (first, past) = (100, 100 + SLOTS as u64);
+        for guest in first..past + 6 {
+            assert_eq!(go(&mut m, &[7, 1, guest, 0, 3]), 0);
         }
         assert_eq!(go(&mut m, &[15, 2, 1]), 0);
-        for guest in 0..64 {
-            assert_eq!(go(&mut m, &[17, 2, 100 + guest]), 0);
+        for guest in first..past {
+            assert_eq!(go(&mut m, &[17, 2, guest]), 0);
         }
         let guest_in = |m: &Machine, slot: usize| m.cpu.cache.slots[slot].map(|s| s.guest);
         assert_eq!(
-            (guest_in(&m, 0), guest_in(&m, 63), m.cpu.cache.hand),
-            (Some(100), Some(163), 0)
+            (guest_in(&m, 0), guest_in(&m, SLOTS - 1), m.cpu.cache.hand),
+            (Some(first), Some(past - 1), 0)
         );
-        assert_eq!(go(&mut m, &[17, 2, 164]), 0);
-        assert_eq!((guest_in(&m, 0), m.cpu.cache.hand), (Some(164), 1));
-        assert_eq!(go(&mut m, &[17, 2, 110]), 0);
-        assert_eq!((guest_in(&m, 10), m.cpu.cache.hand), (Some(110), 1));
+        assert_eq!(go(&mut m, &[17, 2, past]), 0);
+        assert_eq!((guest_in(&m, 0), m.cpu.cache.hand), (Some(past), 1));
+        assert_eq!(go(&mut m, &[17, 2, first + 10]), 0);
+        assert_eq!((guest_in(&m, 10), m.cpu.cache.hand), (Some(first + 10), 1));
         for slot in [5, 40] {
             assert_eq!(go(&mut m, &[19, slot]), 0);
         }
-        assert_eq!(go(&mut m, &[17, 2, 165]), 0);
-        assert_eq!((guest_in(&m, 5), guest_in(&m, 40), m.cpu.cache.hand), (Some(165), None, 1));
-        m.cpu.cache.hand = 63;
-        for guest in [166, 167, 168] {
+        assert_eq!(go(&mut m, &[17, 2, past + 1]), 0);
+        assert_eq!(
+            (guest_in(&m, 5), guest_in(&m, 40), m.cpu.cache.hand),
+            (Some(past + 1), None, 1)
+        );
+        m.cpu.cache.hand = SLOTS - 1;
+        for guest in past + 2..past + 5 {
             assert_eq!(go(&mut m, &[17, 2, guest]), 0);
         }
-        assert_eq!((guest_in(&m, 40), guest_in(&m, 63)), (Some(166), Some(167)));
-        assert_eq!((guest_in(&m, 0), m.cpu.cache.hand), (Some(168), 1));
+        assert_eq!((guest_in(&m, 40), guest_in(&m, SLOTS - 1)), (Some(past + 2), Some(past + 3)));
+        assert_eq!((guest_in(&m, 0), m.cpu.cache.hand), (Some(past + 4), 1));
         assert_eq!(broken(&m), None);
     }
 
@@ -297,7 +301,7 @@ mod effects {
         assert_eq!(go(&mut m, &[15, 0, 1]), 0);
         let mut before = m.clone();
         assert_eq!(go(&mut m, &[23, 0, 17, 8, u64::MAX]), 0);
-        before.memory[512 + 8] = u64::MAX;
+        before.memory[Machine::address(1, 8)] = u64::MAX;
         assert_eq!(m, before);
         assert_eq!(answer(&mut m, &[21, 0, 17, 8]).word, u64::MAX);
         assert_eq!(m, before);
@@ -312,11 +316,12 @@ mod effects {
         assert!(m.memory.iter().all(|&word| word == 6));
         assert_eq!(go(&mut m, &[3, 1, 1]), 0);
         assert_eq!(go(&mut m, &[14, 1, 16, 0, 3, 3]), 0);
-        let cleared: Vec<bool> = m.memory.chunks(512).map(|page| page == [0; 512]).collect();
+        const EMPTY: [u64; WORDS as usize] = [0; WORDS as usize];
+        let cleared: Vec<bool> = m.memory.chunks(EMPTY.len()).map(|page| page == EMPTY).collect();
         assert_eq!(cleared, [true, false, true, false, false, false, false, false]);
         assert!(m.memory.iter().all(|&word| word == 0 || word == 6));
         assert_eq!(go(&mut m, &[4, 1, 1]), 0);
-        assert_eq!(m.memory[512..1024], [0; 512]);
+        assert_eq!(m.memory[Machine::address(1, 0)..Machine::address(2, 0)], EMPTY);
     }
 }
 
@@ -365,20 +370,20 @@ mod validity {
     /// Each damage with the clause that it must break first.
     const DAMAGES: &[(&str, Damage)] = &[
         ("page count in range", |m| m.pages = 0),
-        ("page count in range", |m| m.pages = 1025),
+        ("page count in range", |m| m.pages = PAGES + 1),
         ("page count in range", |m| m.pages = u64::MAX),
-        ("memory of 512 words a page", |m| m.memory.push(0)),
-        ("memory of 512 words a page", |m| m.pages = 9),
-        ("at most 32 units", |m| m.units = vec![m.units[0]; 33]),
-        ("unit fields in range", |m| m.units[1].region.vm = 16),
-        ("unit fields in range", |m| m.units[0].region.access = 8),
+        ("memory of WORDS words a page", |m| m.memory.push(0)),
+        ("memory of WORDS words a page", |m| m.pages = 9),
+        ("at most UNITS units", |m| m.units = vec![m.units[0]; UNITS + 1]),
+        ("unit fields in range", |m| m.units[1].region.vm = VMS),
+        ("unit fields in range", |m| m.units[0].region.access = ACCESSES),
         ("unit spans fit", |m| m.units[0].region.count = 0),
         ("unit spans fit", |m| m.units[0].region.page = 6),
         ("unit spans fit", |m| m.units[0].region.guest = u64::MAX),
         ("shared span fits", |m| m.shared.count = 2),
         ("shared span fits", |m| m.shared = Span { base: 9, count: 0 }),
         ("known VMs in range", |m| {
-            m.known.insert(16);
+            m.known.insert(VMS);
         }),
         ("only known VMs hold pages", |m| {
             m.known.remove(&2);
@@ -405,7 +410,7 @@ mod validity {
             m.cpu.owned.get_mut(&1).unwrap().insert(8);
         }),
         ("no page at N or above", |m| {
-            m.dma.owned.get_mut(&1).unwrap().insert(1024);
+            m.dma.owned.get_mut(&1).unwrap().insert(PAGES);
         }),
         ("every page in exactly one place", |m| {
             m.pool.remove(&5);
@@ -421,18 +426,20 @@ mod validity {
         }),
         ("every page in exactly one place", |m| m.shared.count = 0),
         ("every page in exactly one place", |m| m.shared = Span { base: 6, count: 2 }),
-        ("at most 512 entries a map", |m| {
-            (0..513).for_each(|guest| put(&mut m.dma, (1, guest), entry(7)));
+        ("at most ENTRIES entries a map", |m| {
+            (0..=ENTRIES as u64).for_each(|guest| put(&mut m.dma, (1, guest), entry(7)));
         }),
-        ("at most 512 entries a map", |m| {
-            m.cpu.walker.extend((0..513).map(|guest| ((1, guest), entry(0))));
+        ("at most ENTRIES entries a map", |m| {
+            m.cpu.walker.extend((0..=ENTRIES as u64).map(|guest| ((1, guest), entry(0))));
         }),
-        ("map numbers in range", |m| put(&mut m.cpu, (16, 0), entry(0))),
-        ("map numbers in range", |m| put(&mut m.cpu, (1, 65_536), entry(0))),
+        ("map numbers in range", |m| put(&mut m.cpu, (VMS, 0), entry(0))),
+        ("map numbers in range", |m| put(&mut m.cpu, (1, GUESTS), entry(0))),
         ("map numbers in range", |m| put(&mut m.dma, (1, 0), entry(8))),
-        ("map numbers in range", |m| put(&mut m.dma, (1, 0), Entry { access: 8, ..entry(0) })),
         ("map numbers in range", |m| {
-            put(&mut m.cpu, (1, 0), Entry { generation: 65_536, ..entry(0) });
+            put(&mut m.dma, (1, 0), Entry { access: ACCESSES, ..entry(0) })
+        }),
+        ("map numbers in range", |m| {
+            put(&mut m.cpu, (1, 0), Entry { generation: GENERATIONS, ..entry(0) });
         }),
         ("map numbers in range", |m| {
             m.dma.walker.insert((1, 0), entry(8));
@@ -454,7 +461,7 @@ mod validity {
         ("entries target what their VM may map", |m| put(&mut m.dma, (1, 0), entry(3))),
         ("entries target what their VM may map", |m| put(&mut m.dma, (2, 0), entry(0))),
         ("entries target what their VM may map", |m| m.pairs.clear()),
-        ("at most 128 pairs", |m| m.pairs.extend((0..129).map(|page| (1, 2, page)))),
+        ("at most PAIRS pairs", |m| m.pairs.extend((0..=PAIRS as u64).map(|page| (1, 2, page)))),
         ("pairs join two different known VMs", |m| {
             m.pairs.insert((1, 1, 0));
         }),
@@ -462,7 +469,7 @@ mod validity {
             m.pairs.insert((1, 9, 0));
         }),
         ("pairs join two different known VMs", |m| {
-            m.pairs.insert((1, 16, 0));
+            m.pairs.insert((1, VMS, 0));
         }),
         ("pairs join two different known VMs", |m| {
             m.pairs.insert((2, 1, 3));
@@ -485,15 +492,15 @@ mod validity {
         ("DMA pages own CPU pages or in the pool", |m| {
             m.dma.owned.get_mut(&1).unwrap().insert(7);
         }),
-        ("hands in range", |m| m.cpu.cache.hand = 64),
+        ("hands in range", |m| m.cpu.cache.hand = SLOTS),
         ("hands in range", |m| m.dma.cache.hand = usize::MAX),
-        ("slot numbers in range", |m| slot(m).port = 8),
-        ("slot numbers in range", |m| slot(m).vm = 16),
-        ("slot numbers in range", |m| slot(m).guest = 65_536),
+        ("slot numbers in range", |m| slot(m).port = PORTS as u64),
+        ("slot numbers in range", |m| slot(m).vm = VMS),
+        ("slot numbers in range", |m| slot(m).guest = GUESTS),
         ("slot numbers in range", |m| slot(m).entry.page = 8),
-        ("slot numbers in range", |m| slot(m).entry.access = 8),
-        ("slot numbers in range", |m| slot(m).entry.generation = 65_536),
-        ("no key twice in a cache", |m| m.cpu.cache.slots[63] = m.cpu.cache.slots[0]),
+        ("slot numbers in range", |m| slot(m).entry.access = ACCESSES),
+        ("slot numbers in range", |m| slot(m).entry.generation = GENERATIONS),
+        ("no key twice in a cache", |m| m.cpu.cache.slots[SLOTS - 1] = m.cpu.cache.slots[0]),
         ("no key twice in a cache", |m| m.dma.cache.slots[1] = m.dma.cache.slots[0]),
         ("slots hold the walker's entry", |m| slot(m).guest = 19),
         ("slots hold the walker's entry", |m| slot(m).vm = 2),
@@ -501,7 +508,7 @@ mod validity {
         ("slots hold the walker's entry", |m| slot(m).entry.access = 1),
         ("slots hold the walker's entry", |m| slot(m).entry.generation = 1),
         ("ports on known VMs or idle", |m| m.cpu.ports[5] = Some(9)),
-        ("ports on known VMs or idle", |m| m.dma.ports[5] = Some(16)),
+        ("ports on known VMs or idle", |m| m.dma.ports[5] = Some(VMS)),
     ];
 
     #[test]
@@ -524,11 +531,11 @@ mod validity {
     fn harmless_changes_stay_valid() {
         let changes: [Damage; 6] = [
             |m| m.memory.fill(u64::MAX),
-            |m| m.cpu.cache.hand = 63,
-            |m| m.cpu.cache.slots.swap(0, 63),
+            |m| m.cpu.cache.hand = SLOTS - 1,
+            |m| m.cpu.cache.slots.swap(0, SLOTS - 1),
             |m| m.units.clear(),
-            |m| m.cpu.ports = [None; 8],
-            |m| slot(m).port = 7,
+            |m| m.cpu.ports = [None; PORTS],
+            |m| slot(m).port = PORTS as u64 - 1,
         ];
         for change in changes {
             let mut m = full();
@@ -555,9 +562,9 @@ mod format {
         says("box 8 7 1\n# a\n\nunit 1 0 0 1 1 1\n\t\r\nunit 1 0 0 1 1 4", &["start 2"]);
         says("box 8 7 1\nfree\nfree", &["start 0", "free 7 0", "free 7 0"]);
         says("box 1 0 1\nfree", &["start 0", "free 0 none"]);
-        let many = format!("box 8 7 1\n{}1 1\n", "unit 1 0 0 1 1 1\n".repeat(33));
+        let many = format!("box 8 7 1\n{}1 1\n", "unit 1 0 0 1 1 1\n".repeat(UNITS + 1));
         says(&many, &["start 2", "1 0 0 0"]);
-        let most = format!("box 8 7 1\n{}1 1\n", "unit 1 0 0 1 1 1\n".repeat(32));
+        let most = format!("box 8 7 1\n{}1 1\n", "unit 1 0 0 1 1 1\n".repeat(UNITS));
         says(&most, &["start 0", "0 0 0 0"]);
     }
 

@@ -1,7 +1,7 @@
 //! The test for validity, clause by clause. It uses no operation; it shares
 //! with them only the helpers that say what a VM may map and what fits.
 //!
-//! Some clauses can't be broken in these forms: caches have 64 slots by type,
+//! Some clauses can't be broken in these forms: caches have SLOTS slots by type,
 //! a map has no key twice, a set no pair twice, a mark is one of three, and
 //! the set of shared pages is the span itself.
 
@@ -14,8 +14,8 @@ type Clause = (&'static str, fn(&Machine) -> bool);
 /// Every clause with its name, in the order in which they are tested.
 pub const CLAUSES: [Clause; 26] = [
     ("page count in range", |m| (1..=PAGES).contains(&m.pages)),
-    ("memory of 512 words a page", |m| m.memory.len() as u64 == m.pages * WORDS),
-    ("at most 32 units", |m| m.units.len() <= UNITS),
+    ("memory of WORDS words a page", |m| m.memory.len() as u64 == m.pages * WORDS),
+    ("at most UNITS units", |m| m.units.len() <= UNITS),
     ("unit fields in range", unit_fields),
     ("unit spans fit", |m| m.units.iter().all(|unit| unit.region.fits(m.pages))),
     ("shared span fits", |m| m.shared.fits(m.pages)),
@@ -24,12 +24,12 @@ pub const CLAUSES: [Clause; 26] = [
     ("ownership covers the known VMs", |m| halves(m).all(|half| ownership_covers(m, half))),
     ("no page at N or above", pages_below_n),
     ("every page in exactly one place", pages_in_one_place),
-    ("at most 512 entries a map", |m| maps(m).all(|map| map.len() <= ENTRIES)),
+    ("at most ENTRIES entries a map", |m| maps(m).all(|map| map.len() <= ENTRIES)),
     ("map numbers in range", |m| maps(m).all(|map| map_in_range(m, map))),
     ("walker equals software", |m| halves(m).all(|half| half.walker == half.software)),
     ("mapped VMs known", |m| maps(m).flatten().all(|(key, _)| m.known.contains(&key.0))),
     ("entries target what their VM may map", entry_targets),
-    ("at most 128 pairs", |m| m.pairs.len() <= PAIRS),
+    ("at most PAIRS pairs", |m| m.pairs.len() <= PAIRS),
     ("pairs join two different known VMs", pair_ends),
     ("pair pages owned by an end", pair_pages),
     ("DMA pages held by one VM", dma_pages_of_one),

@@ -48,7 +48,7 @@ bool make_whole(void) {
         {TILIGORMIS_CPU_FILL, 0, 17},
         {TILIGORMIS_DMA_FILL, 0, 18},
         {TILIGORMIS_CPU_WRITE, 0, 16, 0, 1111},
-        {TILIGORMIS_DMA_WRITE, 0, 18, 511, 2222},
+        {TILIGORMIS_DMA_WRITE, 0, 18, TILIGORMIS_PAGE_WORDS - 1, 2222},
     };
     static const uint64_t rows[ROWS][TILIGORMIS_ROW_NUMBERS] = {{TILIGORMIS_ADD_VM, 3}, {TILIGORMIS_ADD_VM, 3}};
     memset(&room, 0xa5, sizeof room);

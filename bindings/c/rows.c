@@ -5,7 +5,7 @@
 
 /* A row of another length is answered, an answer of another length is not written. */
 bool row_lengths(void) {
-    static const size_t lengths[] = {0, 1, 7, 9, 16};
+    static const size_t lengths[] = {0, 1, TILIGORMIS_ROW_NUMBERS - 1, TILIGORMIS_ROW_NUMBERS + 1, ROWS_LENGTH};
     bool good = true;
     for (size_t k = 0; k < 5; k++) {
         expected = room = whole;
@@ -17,7 +17,7 @@ bool row_lengths(void) {
 }
 
 bool answer_lengths(void) {
-    static const size_t lengths[] = {0, 1, 3, 5, 8};
+    static const size_t lengths[] = {0, 1, TILIGORMIS_ANSWER_NUMBERS - 1, TILIGORMIS_ANSWER_NUMBERS + 1, ANSWERS_LENGTH};
     bool good = true;
     expected = room;
     for (size_t k = 0; k < 5; k++) {
@@ -34,7 +34,7 @@ static bool sequence_refused(size_t rows_length, size_t answers_length, uint64_t
 }
 
 bool parts_of_rows(void) {
-    static const size_t lengths[] = {1, 7, 9, 15};
+    static const size_t lengths[] = {1, TILIGORMIS_ROW_NUMBERS - 1, TILIGORMIS_ROW_NUMBERS + 1, ROWS_LENGTH - 1};
     bool good = true;
     for (size_t k = 0; k < 4; k++)
         good &= holds(sequence_refused(lengths[k], ANSWERS_LENGTH, TILIGORMIS_OUT_OF_RANGE), "rows", lengths[k]);
@@ -42,7 +42,7 @@ bool parts_of_rows(void) {
 }
 
 bool answers_short(void) {
-    static const size_t lengths[] = {0, 1, 4, 7};
+    static const size_t lengths[] = {0, 1, TILIGORMIS_ANSWER_NUMBERS, ANSWERS_LENGTH - 1};
     bool good = true;
     for (size_t k = 0; k < 4; k++)
         good &= holds(sequence_refused(ROWS_LENGTH, lengths[k], TILIGORMIS_OUT_OF_RANGE), "answers", lengths[k]);
@@ -52,7 +52,7 @@ bool answers_short(void) {
 /* A box that is not valid comes before rows that are none. */
 bool sequence_order(void) {
     room.machine[SECOND].unit_count = TILIGORMIS_UNITS + 1;
-    return sequence_refused(7, 0, TILIGORMIS_STATE_NOT_VALID);
+    return sequence_refused(TILIGORMIS_ROW_NUMBERS - 1, 0, TILIGORMIS_STATE_NOT_VALID);
 }
 
 /* Both rows are carried out, the refused one too; room beyond the answers keeps its content. */
@@ -72,7 +72,7 @@ bool no_rows(void) {
 }
 
 bool free_lengths(void) {
-    static const size_t lengths[] = {0, 1, 3, 4};
+    static const size_t lengths[] = {0, TILIGORMIS_FREE_NUMBERS - 1, TILIGORMIS_FREE_NUMBERS + 1, 2 * TILIGORMIS_FREE_NUMBERS};
     bool good = true;
     expected = room;
     for (size_t k = 0; k < 4; k++) {

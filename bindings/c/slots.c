@@ -1,8 +1,7 @@
 /* The functions over the slots of one cache. */
 #include "edges.h"
 
-/* Slot 1 of the CPU cache holds CPU 0, VM 1, guest page 17. A number is compared whole, and only the first 64 slots are seen.
- */
+/* Slot 1 of the CPU cache holds CPU 0, VM 1, guest page 17. A number is compared whole, and no slot past the last is seen. */
 bool find_slot(void) {
     tiligormis_slot *slots = room.cpu_cache + GUARD;
     slots[TILIGORMIS_SLOTS + 1] = (tiligormis_slot){7, 15, 9, (uint32_t)1 << 31};

@@ -89,7 +89,7 @@ macro_rules! call {
 
 impl Lent<'_> {
     /// Starts a machine of `pages` pages; the shared span may have count 0. Accepted, the whole box
-    /// is written: every table empty, every page outside the shared span in the pool, every port
+    /// is written: empty tables, all pages in the pool but those of the shared span, every port
     /// idle, memory 0. Refused, the header is that of an empty machine, of 0 pages, and everything
     /// else stays as it was.
     ///

@@ -34,9 +34,9 @@ numbers! {
     /// Generations of an entry.
     GENERATIONS: u64 = 65_536;
     /// Page sets: the pool, the shared span, two for each VM.
-    SETS: usize = 34;
+    SETS: usize = 2 + 2 * VMS as usize;
     /// 64-bit words of a page set.
-    SET_WORDS: usize = 16;
+    SET_WORDS: usize = PAGES as usize / 64;
 
     /// Numbers of a row.
     ROW_NUMBERS: usize = 8;
@@ -47,7 +47,7 @@ numbers! {
     /// Numbers of the free query's result.
     FREE_NUMBERS: usize = 2;
     /// Numbers of a machine header.
-    MACHINE_NUMBERS: usize = 215;
+    MACHINE_NUMBERS: usize = 7 + 2 * PORTS + UNITS * UNIT_NUMBERS;
 
     /// How rows and the header write that a port is idle.
     IDLE: u64 = 4_294_967_295;
@@ -87,7 +87,7 @@ numbers! {
     STILL_IN_USE: u64 = 11;
     /// A VM with itself, or no such pair.
     PAIR_WRONG: u64 = 12;
-    /// The VM still has pages, mappings, edges, a CPU or a device.
+    /// The VM holds a page, maps or shares one, or is on a CPU or a device.
     VM_BUSY: u64 = 13;
     /// Not enough free entries.
     NO_ROOM: u64 = 14;

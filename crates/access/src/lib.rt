@@ -2,8 +2,9 @@
 // the cache and the walker of its side.
 ghost use mathlib.Core.Path.{_≡_};
 ghost use Prim.Native.Nat.{_+_, _*_, _<_, _≤_};
-ghost use lib.ListN.{length, replicate};
+ghost use lib.ListN.{length};
 ghost use Rattle.numbers.specs.Limits.{PAGE-WORDS, WRITE};
+ghost use Rattle.numbers.specs.Packing.{PORT-FIELD, VM-FIELD, GUEST-FIELD};
 ghost use Rattle.model.specs.Access.{translate, allows, accessAnswer};
 ghost use Rattle.model.specs.Effect.{clearPage};
 ghost use Rattle.model.specs.Ports.{vmOn};
@@ -21,23 +22,13 @@ use numbers::VmId;
 
 // ---- Clearing.
 
-pub fn clear_words(words: &mut [u64])
-    ensures { λ _. ⌜ now (words .exit) ≡ replicate (length (now (words .entry))) 0 ⌝ }
-{
-    let mut i = 0;
-    while i < words.len() {
-        words[i] = 0;
-        i += 1;
-    }
-}
-
 // The page's words become 0. They are lent alone, so that no other word can change.
 pub fn clear_page(memory: &mut [u64], page: PhysPage)
     requires { ⌜ page .0 * PAGE-WORDS + PAGE-WORDS ≤ length (now memory) ⌝ }
     ensures { λ _. ⌜ now (memory .exit) ≡ clearPage (now (memory .entry)) (page .0) ⌝ }
 {
     let start = (page.0 * PAGE_WORDS) as usize;
-    clear_words(&mut memory[start..start + PAGE_WORDS as usize]);
+    table::clear_words(&mut memory[start..start + PAGE_WORDS as usize]);
 }
 
 // ---- Access.
@@ -48,7 +39,7 @@ pub const READ: u64 = 1;
 pub const WRITE: u64 = 2;
 
 // The VM on a port; nobody is on one that there is not.
-pub fn vm_on(ports: [u64; 8], port: u64) -> u64
+pub fn vm_on(ports: [u64; PORTS as usize], port: u64) -> u64
     ensures { λ r. ⌜ r ≡ vmOn ports port ⌝ }
 {
     if port < PORTS {
@@ -59,7 +50,7 @@ pub fn vm_on(ports: [u64; 8], port: u64) -> u64
 
 // The word that translates: the port's slot if one is held, else the walker's entry, 0 where there is neither.
 pub fn translate(cache: &[u64], walker: &[u64], port: u64, vm: VmId, guest: GuestPage) -> u64
-    requires { ⌜ (port < 256) × (vm .0 < 256) × (guest .0 < 65536) ⌝ }
+    requires { ⌜ (port < PORT-FIELD) × (vm .0 < VM-FIELD) × (guest .0 < GUEST-FIELD) ⌝ }
     ensures { λ r. ⌜ r ≡ translate (now (cache .entry)) (now (walker .entry)) port (vm .0) (guest .0) ⌝ }
 {
     let slot = table::lookup(cache, numbers::slot_key(port, vm, guest));
@@ -85,7 +76,7 @@ enum Reached {
 
 // The refusals in their order; past them the place of the word.
 fn reach(
-    ports: [u64; 8],
+    ports: [u64; PORTS as usize],
     cache: &[u64],
     walker: &[u64],
     bit: u64,
@@ -117,7 +108,7 @@ fn reach(
 
 // Operations 21 and 22. A word past the end of memory reads as 0.
 pub fn read_word(
-    ports: [u64; 8],
+    ports: [u64; PORTS as usize],
     cache: &[u64],
     walker: &[u64],
     memory: &[u64],
@@ -147,7 +138,7 @@ pub fn read_word(
 
 // Operations 23 and 24. A place past the end of memory is not written.
 pub fn write_word(
-    ports: [u64; 8],
+    ports: [u64; PORTS as usize],
     cache: &[u64],
     walker: &[u64],
     memory: &mut [u64],

@@ -113,7 +113,7 @@ fn carry_out(
     requires { ⌜ (length (now memory) ≡ MEMORY-WORDS) × (length (now rows) ≡ ROWS-ROOM) ⌝ }
 {
     let machine = work.machine;
-    let words = words_of(machine.pages);
+    let words = words_of(machine.fixed.pages);
     let count = work.rows * ROW_NUMBERS;
     let ran = entries::sequence(
         machine,
@@ -157,7 +157,7 @@ pub fn query(
     requires { ⌜ length (now memory) ≡ MEMORY-WORDS ⌝ }
 {
     let machine = work.machine;
-    let words = words_of(machine.pages);
+    let words = words_of(machine.fixed.pages);
     let free = entries::free(
         machine,
         sets,

@@ -13,6 +13,8 @@ use crate::state::WORDS;
 use crate::state::show;
 use crate::state::start_of;
 use model::Machine;
+use model::Registers;
+use model::SideRegisters;
 use numbers::SET_WORDS;
 use numbers::Side;
 use units::Unit;
@@ -108,35 +110,37 @@ pub fn dma_case(rule: &[u8], clause: &[u8], m: Machine, words: &[u64; WORDS], vm
 
 pub fn pages_case(rule: &[u8], clause: &[u8], m: Machine, words: &[u64; WORDS], pages: u64) {
     let mut changed = m;
-    changed.pages = pages;
+    changed.fixed.pages = pages;
     show(rule, clause, changed, words);
 }
 
 pub fn shared_base_case(rule: &[u8], clause: &[u8], m: Machine, words: &[u64; WORDS], base: u64) {
     let mut changed = m;
-    changed.shared_base = base;
+    changed.fixed.shared_base = base;
     show(rule, clause, changed, words);
 }
 
 pub fn shared_count_case(rule: &[u8], clause: &[u8], m: Machine, words: &[u64; WORDS], count: u64) {
     let mut changed = m;
-    changed.shared_count = count;
+    changed.fixed.shared_count = count;
     show(rule, clause, changed, words);
 }
 
 pub fn unit_count_case(rule: &[u8], clause: &[u8], m: Machine, words: &[u64; WORDS], count: u64) {
     let mut changed = m;
-    changed.unit_count = count;
+    changed.fixed.unit_count = count;
     show(rule, clause, changed, words);
 }
 
 pub fn unit_case(rule: &[u8], clause: &[u8], m: Machine, words: &[u64; WORDS], k: usize, unit: Unit)
     requires { ⌜ k < UNITS ⌝ }
 {
-    let mut changed = m;
-    let mut units = m.units;
+    let mut units = m.fixed.units;
     units[k] = unit;
-    changed.units = units;
+    let mut fixed = m.fixed;
+    fixed.units = units;
+    let mut changed = m;
+    changed.fixed = fixed;
     show(rule, clause, changed, words);
 }
 
@@ -145,11 +149,34 @@ pub fn known_case(rule: &[u8], clause: &[u8], m: Machine, words: &[u64; WORDS], 
     requires { ⌜ vm < 64 ⌝ }
 {
     let mut changed = m;
-    changed.known = m.known ^ (1 << vm);
+    let known = m.registers.known ^ (1 << vm);
+    changed.registers.known = known;
     show(rule, clause, changed, words);
 }
 
-// A port has another VM, or is idle.
+// The registers of a side where a port has another VM, or is idle.
+fn with_port(registers: SideRegisters, port: usize, vm: u64) -> SideRegisters
+    requires { ⌜ port < PORTS ⌝ }
+{
+    let mut ports = registers.ports;
+    ports[port] = vm;
+    let mut changed = registers;
+    changed.ports = ports;
+    changed
+}
+
+fn registers_case(
+    rule: &[u8],
+    clause: &[u8],
+    m: Machine,
+    words: &[u64; WORDS],
+    registers: Registers,
+) {
+    let mut changed = m;
+    changed.registers = registers;
+    show(rule, clause, changed, words);
+}
+
 pub fn port_case(
     rule: &[u8],
     clause: &[u8],
@@ -161,19 +188,19 @@ pub fn port_case(
 )
     requires { ⌜ port < PORTS ⌝ }
 {
-    let mut changed = m;
+    let mut changed = m.registers;
     match side {
         Side::Cpu => {
-            let mut cpus = m.cpus;
-            cpus[port] = vm;
-            changed.cpus = cpus;
-            show(rule, clause, changed, words);
+            let cpu = m.registers.cpu;
+            let other = with_port(cpu, port, vm);
+            changed.cpu = other;
+            registers_case(rule, clause, m, words, changed);
         }
         Side::Dma => {
-            let mut devices = m.devices;
-            devices[port] = vm;
-            changed.devices = devices;
-            show(rule, clause, changed, words);
+            let dma = m.registers.dma;
+            let other = with_port(dma, port, vm);
+            changed.dma = other;
+            registers_case(rule, clause, m, words, changed);
         }
     }
 }
@@ -189,11 +216,11 @@ pub fn hand_case(
     let mut changed = m;
     match side {
         Side::Cpu => {
-            changed.cpu_hand = hand;
+            changed.registers.cpu.hand = hand;
             show(rule, clause, changed, words);
         }
         Side::Dma => {
-            changed.dma_hand = hand;
+            changed.registers.dma.hand = hand;
             show(rule, clause, changed, words);
         }
     }

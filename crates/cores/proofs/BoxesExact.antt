@@ -13,7 +13,7 @@ use Rattle.numbers.specs.declared.Answer.{Answer}
 use Rattle.numbers.specs.declared.Refusal.the-variants.{StateNotValid}
 use Rattle.model.specs.Conditions.{RowConditions}
 use Rattle.model.specs.Entries.{valid}
-use Rattle.model.specs.Sequence.{Progress, rowAt, rowCount, stepRow, after, sequence}
+use Rattle.model.specs.Sequence.{Progress, rowAt, rowCount, stepRow, after, sequence, beginning}
 use Rattle.model.proofs.AnswerNumbers.{isIn, listed, operationAt, AnswerGood, answer-good, plain-good}
 use Rattle.model.proofs.Answers.{roomy, shape-accepted, four, answerTo, answer-row}
 use Rattle.model.proofs.Exactly.{row-exactly, answer-row-exactly}
@@ -80,7 +80,7 @@ module _ {C : Type 0} (wordsOf : C → List ℕ) (cacheOf : List ℕ → C) (b :
   unfolding sequence
   sequence-answered rows room r (met v e) z k h =
       let s = stateIn wordsOf b in
-      let p : Progress = record { state = s; room = room } in
+      let p = beginning s room in
       let shape = shape-accepted rows room (sym (ap (λ (g : Given C). g .number) e) ∙ z) in
       record {
         answer = answerTo rows p k;

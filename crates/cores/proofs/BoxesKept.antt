@@ -14,7 +14,7 @@ use Rattle.units.specs.Units.{noUnit}
 use Rattle.model.specs.Effect.{kept, accepted}
 use Rattle.model.specs.Header.{stateOf, setupOf}
 use Rattle.model.specs.RefusedLaws.{row-leaves, sequence-leaves}
-use Rattle.model.specs.Sequence.{Progress, operationIn, rowAt, stepKnown, stepRow, shapeAnswer, rowCount, after, sequence}
+use Rattle.model.specs.Sequence.{Progress, operationIn, rowAt, stepKnown, stepRow, shapeAnswer, rowCount, after, sequence, beginning}
 use Rattle.model.specs.ShapeLaws.{step-sizes}
 use Rattle.model.specs.Start.{Told, startAnswer, emptyState, freshState, start}
 use Rattle.model.specs.State.{State}
@@ -23,7 +23,7 @@ use Rattle.model.proofs.Kept.{row-valid, sequence-valid}
 use Rattle.model.proofs.StartKept.{start-valid, empty-not-valid}
 use Rattle.model.proofs.Answers.{after-next}
 use Rattle.header.specs.HeaderLaws.{changed-good, state-changed, begun-good, state-begun}
-use Rattle.header.specs.Numbers.{machineOf, HeaderGood, changed, begun}
+use Rattle.header.specs.Numbers.{fixedOf, machineOf, HeaderGood, changed, begun}
 use Rattle.cores.specs.Boxes.{Box, BoxValid, stateIn, lentIn, withHeader, leftIn, begunIn}
 use Rattle.cores.specs.Given.{Judgement, met, unmet, operationGives, sequenceGives, startGives, HeaderWhole}
 
@@ -53,7 +53,7 @@ unfolding sequence
 sequence-setup s rows room = whole (shapeAnswer rows room)
   where
     p : Progress
-    p = record { state = s; room = room }
+    p = beginning s room
 
     whole : (answer : Answer) → kept answer p (after rows (rowCount rows) p) .state .tables .setup ≡ s .tables .setup
     whole (Accepted dropped word) = after-setup rows (rowCount rows) p
@@ -62,12 +62,12 @@ sequence-setup s rows room = whole (shapeAnswer rows room)
 module _ {C : Type 0} (wordsOf : C → List ℕ) (cacheOf : List ℕ → C) (back : (ws : List ℕ) → wordsOf (cacheOf ws) ≡ ws) where
   -- the state of a box that was left, from its header and the words of its caches
   module _ (b : Box C) (new : State) (h : HeaderGood (b .header)) (v : Valid new) where
-    left-state : new .tables .setup ≡ setupOf (machineOf (b .header)) → stateIn wordsOf (leftIn cacheOf b new) ≡ new
+    left-state : new .tables .setup ≡ setupOf (fixedOf (b .header)) → stateIn wordsOf (leftIn cacheOf b new) ≡ new
     left-state e =
         (λ i. stateOf (machineOf (changed (b .header) (new .tables))) (new .tables .sets) (new .tables .pairs) (new .tables .cpu .map) (new .tables .cpu .walker) (back (new .tables .cpu .cache) i) (new .tables .dma .map) (new .tables .dma .walker) (back (new .tables .dma .cache) i) (new .memory))
         ∙ state-changed (b .header) new (h .whole) (v .tables .lengths .cpu .ports) (v .tables .lengths .dma .ports) e
 
-    left-valid : new .tables .setup ≡ setupOf (machineOf (b .header)) → BoxValid wordsOf (leftIn cacheOf b new)
+    left-valid : new .tables .setup ≡ setupOf (fixedOf (b .header)) → BoxValid wordsOf (leftIn cacheOf b new)
     left-valid e =
         record {
           header = changed-good (b .header) (new .tables) h (v .tables .lengths .cpu .ports) (v .tables .lengths .dma .ports);
@@ -76,12 +76,12 @@ module _ {C : Type 0} (wordsOf : C → List ℕ) (cacheOf : List ℕ → C) (bac
 
   -- an accepted operation leaves the new state, a refused one the old, which is then the same
   module _ (b : Box C) (v : BoxValid wordsOf b) where
-    kept-state : (answer : Answer) (new : State) → new ≡ kept answer (stateIn wordsOf b) new → Valid new → new .tables .setup ≡ setupOf (machineOf (b .header))
+    kept-state : (answer : Answer) (new : State) → new ≡ kept answer (stateIn wordsOf b) new → Valid new → new .tables .setup ≡ setupOf (fixedOf (b .header))
         → stateIn wordsOf (kept answer b (leftIn cacheOf b new)) ≡ new
     kept-state (Accepted dropped word) new k w e = left-state b new (v .header) w e
     kept-state (Refused refusal index) new k w e = sym k
 
-    kept-valid : (answer : Answer) (new : State) → Valid new → new .tables .setup ≡ setupOf (machineOf (b .header)) → BoxValid wordsOf (kept answer b (leftIn cacheOf b new))
+    kept-valid : (answer : Answer) (new : State) → Valid new → new .tables .setup ≡ setupOf (fixedOf (b .header)) → BoxValid wordsOf (kept answer b (leftIn cacheOf b new))
     kept-valid (Accepted dropped word) new w e = left-valid b new (v .header) w e
     kept-valid (Refused refusal index) new w e = v
 

@@ -19,15 +19,15 @@ use Rattle.model.specs.EarlyLaws.{never-both}
 use Rattle.model.specs.Entries.{valid}
 use Rattle.model.specs.Good.{Wrote}
 use Rattle.model.specs.Secrecy.{PrivateTo, Private, effectIn, withoutWord, Alike, Asked, Premise, StayAlike}
-use Rattle.model.specs.Sequence.{Progress, Sequenced, operationIn, rowAt, rowCount, stepRow, after, shapeAnswer, sequence}
+use Rattle.model.specs.Sequence.{Progress, Sequenced, operationIn, rowAt, rowCount, stepRow, after, shapeAnswer, sequence, beginning}
 use Rattle.model.specs.Start.{Free, free, freeRefused}
 use Rattle.model.specs.State.{Tables, State}
 use Rattle.model.specs.Valid.{Valid}
 use Rattle.model.proofs.Answers.{four, shape-accepted}
 use Rattle.model.proofs.Secrecy.{Unchanged, StepAlike, WrittenIn, secret-step, secrecy, own-write, own-writes, secret-step-one, secrecy-one, own-write-one, own-writes-one}
-use Rattle.model.proofs.SecrecyCalls.{begun, valid-as, numbers-alike, CallsAlike, two-calls}
+use Rattle.model.proofs.SecrecyCalls.{valid-as, numbers-alike, CallsAlike, two-calls}
 use Rattle.header.specs.Numbers.{HeaderGood, changed, freeNumbers}
-use Rattle.cores.specs.BoxSecrecy.{WORD-AT, withMemory, BoxesAlike, rowsFrom, SeenIn, Calls, done, call, AllAlike, OperationsAlike, SequencesAlike, FreesAlike, OperationSecret, SequenceSecret, FreeSecret, WordKept, WrittenBy, OperationOwnWrite, SequenceOwnWrite}
+use Rattle.cores.specs.BoxSecrecy.{WORD-AT, withMemory, BoxesAlike, SeenIn, Calls, done, call, AllAlike, OperationsAlike, SequencesAlike, FreesAlike, OperationSecret, SequenceSecret, FreeSecret, WordKept, WrittenBy, OperationOwnWrite, SequenceOwnWrite}
 use Rattle.cores.specs.CoreLaws.{answered-here, answered-other}
 use Rattle.cores.specs.Boxes.{Box, box, BoxValid, stateIn, boxOf, leftIn}
 use Rattle.cores.specs.Given.{Judgement, met, unmet, Given, notValid, OperationAsked, operationGives, operationRefused, sequenceGives, refusedWhole, FreeGiven, FREE-NUMBERS, FreeAsked, freeGives, freeTold}
@@ -162,7 +162,7 @@ module _ (members : ℕ → Bool) (Secret : Tables → ℕ → Type 0) (reading 
       let ran′ = sequence s′ rows′ room′ in
       let calls : CallsAlike members Secret s rows room room′ ran ran′ =
       two-calls members Secret s s′ rows rows′ room room′ (states-alike b b′ like) same roomSame ran ran′ (valid (v .state) refl) (valid (v′ .state) refl)
-      (λ w a. reading .rows (begun s room) (begun s′ room′) rows rows′ (rowCount rows) w (states-alike b b′ like) (asked v (ap (λ (g : Given C). g .number) e ∙ ap numberOf a))) in
+      (λ w a. reading .rows (beginning s room) (beginning s′ room′) rows rows′ (rowCount rows) w (states-alike b b′ like) (asked v (ap (λ (g : Given C). g .number) e ∙ ap numberOf a))) in
       rw (e, e′)
       (record {
         number = ap numberOf (calls .answer);
@@ -179,7 +179,7 @@ module _ (members : ℕ → Bool) (Secret : Tables → ℕ → Type 0) (reading 
       rw (e, e′) (record { number = refl; boxes = like; numbers = λ z. absurd (omega arith); word = λ z. absurd (omega arith); other-room = λ j h was. was })
 
   pub sequence-whole : (b : Box C) (rows room room′ : List ℕ) (r r′ : Given C) → SequencesAlike members Secret wordsOf b rows room room′ r r′ → r .number ≡ 0 → (k : ℕ) → k < rowCount rows →
-      (SeenIn members Secret (after rows k (rowsFrom wordsOf b room) .state .tables) (rowAt rows k) → ⊥) → (i : ℕ) → i < ANSWER-NUMBERS →
+      (SeenIn members Secret (after rows k (beginning (stateIn wordsOf b) room) .state .tables) (rowAt rows k) → ⊥) → (i : ℕ) → i < ANSWER-NUMBERS →
       getD (r .room) (k * ANSWER-NUMBERS + i) 0 ≡ getD (r′ .room) (k * ANSWER-NUMBERS + i) 0
   sequence-whole b rows room room′ r r′ a z k h n i l = ⊎-elim (λ e. rw e (a .word z k h n)) (λ d. a .numbers z k i h (omega (arith, d))) (equal i WORD-AT)
 
@@ -210,7 +210,7 @@ module _ (members : ℕ → Bool) (Secret : Tables → ℕ → Type 0) (reading 
       (reading .writes rows p (v .state) page word h (rowCount rows) private)
     where
       p : Progress
-      p = begun (stateIn wordsOf b) room
+      p = beginning (stateIn wordsOf b) room
 
       stays : (x : Answer) → Unchanged (stateIn wordsOf b) (after rows (rowCount rows) p .state) page word → Unchanged (stateIn wordsOf b) (kept x p (after rows (rowCount rows) p) .state) page word
       stays (Accepted d w) same = same

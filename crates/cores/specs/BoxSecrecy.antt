@@ -10,7 +10,7 @@ use Rattle.numbers.specs.Limits.{PAGE-WORDS, ROW-NUMBERS, ANSWER-NUMBERS}
 use Rattle.model.specs.Effect.{wordIn}
 use Rattle.model.specs.Good.{Wrote}
 use Rattle.model.specs.Secrecy.{effectIn, Seen, Asked, Premise}
-use Rattle.model.specs.Sequence.{Progress, operationIn, rowAt, rowCount, after}
+use Rattle.model.specs.Sequence.{Progress, operationIn, rowAt, rowCount, after, beginning}
 use Rattle.model.specs.Start.{freeRefused}
 use Rattle.model.specs.State.{Tables}
 use Rattle.cores.specs.Boxes.{Box, box, BoxValid, stateIn}
@@ -23,13 +23,9 @@ WORD-AT = 3
 abbrev pub withMemory : {C : Type 0} → Box C → List ℕ → Box C
 withMemory b memory = box (b .header) (b .sets) (b .pairs) (b .cpuMap) (b .cpuWalker) (b .cpuCache) (b .dmaMap) (b .dmaWalker) (b .dmaCache) memory
 
--- where rows begin to be carried out in a box
-abbrev pub rowsFrom : {C : Type 0} → (C → List ℕ) → Box C → List ℕ → Progress
-rowsFrom wordsOf b room = record { state = stateIn wordsOf b; room = room }
-
 -- the row, in these tables, is a member's read of a private page; a member's write of the word
 abbrev pub SeenIn : (ℕ → Bool) → (Tables → ℕ → Type 0) → Tables → List ℕ → Type 0
-SeenIn members Secret t row = Seen members Secret t (effectIn t (operationIn row))
+SeenIn members Secret t row = Seen members Secret t (effectIn t (operationIn row)) 0
 
 pub record WrittenBy (members : ℕ → Bool) (t : Tables) (row : List ℕ) (page word : ℕ) : Type 0 where
   pub vm : ℕ
@@ -67,7 +63,7 @@ module _ (members : ℕ → Bool) (Secret : Tables → ℕ → Type 0) {C : Type
     pub number : r .number ≡ r′ .number
     pub boxes : BoxesAlike (r .box) (r′ .box)
     pub numbers : r .number ≡ 0 → (k i : ℕ) → k < rowCount rows → i < WORD-AT → getD (r .room) (k * ANSWER-NUMBERS + i) 0 ≡ getD (r′ .room) (k * ANSWER-NUMBERS + i) 0
-    pub word : r .number ≡ 0 → (k : ℕ) → k < rowCount rows → (SeenIn members Secret (after rows k (rowsFrom wordsOf b room) .state .tables) (rowAt rows k) → ⊥) →
+    pub word : r .number ≡ 0 → (k : ℕ) → k < rowCount rows → (SeenIn members Secret (after rows k (beginning (stateIn wordsOf b) room) .state .tables) (rowAt rows k) → ⊥) →
         getD (r .room) (k * ANSWER-NUMBERS + WORD-AT) 0 ≡ getD (r′ .room) (k * ANSWER-NUMBERS + WORD-AT) 0
     pub other-room : (j : ℕ) → (r .number ≡ 0 → rowCount rows * ANSWER-NUMBERS ≤ j) → getD room j 0 ≡ getD room′ j 0 → getD (r .room) j 0 ≡ getD (r′ .room) j 0
 
@@ -87,7 +83,7 @@ module _ (members : ℕ → Bool) (Secret : Tables → ℕ → Type 0) {C : Type
         Judgement (BoxValid wordsOf b) (sequenceGives wordsOf cacheOf b rows room) (refusedWhole b room) r →
         Judgement (BoxValid wordsOf b′) (sequenceGives wordsOf cacheOf b′ rows′ room′) (refusedWhole b′ room′) r′ →
         BoxesAlike b b′ → length rows ≡ length rows′ → length room ≡ length room′ →
-        (BoxValid wordsOf b → r .number ≡ 0 → Premise members Secret (rowsFrom wordsOf b room) (rowsFrom wordsOf b′ room′) rows rows′ (rowCount rows)) → SequencesAlike b rows room room′ r r′
+        (BoxValid wordsOf b → r .number ≡ 0 → Premise members Secret (beginning (stateIn wordsOf b) room) (beginning (stateIn wordsOf b′) room′) rows rows′ (rowCount rows)) → SequencesAlike b rows room room′ r r′
 
     abbrev pub FreeSecret : Type 0
     FreeSecret =
@@ -121,5 +117,5 @@ module _ (members : ℕ → Bool) (Secret : Tables → ℕ → Type 0) {C : Type
     SequenceOwnWrite =
         (b : Box C) (rows room : List ℕ) (r : Given C) →
         Judgement (BoxValid wordsOf b) (sequenceGives wordsOf cacheOf b rows room) (refusedWhole b room) r →
-        (page word : ℕ) → word < PAGE-WORDS → ((k : ℕ) → k ≤ rowCount rows → Secret (after rows k (rowsFrom wordsOf b room) .state .tables) page) →
-        WordKept b (r .box) page word ⊎ ((k : ℕ) × (k < rowCount rows) × WrittenBy members (after rows k (rowsFrom wordsOf b room) .state .tables) (rowAt rows k) page word)
+        (page word : ℕ) → word < PAGE-WORDS → ((k : ℕ) → k ≤ rowCount rows → Secret (after rows k (beginning (stateIn wordsOf b) room) .state .tables) page) →
+        WordKept b (r .box) page word ⊎ ((k : ℕ) × (k < rowCount rows) × WrittenBy members (after rows k (beginning (stateIn wordsOf b) room) .state .tables) (rowAt rows k) page word)

@@ -18,8 +18,8 @@ use numbers::SLOTS;
 
 // What a core hands back: the words of both caches, and the number that it answers.
 pub struct Finished {
-    pub cpu: [u64; 64],
-    pub dma: [u64; 64],
+    pub cpu: [u64; SLOTS as usize],
+    pub dma: [u64; SLOTS as usize],
     pub number: u64,
 }
 
@@ -74,10 +74,11 @@ pub fn valid(
     memory: &[u64],
     cpu_slots: usize,
     dma_slots: usize,
-    cpu_words: [u64; 64],
-    dma_words: [u64; 64],
+    cpu_words: [u64; SLOTS as usize],
+    dma_words: [u64; SLOTS as usize],
 ) -> bool
-    ensures { λ r. ⌜ Decides r (Whole «cpu_slots» «dma_slots» × BoxValid same (box (now (header .entry)) (now (sets .entry)) (now (pairs .entry)) (now («cpu_map» .entry)) (now («cpu_walker» .entry)) «cpu_words» (now («dma_map» .entry)) (now («dma_walker» .entry)) «dma_words» (now (memory .entry)))) ⌝ }
+    ensures { λ r. ⌜ Decides r (Whole «cpu_slots» «dma_slots» × BoxValid same (box (now (header .entry)) (now (sets .entry)) (now (pairs .entry)) (now («cpu_map» .entry))
+        (now («cpu_walker» .entry)) «cpu_words» (now («dma_map» .entry)) (now («dma_walker» .entry)) «dma_words» (now (memory .entry)))) ⌝ }
 {
     if !ready(header, cpu_slots, dma_slots) {
         return false;
@@ -113,10 +114,11 @@ pub fn operation(
     answer: &mut [u64],
     cpu_slots: usize,
     dma_slots: usize,
-    cpu_words: [u64; 64],
-    dma_words: [u64; 64],
+    cpu_words: [u64; SLOTS as usize],
+    dma_words: [u64; SLOTS as usize],
 ) -> Finished
-    ensures { λ r. ⌜ Judgement (Whole «cpu_slots» «dma_slots» × OperationAsked same (box (now (header .entry)) (now (sets .entry)) (now (pairs .entry)) (now («cpu_map» .entry)) (now («cpu_walker» .entry)) «cpu_words» (now («dma_map» .entry)) (now («dma_walker» .entry)) «dma_words» (now (memory .entry))) (now (row .entry)) (now (answer .entry)))
+    ensures { λ r. ⌜ Judgement (Whole «cpu_slots» «dma_slots» × OperationAsked same (box (now (header .entry)) (now (sets .entry)) (now (pairs .entry)) (now («cpu_map» .entry))
+        (now («cpu_walker» .entry)) «cpu_words» (now («dma_map» .entry)) (now («dma_walker» .entry)) «dma_words» (now (memory .entry))) (now (row .entry)) (now (answer .entry)))
         (operationGives same same (box (now (header .entry)) (now (sets .entry)) (now (pairs .entry)) (now («cpu_map» .entry)) (now («cpu_walker» .entry)) «cpu_words» (now («dma_map» .entry)) (now («dma_walker» .entry)) «dma_words» (now (memory .entry))) (now (row .entry)) (now (answer .entry)))
         (operationRefused (box (now (header .entry)) (now (sets .entry)) (now (pairs .entry)) (now («cpu_map» .entry)) (now («cpu_walker» .entry)) «cpu_words» (now («dma_map» .entry)) (now («dma_walker» .entry)) «dma_words» (now (memory .entry))) (now (answer .entry)))
         (given (r .number) (now (answer .exit)) (box (now (header .exit)) (now (sets .exit)) (now (pairs .exit)) (now («cpu_map» .exit)) (now («cpu_walker» .exit)) (r .cpu) (now («dma_map» .exit)) (now («dma_walker» .exit)) (r .dma) (now (memory .exit)))) ⌝ }
@@ -172,8 +174,8 @@ pub fn sequence(
     answers: &mut [u64],
     cpu_slots: usize,
     dma_slots: usize,
-    cpu_words: [u64; 64],
-    dma_words: [u64; 64],
+    cpu_words: [u64; SLOTS as usize],
+    dma_words: [u64; SLOTS as usize],
 ) -> Finished
     ensures { λ r. ⌜ Judgement (Whole «cpu_slots» «dma_slots» × BoxValid same (box (now (header .entry)) (now (sets .entry)) (now (pairs .entry)) (now («cpu_map» .entry)) (now («cpu_walker» .entry)) «cpu_words» (now («dma_map» .entry)) (now («dma_walker» .entry)) «dma_words» (now (memory .entry))))
         (sequenceGives same same (box (now (header .entry)) (now (sets .entry)) (now (pairs .entry)) (now («cpu_map» .entry)) (now («cpu_walker» .entry)) «cpu_words» (now («dma_map» .entry)) (now («dma_walker» .entry)) «dma_words» (now (memory .entry))) (now (rows .entry)) (now (answers .entry)))
@@ -228,10 +230,11 @@ pub fn free(
     free_pages: &mut [u64],
     cpu_slots: usize,
     dma_slots: usize,
-    cpu_words: [u64; 64],
-    dma_words: [u64; 64],
+    cpu_words: [u64; SLOTS as usize],
+    dma_words: [u64; SLOTS as usize],
 ) -> u64
-    ensures { λ r. ⌜ Judgement (Whole «cpu_slots» «dma_slots» × FreeAsked same (box (now (header .entry)) (now (sets .entry)) (now (pairs .entry)) (now («cpu_map» .entry)) (now («cpu_walker» .entry)) «cpu_words» (now («dma_map» .entry)) (now («dma_walker» .entry)) «dma_words» (now (memory .entry))) (now («free_pages» .entry)))
+    ensures { λ r. ⌜ Judgement (Whole «cpu_slots» «dma_slots» × FreeAsked same (box (now (header .entry)) (now (sets .entry)) (now (pairs .entry)) (now («cpu_map» .entry))
+        (now («cpu_walker» .entry)) «cpu_words» (now («dma_map» .entry)) (now («dma_walker» .entry)) «dma_words» (now (memory .entry))) (now («free_pages» .entry)))
         (freeGives same (box (now (header .entry)) (now (sets .entry)) (now (pairs .entry)) (now («cpu_map» .entry)) (now («cpu_walker» .entry)) «cpu_words» (now («dma_map» .entry)) (now («dma_walker» .entry)) «dma_words» (now (memory .entry))) (now («free_pages» .entry)))
         (freeTold (now («free_pages» .entry)) freeRefused)
         (freeGiven r (now («free_pages» .exit))) ⌝ }
@@ -278,10 +281,13 @@ pub fn start(
     units: &[u64],
     cpu_slots: usize,
     dma_slots: usize,
-    cpu_words: [u64; 64],
-    dma_words: [u64; 64],
+    cpu_words: [u64; SLOTS as usize],
+    dma_words: [u64; SLOTS as usize],
 ) -> Finished
-    ensures { λ r. ⌜ StartOfWords «cpu_slots» «dma_slots» (box (now (header .entry)) (now (sets .entry)) (now (pairs .entry)) (now («cpu_map» .entry)) (now («cpu_walker» .entry)) «cpu_words» (now («dma_map» .entry)) (now («dma_walker» .entry)) «dma_words» (now (memory .entry))) (told pages «shared_base» «shared_count» (now (units .entry))) (startGiven (r .number) (box (now (header .exit)) (now (sets .exit)) (now (pairs .exit)) (now («cpu_map» .exit)) (now («cpu_walker» .exit)) (r .cpu) (now («dma_map» .exit)) (now («dma_walker» .exit)) (r .dma) (now (memory .exit)))) ⌝ }
+    ensures { λ r. ⌜ StartOfWords «cpu_slots» «dma_slots» (box (now (header .entry)) (now (sets .entry)) (now (pairs .entry)) (now («cpu_map» .entry)) (now («cpu_walker» .entry))
+        «cpu_words» (now («dma_map» .entry)) (now («dma_walker» .entry)) «dma_words» (now (memory .entry))) (told pages «shared_base» «shared_count» (now (units .entry)))
+        (startGiven (r .number) (box (now (header .exit)) (now (sets .exit)) (now (pairs .exit)) (now («cpu_map» .exit)) (now («cpu_walker» .exit)) (r .cpu) (now («dma_map» .exit))
+        (now («dma_walker» .exit)) (r .dma) (now (memory .exit)))) ⌝ }
 {
     let refused = numbers::refuse(Refusal::StateNotValid, 0);
     if header.len() != MACHINE_NUMBERS {

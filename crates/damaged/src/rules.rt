@@ -1,12 +1,10 @@
 // The damaged states, a function or two for each rule of the manual. Most break one clause of one rule and no other.
 ghost use Prim.Native.Nat.{_+_, _<_};
+ghost use Rattle.numbers.specs.Packing.{PAGE-FIELD, GUEST-FIELD, VM-FIELD};
 ghost use Rattle.changes.specs.Words.{WORDS};
 use changes::POOL;
 use changes::SHARED;
-use changes::base::ACCESS;
-use changes::base::FILLED;
-use changes::base::GENERATION;
-use changes::base::PORT;
+use changes::base::LAST_VM;
 use changes::base::pair;
 use changes::base::unit;
 use changes::cpu_case;
@@ -28,6 +26,7 @@ use changes::state::DMA_MAP_AT;
 use changes::state::DMA_WALKER_AT;
 use changes::state::MEMORY_AT;
 use changes::state::MEMORY_WORDS;
+use changes::state::N;
 use changes::state::PAIRS_AT;
 use changes::state::SETS_AT;
 use changes::state::SETS_WORDS;
@@ -37,10 +36,22 @@ use changes::state::show_lent;
 use changes::unit_case;
 use changes::unit_count_case;
 use model::Machine;
+use numbers::ACCESS_BIT;
+use numbers::ACCESSES;
 use numbers::ENTRIES;
+use numbers::FILLED_BIT;
+use numbers::GENERATION_BIT;
+use numbers::GUEST_PAGES;
 use numbers::IDLE;
+use numbers::PAGES;
 use numbers::PAIRS;
+use numbers::PORT_BIT;
+use numbers::PORTS;
+use numbers::SLOTS;
 use numbers::Side;
+use numbers::UNITS;
+use numbers::VM_FIELD;
+use numbers::VMS;
 
 // ---- 1: lengths.
 
@@ -68,30 +79,30 @@ pub fn rule_1(m: Machine, words: &[u64; WORDS]) {
 // What a refused start gives, over words that are all 0 and no memory: all that is wrong is that it has no pages.
 pub fn rule_2_empty_machine(m: Machine, words: &[u64; WORDS]) {
     let mut none = m;
-    none.pages = 0;
-    none.shared_base = 0;
+    none.fixed.pages = 0;
+    none.fixed.shared_base = 0;
     show_lent(b"2 setup", b"empty machine", none, words, MEMORY_AT, 0);
 }
 
 // Of the state after start, whose shared span is empty: no row says where it lies.
 pub fn rule_2_empty_span(m: Machine, words: &[u64; WORDS]) {
     let rule: &[u8] = b"2 empty span";
-    shared_base_case(rule, b"past N", m, words, 71);
+    shared_base_case(rule, b"past N", m, words, N + 1);
     // N and this are 2^64.
-    let count = 18446744073709551546;
+    let count = u64::MAX - N + 1;
     shared_count_case(rule, b"its end wraps", m, words, count);
 }
 
 pub fn rule_2(m: Machine, words: &[u64; WORDS]) {
     let rule: &[u8] = b"2 setup";
     pages_case(rule, b"N is 0", m, words, 0);
-    pages_case(rule, b"N is 69", m, words, 69);
-    pages_case(rule, b"N is 71", m, words, 71);
-    pages_case(rule, b"N is 1025", m, words, 1025);
+    pages_case(rule, b"N a page less", m, words, N - 1);
+    pages_case(rule, b"N a page more", m, words, N + 1);
+    pages_case(rule, b"N past PAGES", m, words, PAGES + 1);
     pages_case(rule, b"N is 2^64 - 1", m, words, u64::MAX);
-    shared_base_case(rule, b"span past N", m, words, 69);
+    shared_base_case(rule, b"span past N", m, words, N - 1);
     shared_base_case(rule, b"span wraps", m, words, u64::MAX);
-    unit_count_case(rule, b"33 units", m, words, 33);
+    unit_count_case(rule, b"a unit too many", m, words, UNITS as u64 + 1);
     unit_count_case(rule, b"2^64 - 1 units", m, words, u64::MAX);
 }
 
@@ -111,17 +122,17 @@ fn last_unit(
         clause,
         m,
         words,
-        30,
+        UNITS - 2,
         unit(vm, guest, page, count, access),
     );
 }
 
 pub fn rule_2_unit(m: Machine, words: &[u64; WORDS]) {
-    last_unit(b"VM 16", m, words, 16, 16, 0, 3, 3);
-    last_unit(b"access 8", m, words, 1, 16, 0, 3, 8);
+    last_unit(b"VM past the last", m, words, VMS, 16, 0, 3, 3);
+    last_unit(b"access past the last", m, words, 1, 16, 0, 3, ACCESSES);
     last_unit(b"no pages", m, words, 1, 16, 0, 0, 3);
-    last_unit(b"past N", m, words, 1, 16, 68, 3, 3);
-    last_unit(b"past guest pages", m, words, 1, 65534, 0, 3, 3);
+    last_unit(b"past N", m, words, 1, 16, N - 2, 3, 3);
+    last_unit(b"past guest pages", m, words, 1, GUEST_PAGES - 2, 0, 3, 3);
     last_unit(b"page wraps", m, words, 1, 16, u64::MAX, 3, 3);
     last_unit(b"guest page wraps", m, words, 1, u64::MAX, 0, 3, 3);
     last_unit(b"count wraps", m, words, 1, 16, 1, u64::MAX, 3);
@@ -131,7 +142,7 @@ pub fn rule_2_unit(m: Machine, words: &[u64; WORDS]) {
 
 pub fn rule_3(m: Machine, words: &[u64; WORDS]) {
     let rule: &[u8] = b"3 known";
-    known_case(rule, b"VM 16", m, words, 16);
+    known_case(rule, b"VM past the last", m, words, VMS);
     known_case(rule, b"VM 63", m, words, 63);
 }
 
@@ -149,12 +160,14 @@ pub fn rule_4_header(m: Machine, words: &[u64; WORDS]) {
 
 pub fn rule_4_bounds(m: Machine, words: &[u64; WORDS]) {
     let rule: &[u8] = b"4 page sets";
-    set_case(rule, b"page N in the pool", m, words, POOL, 70);
-    set_case(rule, b"page 1023 in the pool", m, words, POOL, 1023);
-    set_case(rule, b"page N in the shared row", m, words, SHARED, 70);
-    cpu_case(rule, b"page N among CPU pages", m, words, 1, 70);
-    dma_case(rule, b"page N among DMA pages", m, words, 1, 70);
-    dma_case(rule, b"page 1023 among DMA pages", m, words, 15, 1023);
+    let vm = LAST_VM as usize;
+    let last = PAGES - 1;
+    set_case(rule, b"page N in the pool", m, words, POOL, N);
+    set_case(rule, b"last page in the pool", m, words, POOL, last);
+    set_case(rule, b"page N in the shared row", m, words, SHARED, N);
+    cpu_case(rule, b"page N among CPU pages", m, words, 1, N);
+    dma_case(rule, b"page N among DMA pages", m, words, 1, N);
+    dma_case(rule, b"last page among DMA pages", m, words, vm, last);
 }
 
 pub fn rule_4_homes(m: Machine, words: &[u64; WORDS]) {
@@ -173,28 +186,31 @@ pub fn rule_4_homes(m: Machine, words: &[u64; WORDS]) {
     dma_case(rule, b"DMA page of the span", m, words, 1, 66);
 }
 
-// ---- 5: pairs. At place 20, which is empty, a pair of VMs 1 and 15 on page 2 would be good.
+// ---- 5: pairs. At place 20, which is empty, a pair of VM 1 and the last on page 2 would be good.
 
 fn word_case(clause: &[u8], m: Machine, words: &[u64; WORDS], word: u64) {
     flip_case(b"5 pair", clause, m, words, Table::Pairs, 20, word);
 }
 
-fn pair_case(clause: &[u8], m: Machine, words: &[u64; WORDS], left: u64, right: u64, page: u64) {
+fn pair_case(clause: &[u8], m: Machine, words: &[u64; WORDS], left: u64, right: u64, page: u64)
+    requires { ⌜ (left < VM-FIELD) × (right < GUEST-FIELD) × (page < PAGE-FIELD) ⌝ }
+{
     word_case(clause, m, words, pair(left, right, page));
 }
 
 pub fn rule_5_fields(m: Machine, words: &[u64; WORDS]) {
-    let good = pair(1, 15, 2);
-    word_case(b"port 1", m, words, good | PORT);
-    word_case(b"not filled", m, words, good ^ FILLED);
-    word_case(b"access 1", m, words, good | ACCESS);
-    word_case(b"generation 1", m, words, good | GENERATION);
-    pair_case(b"page N", m, words, 1, 15, 70);
-    pair_case(b"page 1024", m, words, 1, 15, 1024);
+    let good = pair(1, LAST_VM, 2);
+    let past = VM_FIELD + 2;
+    word_case(b"port 1", m, words, good | PORT_BIT);
+    word_case(b"not filled", m, words, good ^ FILLED_BIT);
+    word_case(b"access 1", m, words, good | ACCESS_BIT);
+    word_case(b"generation 1", m, words, good | GENERATION_BIT);
+    pair_case(b"page N", m, words, 1, LAST_VM, N);
+    pair_case(b"page past PAGES", m, words, 1, LAST_VM, PAGES);
     pair_case(b"left end unknown", m, words, 3, 1, 2);
     pair_case(b"right end unknown", m, words, 1, 3, 2);
-    pair_case(b"left end 18", m, words, 18, 1, 2);
-    pair_case(b"right end 258", m, words, 1, 258, 2);
+    pair_case(b"left end past the last VM", m, words, VMS + 2, 1, 2);
+    pair_case(b"right end past a VM field", m, words, 1, past, 2);
     known_case(b"5 pair", b"left end not known", m, words, 7);
     known_case(b"5 pair", b"right end not known", m, words, 6);
 }
@@ -208,20 +224,21 @@ pub fn rule_5_ends(m: Machine, words: &[u64; WORDS]) {
     pair_case(b"stored twice, ends turned", m, words, 2, 1, 0);
 }
 
-// ---- 8: ports and hands, of a side. `only` is the VM that is known for its port and nothing else; port 7 is idle.
+// ---- 8: ports and hands, of a side. `only` is the VM that is known for its port and nothing else; the last port is idle.
 
 pub fn rule_8(rule: &[u8], side: Side, only: u64, m: Machine, words: &[u64; WORDS])
     requires { ⌜ only < 64 ⌝ }
 {
+    let port = PORTS as usize - 1;
     known_case(rule, b"VM not known", m, words, only);
-    port_case(rule, b"unknown VM", m, words, side, 7, 3);
-    port_case(rule, b"VM 16", m, words, side, 7, 16);
-    port_case(rule, b"VM 17", m, words, side, 7, 17);
-    port_case(rule, b"VM 65", m, words, side, 7, 65);
-    port_case(rule, b"one less than idle", m, words, side, 7, IDLE - 1);
-    port_case(rule, b"one more than idle", m, words, side, 7, IDLE + 1);
-    port_case(rule, b"VM 2^64 - 1", m, words, side, 7, u64::MAX);
-    hand_case(rule, b"hand 64", m, words, side, 64);
+    port_case(rule, b"unknown VM", m, words, side, port, 3);
+    port_case(rule, b"VM past the last", m, words, side, port, VMS);
+    port_case(rule, b"VM 1 past VMS", m, words, side, port, VMS + 1);
+    port_case(rule, b"VM 65", m, words, side, port, 65);
+    port_case(rule, b"one less than idle", m, words, side, port, IDLE - 1);
+    port_case(rule, b"one more than idle", m, words, side, port, IDLE + 1);
+    port_case(rule, b"VM 2^64 - 1", m, words, side, port, u64::MAX);
+    hand_case(rule, b"hand past the last", m, words, side, SLOTS);
     hand_case(rule, b"hand 2^64 - 1", m, words, side, u64::MAX);
 }
 

@@ -11,7 +11,7 @@ use Rattle.model.specs.Header.{setupOf, tablesOf, stateOf}
 use Rattle.model.specs.Sequence.{writeAt}
 use Rattle.model.specs.Start.{UNIT-NUMBERS, numberTold, unitsTold, unitsFrom}
 use Rattle.model.specs.State.{Tables, State}
-use Rattle.header.specs.Numbers.{UNIT-COUNT-AT, KNOWN-AT, CPUS-AT, DEVICES-AT, UNITS-AT, MACHINE-NUMBERS, part, unitsPart, machineOf, HeaderGood, changing, changed, unitNumbers, setupNumbers, begun}
+use Rattle.header.specs.Numbers.{UNIT-COUNT-AT, KNOWN-AT, CPUS-AT, DEVICES-AT, UNITS-AT, MACHINE-NUMBERS, part, unitsPart, fixedOf, machineOf, HeaderGood, changing, changed, unitNumbers, setupNumbers, begun}
 use Rattle.header.specs.PieceLaws.{three-writes}
 use Rattle.header.specs.UnitLaws.{mark-good, length-begun, before-units, unit-here, number-at, units-again}
 use Rattle.model.specs.WriteLaws.{length-written, written-before, written-here}
@@ -74,7 +74,7 @@ module _ (numbers : List ℕ) (t : Tables) (whole : length numbers ≡ MACHINE-N
             let z : KNOWN-AT + suc (suc (suc (length (t .cpu .ports) + j))) ≡ DEVICES-AT + j = omega arith in
             rw z at (change-at (suc (suc (suc (length (t .cpu .ports) + j)))) (omega (arith, ends))) ∙ getD-append-add (t .cpu .ports) (t .dma .ports) j 0
 
-    tables-are : setupOf (machineOf now) ≡ t .setup → tablesOf (machineOf now) (t .sets) (t .pairs) (t .cpu .map) (t .cpu .walker) (t .cpu .cache) (t .dma .map) (t .dma .walker) (t .dma .cache) ≡ t
+    tables-are : setupOf (fixedOf now) ≡ t .setup → tablesOf (machineOf now) (t .sets) (t .pairs) (t .cpu .map) (t .cpu .walker) (t .cpu .cache) (t .dma .map) (t .dma .walker) (t .dma .cache) ≡ t
     tables-are setup =
         λ i.
         record {
@@ -95,12 +95,12 @@ changed-good numbers t good cpus devices =
           ∙ good .marks k h (rw (written-before numbers KNOWN-AT (changing t) UNIT-COUNT-AT (omega arith)) at b);
     }
 
-pub state-changed : (numbers : List ℕ) (s : State) → length numbers ≡ MACHINE-NUMBERS → length (s .tables .cpu .ports) ≡ PORTS → length (s .tables .dma .ports) ≡ PORTS → s .tables .setup ≡ setupOf (machineOf numbers) →
+pub state-changed : (numbers : List ℕ) (s : State) → length numbers ≡ MACHINE-NUMBERS → length (s .tables .cpu .ports) ≡ PORTS → length (s .tables .dma .ports) ≡ PORTS → s .tables .setup ≡ setupOf (fixedOf numbers) →
     stateOf (machineOf (changed numbers (s .tables))) (s .tables .sets) (s .tables .pairs) (s .tables .cpu .map) (s .tables .cpu .walker) (s .tables .cpu .cache) (s .tables .dma .map) (s .tables .dma .walker) (s .tables .dma .cache) (s .memory) ≡ s
 state-changed numbers s whole cpus devices setup =
     let t = s .tables in
     let before : (j : ℕ) → j < KNOWN-AT → getD (changed numbers t) j 0 ≡ getD numbers j 0 = written-before numbers KNOWN-AT (changing t) in
-    let kept : setupOf (machineOf (changed numbers t)) ≡ setupOf (machineOf numbers) =
+    let kept : setupOf (fixedOf (changed numbers t)) ≡ setupOf (fixedOf numbers) =
     λ i.
     record {
       pages = before 0 (omega arith) i;
@@ -148,7 +148,7 @@ module _ (numbers : List ℕ) (s : State) (whole : length numbers ≡ MACHINE-NU
 
   pub state-begun : stateOf (machineOf (begun numbers (s .tables))) (s .tables .sets) (s .tables .pairs) (s .tables .cpu .map) (s .tables .cpu .walker) (s .tables .cpu .cache) (s .tables .dma .map) (s .tables .dma .walker) (s .tables .dma .cache) (s .memory) ≡ s
   state-begun =
-      let setup : setupOf (machineOf (begun numbers (s .tables))) ≡ s .tables .setup =
+      let setup : setupOf (fixedOf (begun numbers (s .tables))) ≡ s .tables .setup =
       λ i.
       record {
         pages = setup-at 0 (omega arith) i;

@@ -12,10 +12,12 @@ use Rattle.numbers.specs.declared.Lowest.{Lowest}
 use Rattle.table.specs.Scan.{repeat}
 use Rattle.units.specs.Units.{markNumber, isMark, noUnit}
 use Rattle.units.specs.declared.Unit.{Unit}
-use Rattle.model.specs.Header.{tablesOf}
+use Rattle.model.specs.Header.{headerOf, tablesOf}
 use Rattle.model.specs.Sequence.{writeAt}
 use Rattle.model.specs.Start.{UNIT-NUMBERS, numberTold, unitsTold}
 use Rattle.model.specs.State.{Tables, Setup}
+use Rattle.model.specs.declared.Fixed.{Fixed}
+use Rattle.model.specs.declared.Registers.{Registers}
 use Rattle.model.specs.declared.Machine.{Machine}
 
 -- ---- where its numbers stand: the setup's four, then those that operations change, then the units
@@ -25,21 +27,27 @@ UNIT-COUNT-AT = 3
 abbrev pub KNOWN-AT : ℕ
 KNOWN-AT = 4
 
+abbrev pub CPU-HAND-AT : ℕ
+CPU-HAND-AT = 5
+
+abbrev pub DMA-HAND-AT : ℕ
+DMA-HAND-AT = 6
+
 abbrev pub CPUS-AT : ℕ
 CPUS-AT = 7
 
 abbrev pub DEVICES-AT : ℕ
-DEVICES-AT = 15
+DEVICES-AT = CPUS-AT + PORTS
 
 abbrev pub UNITS-AT : ℕ
-UNITS-AT = 23
+UNITS-AT = DEVICES-AT + PORTS
 
 -- of a unit's numbers, its mark
 abbrev pub MARK-AT : ℕ
 MARK-AT = 5
 
 abbrev pub MACHINE-NUMBERS : ℕ
-MACHINE-NUMBERS = 215
+MACHINE-NUMBERS = UNITS-AT + UNITS * UNIT-NUMBERS
 
 abbrev pub part : List ℕ → ℕ → ℕ → List ℕ
 part numbers at count = take count (drop at numbers)
@@ -48,20 +56,26 @@ abbrev pub unitsPart : List ℕ → List ℕ
 unitsPart numbers = part numbers UNITS-AT (UNITS * UNIT-NUMBERS)
 
 -- ---- what numbers say of a machine, whatever they are
-abbrev pub machineOf : List ℕ → Machine
-machineOf numbers =
+abbrev pub fixedOf : List ℕ → Fixed
+fixedOf numbers =
     record {
       pages = getD numbers 0 0;
       «shared_base» = getD numbers 1 0;
       «shared_count» = getD numbers 2 0;
       units = unitsTold (unitsPart numbers);
       «unit_count» = getD numbers UNIT-COUNT-AT 0;
-      known = getD numbers KNOWN-AT 0;
-      cpus = part numbers CPUS-AT PORTS;
-      devices = part numbers DEVICES-AT PORTS;
-      «cpu_hand» = getD numbers 5 0;
-      «dma_hand» = getD numbers 6 0;
     }
+
+abbrev pub registersOf : List ℕ → Registers
+registersOf numbers =
+    record {
+      known = getD numbers KNOWN-AT 0;
+      cpu = record { ports = part numbers CPUS-AT PORTS; hand = getD numbers CPU-HAND-AT 0 };
+      dma = record { ports = part numbers DEVICES-AT PORTS; hand = getD numbers DMA-HAND-AT 0 };
+    }
+
+abbrev pub machineOf : List ℕ → Machine
+machineOf numbers = headerOf (fixedOf numbers) (registersOf numbers)
 
 -- as many numbers as a header has, and a mark's number in each unit within the count
 pub record HeaderGood (numbers : List ℕ) : Type 0 where

@@ -8,10 +8,14 @@ ghost use Rattle.numbers.specs.Meaning.{answerNumbers, numberOf};
 ghost use Rattle.table.specs.Scan.{anyBelow, repeat};
 ghost use Rattle.model.specs.Sequence.{writeAt};
 ghost use Rattle.model.specs.Start.{UNIT-NUMBERS};
-ghost use Rattle.header.specs.Numbers.{MACHINE-NUMBERS, machineOf, HeaderGood, badMark, changedBy, unitNumbers, unitWritten, begunBy, answered, lowestNumber, freeNumbers};
+ghost use Rattle.header.specs.Numbers.{MACHINE-NUMBERS, fixedOf, registersOf, machineOf, HeaderGood, badMark, changedBy, unitNumbers, unitWritten, begunBy, answered, lowestNumber, freeNumbers};
+use model::Fixed;
 use model::Machine;
+use model::Registers;
+use model::SideRegisters;
 use numbers::Answer;
 use numbers::Lowest;
+use numbers::PORTS;
 use numbers::UNITS;
 use start::UNIT_NUMBERS;
 use units::Unit;
@@ -21,16 +25,20 @@ const UNIT_COUNT_AT: usize = 3;
 
 const KNOWN_AT: usize = 4;
 
+const CPU_HAND_AT: usize = 5;
+
+const DMA_HAND_AT: usize = 6;
+
 const CPUS_AT: usize = 7;
 
-const DEVICES_AT: usize = 15;
+const DEVICES_AT: usize = CPUS_AT + PORTS as usize;
 
-const UNITS_AT: usize = 23;
+const UNITS_AT: usize = DEVICES_AT + PORTS as usize;
 
 // Of a unit's numbers, its mark.
 const MARK_AT: usize = 5;
 
-pub const MACHINE_NUMBERS: usize = 215;
+pub const MACHINE_NUMBERS: usize = UNITS_AT + UNITS * UNIT_NUMBERS;
 
 // The lowest free page where none is free.
 pub const NO_PAGE: u64 = 18446744073709551615;
@@ -64,7 +72,7 @@ pub fn is_header(numbers: &[u64]) -> bool
 }
 
 // Eight numbers by value: the ports of a side, or a row.
-pub fn eight(numbers: &[u64]) -> [u64; 8]
+pub fn eight(numbers: &[u64]) -> [u64; PORTS as usize]
     requires { ⌜ length (now numbers) ≡ PORTS ⌝ }
     ensures { λ r. ⌜ r ≡ now (numbers .entry) ⌝ }
 {
@@ -80,25 +88,46 @@ pub fn eight(numbers: &[u64]) -> [u64; 8]
     ]
 }
 
-pub fn machine_in(numbers: &[u64]) -> Machine
+fn fixed_in(numbers: &[u64]) -> Fixed
     requires { ⌜ length (now numbers) ≡ MACHINE-NUMBERS ⌝ }
-    ensures { λ r. ⌜ r ≡ machineOf (now (numbers .entry)) ⌝ }
+    ensures { λ r. ⌜ r ≡ fixedOf (now (numbers .entry)) ⌝ }
 {
     let units = start::units_told(&numbers[UNITS_AT..MACHINE_NUMBERS]);
-    let cpus = eight(&numbers[CPUS_AT..DEVICES_AT]);
-    let devices = eight(&numbers[DEVICES_AT..UNITS_AT]);
-    Machine {
+    Fixed {
         pages: numbers[0],
         shared_base: numbers[1],
         shared_count: numbers[2],
         units,
         unit_count: numbers[UNIT_COUNT_AT],
-        known: numbers[KNOWN_AT],
-        cpus,
-        devices,
-        cpu_hand: numbers[KNOWN_AT + 1],
-        dma_hand: numbers[KNOWN_AT + 2],
     }
+}
+
+fn registers_in(numbers: &[u64]) -> Registers
+    requires { ⌜ length (now numbers) ≡ MACHINE-NUMBERS ⌝ }
+    ensures { λ r. ⌜ r ≡ registersOf (now (numbers .entry)) ⌝ }
+{
+    let cpus = eight(&numbers[CPUS_AT..DEVICES_AT]);
+    let devices = eight(&numbers[DEVICES_AT..UNITS_AT]);
+    Registers {
+        known: numbers[KNOWN_AT],
+        cpu: SideRegisters {
+            ports: cpus,
+            hand: numbers[CPU_HAND_AT],
+        },
+        dma: SideRegisters {
+            ports: devices,
+            hand: numbers[DMA_HAND_AT],
+        },
+    }
+}
+
+pub fn machine_in(numbers: &[u64]) -> Machine
+    requires { ⌜ length (now numbers) ≡ MACHINE-NUMBERS ⌝ }
+    ensures { λ r. ⌜ r ≡ machineOf (now (numbers .entry)) ⌝ }
+{
+    let fixed = fixed_in(numbers);
+    let registers = registers_in(numbers);
+    Machine { fixed, registers }
 }
 
 // ---- Writing.
@@ -120,15 +149,19 @@ pub fn put_changed(numbers: &mut [u64], m: Machine)
     requires { ⌜ length (now numbers) ≡ MACHINE-NUMBERS ⌝ }
     ensures { λ _. ⌜ now (numbers .exit) ≡ changedBy (now (numbers .entry)) m ⌝ }
 {
-    let hands = [m.known, m.cpu_hand, m.dma_hand];
-    let cpus = m.cpus;
-    let devices = m.devices;
+    let hands = [
+        m.registers.known,
+        m.registers.cpu.hand,
+        m.registers.dma.hand,
+    ];
+    let cpus = m.registers.cpu.ports;
+    let devices = m.registers.dma.ports;
     put_numbers(numbers, KNOWN_AT, &hands);
     put_numbers(numbers, CPUS_AT, &cpus);
     put_numbers(numbers, DEVICES_AT, &devices);
 }
 
-fn unit_numbers(unit: Unit) -> [u64; 6]
+fn unit_numbers(unit: Unit) -> [u64; UNIT_NUMBERS]
     ensures { λ r. ⌜ r ≡ unitNumbers unit ⌝ }
 {
     let mark = unit.mark;
@@ -142,7 +175,7 @@ fn unit_numbers(unit: Unit) -> [u64; 6]
     ]
 }
 
-fn put_units(numbers: &mut [u64], units: [Unit; 32])
+fn put_units(numbers: &mut [u64], units: [Unit; UNITS])
     requires { ⌜ length (now numbers) ≡ MACHINE-NUMBERS ⌝ }
     ensures { λ _. ⌜ now (numbers .exit) ≡ repeat (unitWritten units) 0 UNITS (now (numbers .entry)) ⌝ }
 {
@@ -160,8 +193,13 @@ pub fn put_machine(numbers: &mut [u64], m: Machine)
     requires { ⌜ length (now numbers) ≡ MACHINE-NUMBERS ⌝ }
     ensures { λ _. ⌜ now (numbers .exit) ≡ begunBy (now (numbers .entry)) m ⌝ }
 {
-    let setup = [m.pages, m.shared_base, m.shared_count, m.unit_count];
-    let units = m.units;
+    let setup = [
+        m.fixed.pages,
+        m.fixed.shared_base,
+        m.fixed.shared_count,
+        m.fixed.unit_count,
+    ];
+    let units = m.fixed.units;
     put_numbers(numbers, 0, &setup);
     put_changed(numbers, m);
     put_units(numbers, units);

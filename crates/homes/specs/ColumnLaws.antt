@@ -15,10 +15,10 @@ use Rattle.numbers.specs.Decides.{Decides}
 use Rattle.numbers.specs.DecidesLaws.{same-answer, decides-as, decides-equal, decides-and}
 use Rattle.numbers.specs.Limits.{VMS}
 use Rattle.pages.specs.Bits.{hasBit}
-use Rattle.pages.specs.WordLaws.{hasBit-zero, same-bits}
+use Rattle.pages.specs.Columns.{belowWord}
+use Rattle.pages.specs.WordLaws.{hasBit-zero, same-bits, or-either, either-or}
 use Rattle.model.specs.Views.{knows}
-use Rattle.homes.specs.Columns.{poolWord, sharedWord, cpuWord, dmaWord, homeWord, homesOf, belowWord, spanWord, Apart, Once, Union, VmGood, VmsGood, HomesGood, ColumnGood}
-use Rattle.homes.specs.WordLaws.{or-either, either-or}
+use Rattle.homes.specs.Columns.{poolWord, sharedWord, cpuWord, dmaWord, homeWord, homesOf, spanWord, Apart, Once, Union, VmGood, VmsGood, HomesGood, ColumnGood}
 
 -- ---- words one after another
 module _ (f : ℕ → ℕ) where

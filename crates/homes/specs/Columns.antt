@@ -1,20 +1,17 @@
--- The page sets by columns: column k has the word of each row for the 64 pages from k * 64 on.
-use Prim.Native.Nat.{ℕ, zero, suc, _+_, _-_, _*_, _^_, _<_, min}
+-- The page sets by columns (pages' Columns), and what is tested of a column.
+use Prim.Native.Nat.{ℕ, zero, suc, _+_, _^_, _<_}
 use mathlib.Core.Bool.{Bool, true}
 use mathlib.Core.List.{List}
 use mathlib.Core.Logic.{_⊎_}
 use mathlib.Core.Path.{_≡_}
 use lib.Bits.{bitXor}
-use lib.ListN.{getD}
-use Rattle.numbers.specs.Limits.{VMS, SET-WORDS}
+use Rattle.numbers.specs.Limits.{VMS}
 use Rattle.pages.specs.Bits.{hasBit}
+use Rattle.pages.specs.Columns.{columnWord, belowWord}
 use Rattle.pages.specs.Rows.{poolRow, sharedRow, cpuRow, dmaRow}
 use Rattle.model.specs.Views.{knows}
 
 -- ---- the words of a column
-abbrev pub columnWord : List ℕ → ℕ → ℕ → ℕ
-columnWord sets row k = getD sets (row * SET-WORDS + k) 0
-
 abbrev pub poolWord : List ℕ → ℕ → ℕ
 poolWord sets k = columnWord sets poolRow k
 
@@ -40,10 +37,7 @@ homeWord sets k i = columnWord sets (homeRow i) k
 abbrev pub homesOf : ℕ → ℕ
 homesOf n = suc (suc n)
 
--- a bit for each page below n; a bit for each page of a span
-unfoldable pub belowWord : ℕ → ℕ → ℕ
-belowWord n k = 2 ^ min 64 (n - k * 64) - 1
-
+-- a bit for each page of a span
 abbrev pub spanWord : ℕ → ℕ → ℕ → ℕ
 spanWord base count k = bitXor (belowWord (base + count) k) (belowWord base k)
 

@@ -13,12 +13,14 @@ use Rattle.numbers.specs.Limits.{PAGES, VMS, SETS, SET-WORDS}
 use Rattle.pages.specs.Bits.{hasBit}
 use Rattle.pages.specs.BitLaws.{below-or}
 use Rattle.pages.specs.Rows.{poolRow, sharedRow, cpuRow, dmaRow, holds}
-use Rattle.pages.specs.WordLaws.{same-bits, holds-word}
+use Rattle.pages.specs.Columns.{columnWord, belowWord}
+use Rattle.pages.specs.ColumnLaws.{holds-word, bit-holds, holds-bit, below-bit, below-fits}
+use Rattle.pages.specs.WordLaws.{same-bits}
 use Rattle.model.specs.Start.{inSpan}
 use Rattle.model.specs.Valid.{Home, pool, shared, cpu, PagesGood}
 use Rattle.model.specs.Views.{knows, owns, holdsDma, inPool, inShared}
-use Rattle.homes.specs.Columns.{columnWord, sharedWord, homeRow, homeWord, homesOf, belowWord, spanWord, VmsGood, ColumnGood}
-use Rattle.homes.specs.WordLaws.{below-bit, below-fits, span-bit, span-fits}
+use Rattle.homes.specs.Columns.{sharedWord, homeRow, homeWord, homesOf, spanWord, VmsGood, ColumnGood}
+use Rattle.homes.specs.WordLaws.{span-bit, span-fits}
 
 -- ---- homes by their order
 pub home-at : (i : ℕ) → i < homesOf VMS → Home (homeRow i)
@@ -46,14 +48,6 @@ kinds (suc zero) h = inl (1, omega arith, refl)
 kinds (suc (suc r)) h = ⊎-elim
     (λ (e : r % 2 ≡ 0). inl (homesOf (r / 2), omega arith, omega arith))
     (λ d. inr (r / 2, omega arith, omega arith)) (equal (r % 2) 0)
-
--- ---- bit j of column k is page k * 64 + j
-module _ (sets : List ℕ) (k j : ℕ) (l : j < 64) (row : ℕ) where
-  bit-holds : hasBit (columnWord sets row k) j ≡ true → holds sets row (k * 64 + j) ≡ true
-  bit-holds t = holds-word sets k j l row ∙ t
-
-  holds-bit : holds sets row (k * 64 + j) ≡ true → hasBit (columnWord sets row k) j ≡ true
-  holds-bit t = sym (holds-word sets k j l row) ∙ t
 
 -- ---- from the columns to the pages
 module _ (pages base count known : ℕ) (sets : List ℕ) (all : (k : ℕ) → k < SET-WORDS → ColumnGood pages base count known sets k) where

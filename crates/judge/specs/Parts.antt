@@ -7,8 +7,6 @@ use mathlib.Core.Path.{_≡_}
 use Rattle.numbers.specs.Limits.{PAGES, UNITS, PORTS, IDLE, ENTRIES, PAIRS, SLOTS, SETS, SET-WORDS}
 use Rattle.numbers.specs.Packing.{portOf, filledOf, vmOf, pageOf, accessOf, generationOf, leftOf, rightOf}
 use Rattle.numbers.specs.declared.Side.{Side}
-use Rattle.units.specs.declared.Unit.{Unit}
-use Rattle.model.specs.State.{Setup, Route}
 use Rattle.model.specs.Valid.{MapGood, SameMap}
 use Rattle.model.specs.Views.{knows}
 
@@ -24,16 +22,12 @@ pub record Sizes (s p cm cw cc dm dw dc : ℕ) : Type 0 where
   pub cpu : RouteSizes cm cw cc
   pub dma : RouteSizes dm dw dc
 
--- ---- 2: the setup without its units, and the setup of these numbers and units
+-- ---- 2: the setup without its units
 pub record SetupNumbers (pages base count units : ℕ) : Type 0 where
   pub some-pages : 0 < pages
   pub most-pages : pages ≤ PAGES
   pub shared : base + count ≤ pages
   pub unit-count : units ≤ UNITS
-
-abbrev pub setupWith : ℕ → ℕ → ℕ → List Unit → ℕ → Setup
-setupWith pages base count units unit-count =
-    record { pages = pages; sharedBase = base; sharedCount = count; units = units; unitCount = unit-count }
 
 -- ---- 5 to 7: a word that is none of the table's empty places
 abbrev pub NotEmpty : ℕ → Type 0
@@ -67,7 +61,3 @@ pub record SlotPacked (w : ℕ) : Type 0 where
 
 abbrev pub PortGood : ℕ → ℕ → Type 0
 PortGood known vm = (vm ≡ IDLE) ⊎ (knows known vm ≡ true)
-
--- ---- 6 to 8: the route of these tables and numbers
-abbrev pub routeWith : List ℕ → List ℕ → List ℕ → ℕ → List ℕ → Route
-routeWith map walker cache hand ports = record { map = map; walker = walker; cache = cache; hand = hand; ports = ports }

@@ -1,5 +1,5 @@
 -- Pairs by their borrowers: two good pairs have the same key where they lend the same page to the same VM.
-use Prim.Native.Nat.{ℕ, _+_, _*_, _/_, _<_, min, max}
+use Prim.Native.Nat.{ℕ, _<_}
 use mathlib.Core.Bool.{true, false, true≢false}
 use mathlib.Core.List.{List}
 use mathlib.Core.Logic.{_⊎_, inl, inr, ⊎-elim}
@@ -8,7 +8,7 @@ use native.Mathlib.Omega.{arith}
 use Rattle.numbers.specs.CaseLaws.{cases}
 use Rattle.numbers.specs.Limits.{VMS}
 use Rattle.numbers.specs.Packing.{leftOf, rightOf, pageOf, filledOf, pairKey, pairKeyOf}
-use Rattle.numbers.specs.PackingLaws.{pair-either}
+use Rattle.numbers.specs.PackingLaws.{pair-either, pair-same}
 use Rattle.pages.specs.Rows.{cpuRow}
 use Rattle.model.specs.KnownLaws.{knows-below}
 use Rattle.model.specs.Valid.{KnownGood, PagesGood, PairGood, Home}
@@ -56,23 +56,6 @@ module _ (sets : List ℕ) (w owner : ℕ) (part : Parted sets w owner) where
   pub key-parted : filledOf w ≡ 1 → pairKeyOf w ≡ pairKey owner (borrowerOf sets w) (pageOf w)
   key-parted f = ⊎-elim (λ p. rw (p .0, p .1, f)) (λ p. rw (p .0, p .1, f) (pair-either (borrowerOf sets w) owner (pageOf w))) (part .ends)
 
--- a pair's key says its page and its ends, though not their order
-pair-same : (a b p a′ b′ p′ : ℕ) → max a b < 65536 → max a′ b′ < 65536 → p < 4096 → p′ < 4096 → pairKey a b p ≡ pairKey a′ b′ p′ →
-    (p ≡ p′) × (min a b ≡ min a′ b′) × (max a b ≡ max a′ b′)
-pair-same a b p a′ b′ p′ m m′ h h′ e = apart (min a b) (max a b) p (min a′ b′) (max a′ b′) p′ m m′ h h′ e
-  where
-    apart : (l g p l′ g′ p′ : ℕ) → g < 65536 → g′ < 65536 → p < 4096 → p′ < 4096 →
-        ((l * 65536 + g) * 4096 + p) * 2 + 1 ≡ ((l′ * 65536 + g′) * 4096 + p′) * 2 + 1 → (p ≡ p′) × (l ≡ l′) × (g ≡ g′)
-    apart l g p l′ g′ p′ m m′ h h′ e =
-        let s : (l * 65536 + g) * 4096 + p ≡ (l′ * 65536 + g′) * 4096 + p′ = omega arith in
-        let a : ((l * 65536 + g) * 4096 + p) / 4096 ≡ l * 65536 + g = omega arith in
-        let b : ((l′ * 65536 + g′) * 4096 + p′) / 4096 ≡ l′ * 65536 + g′ = omega arith in
-        let x : l * 65536 + g ≡ l′ * 65536 + g′ = sym a ∙ rw s b in
-        let c : (l * 65536 + g) / 65536 ≡ l = omega arith in
-        let d : (l′ * 65536 + g′) / 65536 ≡ l′ = omega arith in
-        let y : l ≡ l′ = sym c ∙ rw x d in
-        (omega arith, y, omega arith)
-
 module _ (pages : ℕ) (sets : List ℕ) (one : OneOwner pages sets) (w w′ owner owner′ : ℕ) (part : Parted sets w owner) (part′ : Parted sets w′ owner′) (page : pageOf w < pages) (f : filledOf w ≡ 1) (f′ : filledOf w′ ≡ 1) where
   same-owner : pageOf w ≡ pageOf w′ → owner ≡ owner′
   same-owner p = one .only owner owner′ (pageOf w) (part .vm) (part′ .vm) page (part .owned) (rw p (part′ .owned))
@@ -82,7 +65,7 @@ module _ (pages : ℕ) (sets : List ℕ) (one : OneOwner pages sets) (w w′ own
 
   pub same-mark : pairKeyOf w ≡ pairKeyOf w′ → (borrowerOf sets w ≡ borrowerOf sets w′) × (pageOf w ≡ pageOf w′)
   same-mark e =
-      let q = pair-same owner (borrowerOf sets w) (pageOf w) owner′ (borrowerOf sets w′) (pageOf w′) (omega arith) (omega arith) (omega arith) (omega arith)
+      let q = pair-same owner (borrowerOf sets w) (pageOf w) owner′ (borrowerOf sets w′) (pageOf w′) (omega arith) (omega arith) (omega arith) (omega arith) (omega arith) (omega arith)
       (sym (key-parted sets w owner part f) ∙ e ∙ key-parted sets w′ owner′ part′ f′) in
       let o = same-owner (q .0) in
       (omega arith, q .0)

@@ -5,20 +5,22 @@ ghost use lib.ListN.{getD};
 ghost use Rattle.numbers.specs.Decides.{Decides};
 ghost use Rattle.numbers.specs.Limits.{UNITS};
 ghost use Rattle.units.specs.Units.{noUnit};
+ghost use Rattle.model.specs.Header.{setupOf};
 ghost use Rattle.model.specs.Valid.{UnitGood, SetupGood, KnownGood};
 ghost use Rattle.model.specs.Views.{knows};
-ghost use Rattle.judge.specs.Parts.{RouteSizes, Sizes, SetupNumbers, setupWith};
+ghost use Rattle.judge.specs.Parts.{RouteSizes, Sizes, SetupNumbers};
+use model::Fixed;
 use numbers::ACCESSES;
 use numbers::ENTRIES;
 use numbers::PAGES;
 use numbers::PAIRS;
+use numbers::Region;
 use numbers::SET_WORDS;
 use numbers::SETS;
 use numbers::SLOTS;
 use numbers::UNITS;
 use numbers::VMS;
 use numbers::VmId;
-use units::Region;
 use units::Unit;
 
 // ---- 1: lengths. The units and the ports have theirs by type.
@@ -66,7 +68,7 @@ fn unit_good(unit: Unit, pages: u64) -> bool
 }
 
 // Units past the count are not judged.
-fn units_good(units: [Unit; 32], count: u64, pages: u64) -> bool
+fn units_good(units: [Unit; UNITS], count: u64, pages: u64) -> bool
     requires { ⌜ count ≤ UNITS ⌝ }
     ensures { λ r. ⌜ Decides r ((k : ℕ) → k < count → UnitGood pages (getD units k noUnit)) ⌝ }
 {
@@ -90,19 +92,19 @@ fn setup_numbers(pages: u64, shared_base: u64, shared_count: u64, unit_count: u6
         & (unit_count <= UNITS as u64)
 }
 
-pub fn setup(
-    pages: u64,
-    shared_base: u64,
-    shared_count: u64,
-    units: [Unit; 32],
-    unit_count: u64,
-) -> bool
-    ensures { λ r. ⌜ Decides r (SetupGood (setupWith pages «shared_base» «shared_count» units «unit_count»)) ⌝ }
+pub fn setup(fixed: Fixed) -> bool
+    ensures { λ r. ⌜ Decides r (SetupGood (setupOf fixed)) ⌝ }
 {
-    if !setup_numbers(pages, shared_base, shared_count, unit_count) {
+    if !setup_numbers(
+        fixed.pages,
+        fixed.shared_base,
+        fixed.shared_count,
+        fixed.unit_count,
+    ) {
         return false;
     }
-    units_good(units, unit_count, pages)
+    let units = fixed.units;
+    units_good(units, fixed.unit_count, fixed.pages)
 }
 
 // ---- 3: known VMs.

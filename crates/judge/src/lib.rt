@@ -40,23 +40,29 @@ pub fn valid(
     ) {
         return false;
     }
-    let pages = m.pages;
-    let known = m.known;
-    let units = m.units;
-    if !header::setup(pages, m.shared_base, m.shared_count, units, m.unit_count) {
+    let pages = m.fixed.pages;
+    let known = m.registers.known;
+    let fixed = m.fixed;
+    if !header::setup(fixed) {
         return false;
     }
     if !header::known_vms(known) {
         return false;
     }
-    if !homes::page_sets(sets, pages, m.shared_base, m.shared_count, known) {
+    if !homes::page_sets(
+        sets,
+        pages,
+        m.fixed.shared_base,
+        m.fixed.shared_count,
+        known,
+    ) {
         return false;
     }
     let mut lent = [0u64; sharing::LENT_WORDS];
     if !sharing::pairs(pairs, sets, &mut lent, pages, known) {
         return false;
     }
-    let cpus = m.cpus;
+    let cpu = m.registers.cpu;
     if !routes::route(
         Side::Cpu,
         cpu_map,
@@ -67,12 +73,11 @@ pub fn valid(
         &lent,
         pages,
         known,
-        cpus,
-        m.cpu_hand,
+        cpu,
     ) {
         return false;
     }
-    let devices = m.devices;
+    let dma = m.registers.dma;
     if !routes::route(
         Side::Dma,
         dma_map,
@@ -83,8 +88,7 @@ pub fn valid(
         &lent,
         pages,
         known,
-        devices,
-        m.dma_hand,
+        dma,
     ) {
         return false;
     }

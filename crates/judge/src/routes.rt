@@ -6,13 +6,15 @@ ghost use Rattle.numbers.specs.Decides.{Decides};
 ghost use Rattle.numbers.specs.Limits.{PAGES, VMS, ENTRIES, SLOTS, SETS, SET-WORDS};
 ghost use Rattle.numbers.specs.Packing.{keyOf};
 ghost use Rattle.table.specs.Table.{Has, Distinct};
+ghost use Rattle.model.specs.Header.{routeOf};
 ghost use Rattle.model.specs.Valid.{KnownGood, EntryGood, CacheGood, PortsGood, RouteGood};
 ghost use Rattle.model.specs.Views.{mayMap};
 ghost use Rattle.keys.specs.Keys.{Packed};
-ghost use Rattle.judge.specs.Parts.{NotEmpty, MapsGood, SlotPacked, PortGood, routeWith};
+ghost use Rattle.judge.specs.Parts.{NotEmpty, MapsGood, SlotPacked, PortGood};
 ghost use Rattle.judge.specs.Sharing.{Lends, Ground};
 use super::header::is_known;
 use super::words::known_word;
+use model::SideRegisters;
 use numbers::IDLE;
 use numbers::PORTS;
 use numbers::PhysPage;
@@ -163,7 +165,7 @@ fn port_good(known: u64, vm: u64) -> bool
     (vm == IDLE) | is_known(known, VmId(vm))
 }
 
-fn ports(known: u64, ports: [u64; 8]) -> bool
+fn ports(known: u64, ports: [u64; PORTS as usize]) -> bool
     requires { ⌜ KnownGood known ⌝ }
     ensures { λ r. ⌜ Decides r (PortsGood known ports) ⌝ }
 {
@@ -189,11 +191,10 @@ pub fn route(
     lent: &[u64],
     pages: u64,
     known: u64,
-    on_ports: [u64; 8],
-    hand: u64,
+    registers: SideRegisters,
 ) -> bool
     requires { ⌜ (length (now map) ≡ ENTRIES) × (length (now walker) ≡ ENTRIES) × (length (now cache) ≡ SLOTS) × Ground pages known (now sets) (now pairs) (now lent) ⌝ }
-    ensures { λ r. ⌜ Decides r (RouteGood side pages known (now (sets .entry)) (now (pairs .entry)) (routeWith (now (map .entry)) (now (walker .entry)) (now (cache .entry)) hand «on_ports»)) ⌝ }
+    ensures { λ r. ⌜ Decides r (RouteGood side pages known (now (sets .entry)) (now (pairs .entry)) (routeOf registers (now (map .entry)) (now (walker .entry)) (now (cache .entry)))) ⌝ }
 {
     if !maps(side, map, walker, sets, pairs, lent, pages, known) {
         return false;
@@ -201,5 +202,6 @@ pub fn route(
     if !caches(walker, cache) {
         return false;
     }
-    ports(known, on_ports) & (hand < SLOTS)
+    let on_ports = registers.ports;
+    ports(known, on_ports) & (registers.hand < SLOTS)
 }

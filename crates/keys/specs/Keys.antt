@@ -1,6 +1,6 @@
 -- Keys by class: no key twice in a map, two maps that are the same, and slots that hold what the walker has (docs/MACHINE.md, 4).
 -- A table's filled places are chained by the class of their keys, and within a class a key has a place of its own.
-use Prim.Native.Nat.{ℕ, suc, _/_, _%_, _≤_, _<_}
+use Prim.Native.Nat.{ℕ, suc, _*_, _/_, _%_, _≤_, _<_}
 use mathlib.Core.Bool.{Bool, true, false}
 use mathlib.Core.List.{List}
 use mathlib.Core.Logic.{_⊎_}
@@ -8,18 +8,18 @@ use mathlib.Core.Path.{_≡_}
 use lib.ListN.{length, getD}
 use Rattle.numbers.specs.Decides.{Decides}
 use Rattle.numbers.specs.Limits.{VMS}
-use Rattle.numbers.specs.Packing.{portOf, vmOf, guestOf, entryOf, filledOf, keyOf, addressOf, mapWord}
+use Rattle.numbers.specs.Packing.{GUEST-FIELD, portOf, vmOf, guestOf, entryOf, filledOf, keyOf, addressOf, mapWord}
 use Rattle.table.specs.Table.{Has, Distinct, lookup}
 use Rattle.model.specs.Valid.{SameMap}
 
 -- ---- the numbers of the index, under the names that the code has for them
--- classes of keys: a VM and the high bits of a guest page, so that the two of a map's word tell its key
-abbrev pub CLASSES : ℕ
-CLASSES = 1024
-
 -- places of a class: the low bits of a guest page
 abbrev pub PLACES : ℕ
 PLACES = 1024
+
+-- classes of keys: a VM and the high bits of a guest page, so that the two of a map's word tell its key
+abbrev pub CLASSES : ℕ
+CLASSES = VMS * GUEST-FIELD / PLACES
 
 -- a link is a number of 16 bits, one more than a place, or 0: a table that can be chained has fewer places than this
 abbrev pub LINKS : ℕ

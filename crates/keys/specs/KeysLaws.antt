@@ -12,7 +12,7 @@ use Rattle.numbers.specs.CaseLaws.{cases, equal}
 use Rattle.numbers.specs.Decides.{Decides}
 use Rattle.numbers.specs.DecidesLaws.{says-yes, says-no, decides-as, decides-equal}
 use Rattle.numbers.specs.Limits.{VMS}
-use Rattle.numbers.specs.Packing.{portOf, filledOf, keyOf, addressOf}
+use Rattle.numbers.specs.Packing.{PORT-BIT, VM-BIT, VM-FIELD, ADDRESS-FIELD, portOf, filledOf, keyOf, addressOf}
 use Rattle.numbers.specs.PackingLaws.{word-whole, key-filled, address-key}
 use Rattle.table.specs.Table.{Has, Distinct, find, lookup}
 use Rattle.table.specs.TableLaws.{find-at, find-none, lookup-has, has-lookup}
@@ -39,24 +39,24 @@ unfolding lowOf
 address-low u w e = ap (λ a. a / 2 % PLACES) e
 
 key-address : (u w : ℕ) → keyOf u ≡ keyOf w → addressOf u ≡ addressOf w
-key-address u w e = ap (λ k. k % 33554432) e
+key-address u w e = ap (λ k. k % ADDRESS-FIELD) e
 
 -- what a slot holds has the slot's address
 address-kept : (w : ℕ) → addressOf (mapWordOf w) ≡ addressOf w
 address-kept w =
-    let e : w ≡ portOf w * 72057594037927936 + mapWordOf w = omega (arith, word-whole w) in
-    let k : keyOf w ≡ portOf w * 33554432 + keyOf (mapWordOf w) = omega arith in
-    sym (ap (λ n. n % 33554432) k ∙ above (portOf w) (keyOf (mapWordOf w)))
+    let e : w ≡ portOf w * PORT-BIT + mapWordOf w = omega (arith, word-whole w) in
+    let k : keyOf w ≡ portOf w * ADDRESS-FIELD + keyOf (mapWordOf w) = omega arith in
+    sym (ap (λ n. n % ADDRESS-FIELD) k ∙ above (portOf w) (keyOf (mapWordOf w)))
   where
-    above : (port low : ℕ) → (port * 33554432 + low) % 33554432 ≡ low % 33554432
+    above : (port low : ℕ) → (port * ADDRESS-FIELD + low) % ADDRESS-FIELD ≡ low % ADDRESS-FIELD
     above port low = omega arith
 
 -- class and low bits of a packed word tell its key
 packed-whole : (w : ℕ) → PackedWord w → keyOf w ≡ (classOf w * PLACES + lowOf w) * 2 + 1
 unfolding classOf lowOf
 packed-whole w r =
-    let a : w / 281474976710656 / 256 ≡ portOf w = omega arith in
-    let b : w / 281474976710656 < VMS = omega arith in
+    let a : w / VM-BIT / VM-FIELD ≡ portOf w = omega arith in
+    let b : w / VM-BIT < VMS = omega arith in
     let c : addressOf w ≡ keyOf w = address-key w (r .port) in
     let d : keyOf w / 2 / PLACES < CLASSES = omega arith in
     omega arith

@@ -9,14 +9,16 @@ ghost use Rattle.numbers.specs.Packing.{keyOf};
 ghost use Rattle.table.specs.Table.{Distinct};
 ghost use Rattle.keys.specs.Keys.{CLASSES, PLACES, LINKS, classOf, lowOf, mapWordOf, Packed, Filled, Agreement, SlotsHeld, Held, ClassAgree, SlotsWithin, ClassHeld, NewKey, Chained, Blank, Inside, Shown, Entered, NoneLeft, Entering, Taking, Tested};
 use numbers::ENTRIES;
+use numbers::GUEST_FIELD;
 use numbers::SLOTS;
+use numbers::VMS;
 use table::Found;
 
-// Classes of keys: a VM, and the high bits of a guest page. A slot's VM may be any, and then classes wrap: words are compared
-// whole.
-const CLASSES: usize = 1024;
 // Places of a class: the low bits of a guest page.
 const PLACES: usize = 1024;
+// Classes of keys: a VM, and the high bits of a guest page. A slot's VM may be any, and then classes wrap: words are compared
+// whole.
+const CLASSES: usize = (VMS * GUEST_FIELD) as usize / PLACES;
 
 // ---- Links: one more than a place, or 0, in 16 bits.
 

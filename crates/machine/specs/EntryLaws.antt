@@ -7,11 +7,11 @@ use Rattle.numbers.specs.Limits.{PAGES, SET-WORDS}
 use Rattle.model.specs.Header.{stateOf}
 use Rattle.model.specs.Valid.{Valid}
 use Rattle.model.specs.declared.Machine.{Machine}
-use Rattle.operate.specs.Outcome.{Fit}
+use Rattle.sides.specs.Sides.{Fit}
 
 module _ (m : Machine) (sets pairs cpuMap cpuWalker cpuCache dmaMap dmaWalker dmaCache memory : List ℕ) (v : Valid (stateOf m sets pairs cpuMap cpuWalker cpuCache dmaMap dmaWalker dmaCache memory)) where
   -- the joined operation may be given it
-  pub fit : Fit m sets memory
+  pub fit : Fit (m .fixed) sets memory
   fit =
       record {
         few-pages = v .tables .setup .most-pages;
@@ -21,5 +21,5 @@ module _ (m : Machine) (sets pairs cpuMap cpuWalker cpuCache dmaMap dmaWalker dm
       }
 
   -- and so may the searches of the pool
-  pub free-asks : (m .pages ≤ PAGES) × (SET-WORDS ≤ length sets)
+  pub free-asks : (m .fixed .pages ≤ PAGES) × (SET-WORDS ≤ length sets)
   free-asks = (v .tables .setup .most-pages, omega (arith, v .tables .lengths .sets))

@@ -8,6 +8,7 @@ ghost use Rattle.machine.specs.Query.{freeOf};
 use model::Machine;
 use numbers::Answer;
 use numbers::Lowest;
+use numbers::ROW_NUMBERS;
 use numbers::Refusal;
 use operate::Done;
 use rows::Decoded;
@@ -25,7 +26,7 @@ pub fn operation(
     dma_walker: &mut [u64],
     dma_cache: &mut [u64],
     memory: &mut [u64],
-    row: [u64; 8],
+    row: [u64; ROW_NUMBERS],
 ) -> Done
     ensures { λ r. ⌜ JudgedRow (stateOf m (now (sets .entry)) (now (pairs .entry)) (now («cpu_map» .entry)) (now («cpu_walker» .entry)) (now («cpu_cache» .entry)) (now («dma_map» .entry)) (now («dma_walker» .entry)) (now («dma_cache» .entry)) (now (memory .entry))) row
         (outcome (r .answer) (r .machine) (now (sets .exit)) (now (pairs .exit)) (now («cpu_map» .exit)) (now («cpu_walker» .exit)) (now («cpu_cache» .exit)) (now («dma_map» .exit)) (now («dma_walker» .exit)) (now («dma_cache» .exit)) (now (memory .exit))) ⌝ }
@@ -84,7 +85,8 @@ pub fn sequence(
     rows: &[u64],
     room: &mut [u64],
 ) -> Ran
-    ensures { λ r. ⌜ JudgedSequence (stateOf m (now (sets .entry)) (now (pairs .entry)) (now («cpu_map» .entry)) (now («cpu_walker» .entry)) (now («cpu_cache» .entry)) (now («dma_map» .entry)) (now («dma_walker» .entry)) (now («dma_cache» .entry)) (now (memory .entry))) (now (rows .entry)) (now (room .entry))
+    ensures { λ r. ⌜ JudgedSequence (stateOf m (now (sets .entry)) (now (pairs .entry)) (now («cpu_map» .entry)) (now («cpu_walker» .entry)) (now («cpu_cache» .entry))
+        (now («dma_map» .entry)) (now («dma_walker» .entry)) (now («dma_cache» .entry)) (now (memory .entry))) (now (rows .entry)) (now (room .entry))
         (ran (r .answer) (progress (r .machine) (now (sets .exit)) (now (pairs .exit)) (now («cpu_map» .exit)) (now («cpu_walker» .exit)) (now («cpu_cache» .exit)) (now («dma_map» .exit)) (now («dma_walker» .exit)) (now («dma_cache» .exit)) (now (memory .exit)) (now (room .exit)))) ⌝ }
 {
     if !judge::valid(
@@ -139,7 +141,8 @@ pub fn free(
     dma_cache: &[u64],
     memory: &[u64],
 ) -> FreePages
-    ensures { λ r. ⌜ JudgedFree (stateOf m (now (sets .entry)) (now (pairs .entry)) (now («cpu_map» .entry)) (now («cpu_walker» .entry)) (now («cpu_cache» .entry)) (now («dma_map» .entry)) (now («dma_walker» .entry)) (now («dma_cache» .entry)) (now (memory .entry))) (freeOf (r .answer) (r .count) (r .lowest)) ⌝ }
+    ensures { λ r. ⌜ JudgedFree (stateOf m (now (sets .entry)) (now (pairs .entry)) (now («cpu_map» .entry)) (now («cpu_walker» .entry)) (now («cpu_cache» .entry))
+        (now («dma_map» .entry)) (now («dma_walker» .entry)) (now («dma_cache» .entry)) (now (memory .entry))) (freeOf (r .answer) (r .count) (r .lowest)) ⌝ }
 {
     if !judge::valid(
         m,
@@ -159,8 +162,8 @@ pub fn free(
             lowest: Lowest::Nothing,
         };
     }
-    let count = pages::free_count(sets, m.pages);
-    let lowest = pages::lowest_free(sets, m.pages);
+    let count = pages::free_count(sets, m.fixed.pages);
+    let lowest = pages::lowest_free(sets, m.fixed.pages);
     FreePages {
         answer: numbers::accept(0),
         count,

@@ -1,2 +1,3 @@
--- What the proofs of maps, ports and slots share.
+-- What maps, ports and slots say by parts, and what their proofs share.
+pub mod Parts
 pub mod PortLaws

@@ -1,6 +1,6 @@
 -- What the four numbers of an answer may be (docs/MACHINE.md, 2): for every row, and from any state, valid or not.
 use Prim.{Unit, tt}
-use Prim.Native.Nat.{ℕ, _<_}
+use Prim.Native.Nat.{ℕ, _+_, _<_}
 use mathlib.Core.Bool.{Bool, true, false, not, _&&_, true≢false}
 use mathlib.Core.List.{List, [], _∷_}
 use mathlib.Core.Logic.{⊎-elim}
@@ -23,15 +23,19 @@ use Rattle.table.specs.ScanLaws.{any-below-false, lowest-found}
 use Rattle.model.specs.State.{Tables, State}
 use Rattle.model.specs.Effect.{Effect, reads, writes, clears, Control, decided, refused, accepted, acceptedDropping, andThen}
 use Rattle.model.specs.Ledger.{addVmAnswer, removeVmAnswer, assignAnswer, reclaimAnswer, shareAnswer, unshareAnswer}
-use Rattle.model.specs.Maps.{mapAnswer, unmapAnswer}
-use Rattle.model.specs.Regions.{clashAt, insertAnswer, removeAnswer}
+use Rattle.model.specs.Maps.{mapMay, mapAnswer, unmapMay, unmapAnswer}
+use Rattle.model.specs.Regions.{clashAt, insertAnswer, removeMay, removeAnswer}
 use Rattle.model.specs.Ports.{portAnswer, fillAnswer, emptyAnswer}
 use Rattle.model.specs.Access.{accessAnswer}
-use Rattle.model.specs.Step.{Stepped, carriedOut, addVmControl, removeVmControl, assignControl, reclaimControl, shareControl, unshareControl, mapControl, unmapControl, insertControl, removeControl, portControl, fillControl, emptyControl, readControl, writeControl, control, step}
+use Rattle.model.specs.Step.{Stepped, carriedOut, control, step}
 use Rattle.model.specs.Sequence.{operationOf, operationIn, stepKnown, stepRow}
 use Rattle.model.specs.Entries.{valid, not-valid, JudgedRow}
 
 -- ---- the paper's numbers
+-- the last operation's number
+abbrev pub operations : ℕ
+operations = 26
+
 -- operations on a region, and the refusals that search one
 abbrev pub regions : List ℕ
 regions = 11 ∷ 12 ∷ 13 ∷ 14 ∷ []
@@ -88,6 +92,11 @@ refusalLists =
     ∷ []
     ∷ []
     ∷ []
+
+-- one list a number, from 0 to the last
+pub lists-all : length refusalLists ≡ operations + 1
+unfolding refusalLists
+lists-all = refl
 
 -- those that the manual lists for an operation's number; a number that is no operation's is refused by 2
 abbrev pub listed : ℕ → List ℕ
@@ -222,7 +231,7 @@ module _ {n count : ℕ} {s : State} where
 
 -- all of them: every answer is made of the parts above
 every-number : (s : State) (n a b c d e : ℕ) → Known n d s (operationOf n a b c d e)
-unfolding refusalLists control addVmControl removeVmControl assignControl reclaimControl shareControl unshareControl mapControl unmapControl insertControl removeControl portControl fillControl emptyControl readControl writeControl addVmAnswer removeVmAnswer assignAnswer reclaimAnswer shareAnswer unshareAnswer mapAnswer unmapAnswer insertAnswer removeAnswer portAnswer fillAnswer emptyAnswer accessAnswer
+unfolding refusalLists control addVmAnswer removeVmAnswer assignAnswer reclaimAnswer shareAnswer unshareAnswer mapMay mapAnswer unmapMay unmapAnswer insertAnswer removeMay removeAnswer portAnswer fillAnswer emptyAnswer accessAnswer
 every-number s n a b c d e = search (numbered, unknown, told, check, early, unsearched, searched, dropping, done, tt {0}) depth 60 fits 5000
 
 -- ---- the four numbers

@@ -12,14 +12,15 @@ use Rattle.numbers.specs.Limits.{PAGE-WORDS, READ, WRITE}
 use Rattle.numbers.specs.declared.Answer.{Answer}
 use Rattle.numbers.specs.declared.Answer.the-variants.{Accepted, Refused}
 use Rattle.numbers.specs.declared.Side.{Side}
-use Rattle.numbers.specs.declared.Side.the-variants.{Cpu, Dma}
 use Rattle.numbers.specs.declared.Operation.{Operation}
-use Rattle.numbers.specs.declared.Operation.the-variants.{AddVm, RemoveVm, AssignPage, ReclaimPage, SharePage, UnsharePage, CpuMap, DmaMap, CpuUnmap, DmaUnmap, InsertRegion, RemoveRegion, DmaInsertRegion, DmaRemoveRegion, SwitchCpu, BindDevice, CpuFill, DmaFill, EmptyCpuSlot, EmptyDmaSlot, CpuRead, DmaRead, CpuWrite, DmaWrite, DataBarrier, InstructionBarrier}
+use Rattle.numbers.specs.declared.Operation.the-variants as op
+use Rattle.numbers.specs.declared.SideOperation.{SideOperation}
+use Rattle.numbers.specs.declared.SideOperation.the-variants as sided
 use Rattle.model.specs.State.{Tables}
 use Rattle.model.specs.Views.{isPort, isGuest, isWord}
 use Rattle.model.specs.Effect.{wordIn, Place, Store, Effect, reads, writes, clears, stored, clearPage, clearedPages, decided}
 use Rattle.model.specs.Access.{accessAnswer}
-use Rattle.model.specs.Step.{addVmControl, removeVmControl, assignControl, reclaimControl, shareControl, unshareControl, mapControl, unmapControl, insertControl, removeControl, portControl, fillControl, emptyControl, readControl, writeControl, control}
+use Rattle.model.specs.Step.{answerOf, nextOf, effectOf, control}
 use Rattle.model.specs.EarlyLaws.{past, hold}
 use Rattle.model.specs.MemoryLaws.{store-another, store-here, store-both, clear-there, clear-elsewhere}
 use Rattle.model.specs.Good.{StoreOn, StoreAt, PageIn}
@@ -51,45 +52,31 @@ unfolding decided
 decided-inside t (Accepted dropped word) new effect h = h dropped word refl
 decided-inside t (Refused refusal index) new effect h = tt
 
-cleared-inside : (t : Tables) (answer : Answer) (new : Tables) (pages : List ℕ) → Inside (decided t answer new (clears pages) .effect)
-cleared-inside t answer new pages = decided-inside t answer new (clears pages) (λ dropped word e. tt)
+side-inside : (side : Side) (t : Tables) (operation : SideOperation) (dropped word : ℕ) → answerOf t (op.On side operation) ≡ Accepted dropped word → Inside (effectOf t (op.On side operation))
+side-inside side t (sided.MapPage vm guest page access generation) dropped word e = tt
+side-inside side t (sided.UnmapPage vm guest) dropped word e = tt
+side-inside side t (sided.InsertRegion region) dropped word e = tt
+side-inside side t (sided.RemoveRegion region) dropped word e = tt
+side-inside side t (sided.GivePort port target) dropped word e = tt
+side-inside side t (sided.FillSlot port guest) dropped word e = tt
+side-inside side t (sided.EmptySlot slot) dropped word e = tt
+side-inside side t (sided.ReadWord port guest at) dropped word e = (accepted-word _ _ _ READ port (guest .0) at e, tt)
+side-inside side t (sided.WriteWord port guest at value) dropped word e = (accepted-word _ _ _ WRITE port (guest .0) at e, tt)
 
-read-inside : (side : Side) (t : Tables) (port guest word : ℕ) → Inside (readControl side t port guest word .effect)
-unfolding readControl
-read-inside side t port guest word = decided-inside t _ _ _ (λ dropped read e. (accepted-word _ _ _ READ port guest word e, tt))
-
-write-inside : (side : Side) (t : Tables) (port guest word value : ℕ) → Inside (writeControl side t port guest word value .effect)
-unfolding writeControl
-write-inside side t port guest word value = decided-inside t _ _ _ (λ dropped read e. (accepted-word _ _ _ WRITE port guest word e, tt))
+accepted-inside : (t : Tables) (operation : Operation) (dropped word : ℕ) → answerOf t operation ≡ Accepted dropped word → Inside (effectOf t operation)
+accepted-inside t (op.AddVm vm) dropped word e = tt
+accepted-inside t (op.RemoveVm vm) dropped word e = tt
+accepted-inside t (op.AssignPage vm page) dropped word e = tt
+accepted-inside t (op.ReclaimPage vm page) dropped word e = tt
+accepted-inside t (op.SharePage left right page) dropped word e = tt
+accepted-inside t (op.UnsharePage left right page) dropped word e = tt
+accepted-inside t (op.On side operation) dropped word e = side-inside side t operation dropped word e
+accepted-inside t op.DataBarrier dropped word e = tt
+accepted-inside t op.InstructionBarrier dropped word e = tt
 
 pub inside : (t : Tables) (operation : Operation) → Inside (control t operation .effect)
-unfolding control addVmControl removeVmControl assignControl reclaimControl shareControl unshareControl mapControl unmapControl insertControl removeControl portControl fillControl emptyControl
-inside t (AddVm vm) = cleared-inside _ _ _ _
-inside t (RemoveVm vm) = cleared-inside _ _ _ _
-inside t (AssignPage vm page) = cleared-inside _ _ _ _
-inside t (ReclaimPage vm page) = cleared-inside _ _ _ _
-inside t (SharePage left right page) = cleared-inside _ _ _ _
-inside t (UnsharePage left right page) = cleared-inside _ _ _ _
-inside t (CpuMap vm guest page access generation) = cleared-inside _ _ _ _
-inside t (DmaMap vm guest page access generation) = cleared-inside _ _ _ _
-inside t (CpuUnmap vm guest) = cleared-inside _ _ _ _
-inside t (DmaUnmap vm guest) = cleared-inside _ _ _ _
-inside t (InsertRegion vm guest page count access) = cleared-inside _ _ _ _
-inside t (RemoveRegion vm guest page count access) = cleared-inside _ _ _ _
-inside t (DmaInsertRegion vm guest page count access) = cleared-inside _ _ _ _
-inside t (DmaRemoveRegion vm guest page count access) = cleared-inside _ _ _ _
-inside t (SwitchCpu port target) = cleared-inside _ _ _ _
-inside t (BindDevice port target) = cleared-inside _ _ _ _
-inside t (CpuFill port guest) = cleared-inside _ _ _ _
-inside t (DmaFill port guest) = cleared-inside _ _ _ _
-inside t (EmptyCpuSlot slot) = cleared-inside _ _ _ _
-inside t (EmptyDmaSlot slot) = cleared-inside _ _ _ _
-inside t (CpuRead port guest word) = read-inside Cpu t port (guest .0) word
-inside t (DmaRead port guest word) = read-inside Dma t port (guest .0) word
-inside t (CpuWrite port guest word value) = write-inside Cpu t port (guest .0) word value
-inside t (DmaWrite port guest word value) = write-inside Dma t port (guest .0) word value
-inside t DataBarrier = cleared-inside _ _ _ _
-inside t InstructionBarrier = cleared-inside _ _ _ _
+unfolding control
+inside t operation = decided-inside t (answerOf t operation) (nextOf t operation) (effectOf t operation) (accepted-inside t operation)
 
 -- ---- a page is cleared or it is not
 pub listed : (page : ℕ) (pages : List ℕ) → PageIn page pages ⊎ (PageIn page pages → ⊥)
@@ -101,11 +88,11 @@ pub store-on : (page word : ℕ) (stores : List Store) → StoreAt page word sto
 store-on page word (x ∷ xs) (inl e) = inl (e .0)
 store-on page word (x ∷ xs) (inr o) = inr (store-on page word xs o)
 
--- both, or not both
-both : {A B : Type 0} → A ⊎ (A → ⊥) → B ⊎ (B → ⊥) → (A × B) ⊎ (A × B → ⊥)
-both (inl a) (inl b) = inl (a, b)
-both (inl a) (inr n) = inr (λ p. n (p .1))
-both (inr n) b = inr (λ p. n (p .0))
+-- both hold, or not both
+both-or-not : {A B : Type 0} → A ⊎ (A → ⊥) → B ⊎ (B → ⊥) → (A × B) ⊎ (A × B → ⊥)
+both-or-not (inl a) (inl b) = inl (a, b)
+both-or-not (inl a) (inr n) = inr (λ p. n (p .1))
+both-or-not (inr n) b = inr (λ p. n (p .0))
 
 -- ---- a word of a page
 module _ (page word : ℕ) (h : word < PAGE-WORDS) where
@@ -116,7 +103,7 @@ module _ (page word : ℕ) (h : word < PAGE-WORDS) where
   stored-or-same (x ∷ xs) memory i =
       ⊎-elim (λ e. inr (inl e))
       (λ n. ⊎-elim (λ q. inl (q ∙ store-another memory (x .place .page) (x .place .word) (x .value) page word (i .0) h n)) (λ o. inr (inr o)) (stored-or-same xs _ (i .1)))
-      (both (equal (x .place .page) page) (equal (x .place .word) word))
+      (both-or-not (equal (x .place .page) page) (equal (x .place .word) word))
 
   -- in two memories of one length it agrees after the same stores where it agreed before
   stores-agree : (stores : List Store) (a b : List ℕ) → length a ≡ length b → wordIn a page word ≡ wordIn b page word → wordIn (stored stores a) page word ≡ wordIn (stored stores b) page word

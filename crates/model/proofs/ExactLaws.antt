@@ -16,9 +16,9 @@ use Rattle.numbers.specs.declared.Refusal.{Refusal}
 use Rattle.table.specs.Scan.{any, anyBelow, lowest}
 use Rattle.table.specs.ScanLaws.{has-any, any-true, below-any, any-below-true, lowest-found, lowest-none}
 use Rattle.table.specs.Table.{Has}
-use Rattle.units.specs.declared.Region.{Region}
+use Rattle.numbers.specs.declared.Region.{Region}
 use Rattle.model.specs.Conditions.{accepts}
-use Rattle.model.specs.Effect.{andThen}
+use Rattle.model.specs.Effect.{acceptedDropping, andThen}
 use Rattle.model.specs.Regions.{clash}
 
 -- ---- chains
@@ -46,6 +46,11 @@ after-early (Refused refusal index) next d e = decides-then d e
 pub and-then : (early next : Answer) {P Q : Type 0} → Decides (accepts early) P → Decides (accepts next) Q →
     Decides (accepts (andThen early next)) (P × Q)
 and-then early next d e = after-early early next d (λ p. e)
+
+-- the slots that are dropped change no acceptance
+pub dropping-exact : (may : Answer) (dropped : ℕ) {P : Type 0} → Decides (accepts may) P → Decides (accepts (andThen may (acceptedDropping dropped))) P
+dropping-exact (Accepted d word) dropped e = e
+dropping-exact (Refused refusal index) dropped e = e
 
 -- a check of every page of a region
 pub no-clash : (fails : ℕ → Bool) (F : ℕ → Type 0) (region : Region) (refusal : Refusal) (next : Answer) {Q : Type 0} →

@@ -11,7 +11,7 @@ use Rattle.numbers.specs.DecidesLaws.{always, decides-as, decides-itself, decid
 use Rattle.numbers.specs.declared.Side.{Side}
 use Rattle.numbers.specs.declared.Side.the-variants.{Cpu, Dma}
 use Rattle.table.specs.Table.{freeEntries}
-use Rattle.model.specs.State.{Tables}
+use Rattle.model.specs.State.{Tables, route}
 use Rattle.model.specs.Views.{knows, inPool, owns, claims}
 use Rattle.model.specs.Valid.{ValidTables}
 use Rattle.model.specs.Ledger.{vmEarly, pageEarly, pairEarly, addVmAnswer, removeVmAnswer, assignAnswer, reclaimAnswer, shareAnswer, unshareAnswer, borrowerMaps}
@@ -47,8 +47,8 @@ module _ (t : Tables) (v : ValidTables t) where
   Busy vm =
       (((((((page : ℕ) × (page < PAGES) × (claims Cpu (t .sets) vm page ≡ true))
       ⊎ ((page : ℕ) × (page < PAGES) × (claims Dma (t .sets) vm page ≡ true)))
-      ⊎ ((guest : ℕ) × Mapped Cpu t vm guest))
-      ⊎ ((guest : ℕ) × Mapped Dma t vm guest))
+      ⊎ ((guest : ℕ) × Mapped (t .cpu .map) vm guest))
+      ⊎ ((guest : ℕ) × Mapped (t .dma .map) vm guest))
       ⊎ ((other : ℕ) × (page : ℕ) × Edge t vm other page))
       ⊎ ((port : ℕ) × (port < PORTS) × RunsOn Cpu t port vm))
       ⊎ ((port : ℕ) × (port < PORTS) × RunsOn Dma t port vm)
@@ -59,7 +59,7 @@ module _ (t : Tables) (v : ValidTables t) where
       decides-as
       (and-then (vmEarly (t .known) vm) _ (vm-early (t .known) vm)
       (unless _ _ _ _
-      (decides-or (decides-or (decides-or (decides-or (decides-or (decides-or (pages-exact Cpu (t .sets) vm) (pages-exact Dma (t .sets) vm)) (mappings-exact Cpu t v vm)) (mappings-exact Dma t v vm)) (edge-of-exact t v vm)) (port-exact (t .cpu .ports) vm (v .lengths .cpu .ports))) (port-exact (t .dma .ports) vm (v .lengths .dma .ports)))
+      (decides-or (decides-or (decides-or (decides-or (decides-or (decides-or (pages-exact Cpu (t .sets) vm) (pages-exact Dma (t .sets) vm)) (mappings-exact (v .cpu .map) vm)) (mappings-exact (v .dma .map) vm)) (edge-of-exact t v vm)) (port-exact (t .cpu .ports) vm (v .lengths .cpu .ports))) (port-exact (t .dma .ports) vm (v .lengths .dma .ports)))
       always))
       to fro
     where
@@ -78,7 +78,7 @@ module _ (t : Tables) (v : ValidTables t) where
           no-page Cpu page h e = idle (inl (inl (inl (inl (inl (inl (page, h, e)))))))
           no-page Dma page h e = idle (inl (inl (inl (inl (inl (inr (page, h, e)))))))
 
-          no-mapping : (side : Side) (guest : ℕ) → Mapped side t vm guest → ⊥
+          no-mapping : (side : Side) (guest : ℕ) → Mapped (route side t .map) vm guest → ⊥
           no-mapping Cpu guest m = idle (inl (inl (inl (inl (inr (guest, m))))))
           no-mapping Dma guest m = idle (inl (inl (inl (inr (guest, m)))))
 
@@ -115,7 +115,7 @@ module _ (t : Tables) (v : ValidTables t) where
       decides-as
       (and-then (pageEarly (t .known) (t .setup .pages) vm page) _ (page-early (t .known) (t .setup .pages) vm page)
       (where-so _ _ _ _ (decides-itself (owns (t .sets) vm page))
-      (unless _ _ _ _ (decides-or (target-exact Cpu t v page) (edge-on-exact t v page)) always)))
+      (unless _ _ _ _ (decides-or (target-exact (v .cpu .map) page) (edge-on-exact t v page)) always)))
       (λ (((ok, in-range), (known, _)), (owned, (unused, _))).
       record {
         vm-ok = ok;
@@ -145,8 +145,8 @@ module _ (t : Tables) (v : ValidTables t) where
       record { left-ok = l; right-ok = r; page-ok = p; left-known = k; right-known = k′; apart = apart; owned = owned; room = room })
       (λ c. ((((c .left-ok, c .right-ok), c .page-ok), ((c .left-known, c .right-known), tt)), (c .apart, (c .owned, (c .room, tt)))))
 
-  borrower-exact : (vm page : ℕ) → Decides (borrowerMaps (t .sets) (t .cpu .map) vm page) ((owns (t .sets) vm page ≡ true → ⊥) × Targets Cpu t vm page)
-  borrower-exact vm page = decides-and (decides-not (decides-itself (owns (t .sets) vm page))) (targets-of-exact Cpu t v vm page)
+  borrower-exact : (vm page : ℕ) → Decides (borrowerMaps (t .sets) (t .cpu .map) vm page) ((owns (t .sets) vm page ≡ true → ⊥) × Targets (t .cpu .map) vm page)
+  borrower-exact vm page = decides-and (decides-not (decides-itself (owns (t .sets) vm page))) (targets-of-exact (v .cpu .map) vm page)
 
   pub unshare-exact : (left right page : ℕ) → Decides (accepts (unshareAnswer (t .known) (t .setup .pages) (t .sets) (t .pairs) (t .cpu .map) left right page)) (Unshares t left right page)
   unfolding unshareAnswer

@@ -13,25 +13,25 @@ use Rattle.numbers.specs.Limits.{VMS, GUEST-PAGES, PAGE-WORDS, PORTS, SLOTS, AC
 use Rattle.numbers.specs.Decides.{Decides}
 use Rattle.numbers.specs.DecidesLaws.{always, decides-as, decides-itself, decides-less, decides-equal, decides-and}
 use Rattle.numbers.specs.Packing.{accessOf, key, keyOf, slotKey}
-use Rattle.numbers.specs.PackingLaws.{unported, unported-access, slot-address, key-filled}
+use Rattle.numbers.specs.PackingLaws.{unported, unported-access, slot-address}
 use Rattle.numbers.specs.declared.Answer.the-variants.{Accepted, Refused}
 use Rattle.numbers.specs.declared.Refusal.the-variants.{MappingDiffers, AccessLacking}
 use Rattle.numbers.specs.declared.Side.{Side}
 use Rattle.numbers.specs.declared.Target.{Target}
 use Rattle.numbers.specs.declared.Target.the-variants.{Idle, Vm}
 use Rattle.table.specs.Table.{Has, place, isFound, lookup, freeEntries}
-use Rattle.table.specs.TableLaws.{has-lookup, lookup-has}
+use Rattle.table.specs.TableLaws.{lookup-has}
 use Rattle.model.specs.State.{Tables, route}
 use Rattle.model.specs.Views.{knows}
-use Rattle.model.specs.Valid.{ValidTables, SameMap}
+use Rattle.model.specs.Valid.{ValidTables}
 use Rattle.model.specs.EarlyLaws.{both}
-use Rattle.model.specs.Maps.{mapEarly, unmapEarly, mapAnswer, unmapAnswer}
+use Rattle.model.specs.Maps.{mapEarly, unmapEarly, mapAnswer, unmapAnswer, mapMay, unmapMay}
 use Rattle.model.specs.Ports.{isTarget, knowsTarget, portAnswer, vmOn, fillAnswer, emptyAnswer}
 use Rattle.model.specs.Access.{translate, allows, accessAnswer}
-use Rattle.model.specs.Conditions.{accepts, Maps, Mapped, TargetGood, MapsPage, UnmapsPage, SwitchesPort, Fills, EmptiesSlot, Accesses}
+use Rattle.model.specs.Conditions.{accepts, Maps, Mapped, TargetGood, MapsPage, UnmapsPage, GivesPort, Fills, EmptiesSlot, Accesses}
 use Rattle.model.proofs.OneRoute.{route-of}
-use Rattle.model.proofs.ExactLaws.{unless, where-so, after-early, after-check}
-use Rattle.model.proofs.ExactViews.{place-exact, mapped-exact, walked-exact, may-exact, keyed-mapped, mapped-keyed}
+use Rattle.model.proofs.ExactLaws.{unless, where-so, after-early, after-check, dropping-exact}
+use Rattle.model.proofs.ExactViews.{place-exact, mapped-exact, lookup-mapped, mapped-lookup, may-exact}
 
 -- ---- early checks
 map-early : (known pages vm guest page access generation : ℕ) →
@@ -51,7 +51,7 @@ target-exact : (t : Tables) (target : Target) → Decides (isTarget target && kn
 target-exact t Idle = always
 target-exact t (Vm vm) = decides-and (decides-less (vm .0) VMS) (decides-itself (knows (t .known) (vm .0)))
 
-pub port-exact : (t : Tables) (port : ℕ) (target : Target) → Decides (accepts (portAnswer (t .known) port target)) (SwitchesPort t port target)
+pub port-exact : (t : Tables) (port : ℕ) (target : Target) → Decides (accepts (portAnswer (t .known) port target)) (GivesPort t port target)
 unfolding portAnswer
 port-exact t port target =
     decides-as
@@ -66,31 +66,33 @@ empty-exact slot = decides-as (where-so _ _ _ _ (decides-less slot SLOTS) always
 
 module _ (side : Side) (t : Tables) (v : ValidTables t) where
   -- ---- 7, 8
-  room-exact : (vm guest : ℕ) → guest < GUEST-PAGES → Decides (isFound (place keyOf (route side t .map) (key vm guest))) (Mapped side t vm guest ⊎ (0 < freeEntries (route side t .map)))
+  room-exact : (vm guest : ℕ) → guest < GUEST-PAGES → Decides (isFound (place keyOf (route side t .map) (key vm guest))) (Mapped (route side t .map) vm guest ⊎ (0 < freeEntries (route side t .map)))
   room-exact vm guest g =
-      let d = mapped-exact side t v vm guest g in
+      let d = mapped-exact (route-of side t v .map) vm guest g in
       decides-as (place-exact keyOf (route side t .map) (key vm guest)) (⊎-elim (λ e. inl (d .sound e)) inr) (⊎-elim (λ m. inl (d .complete m)) inr)
 
   pub map-exact : (vm guest page access generation : ℕ) →
       Decides (accepts (mapAnswer side (t .known) (t .setup .pages) (t .sets) (t .pairs) (route side t .map) (route side t .cache) vm guest page access generation)) (MapsPage side t vm guest page access generation)
-  unfolding mapAnswer
+  unfolding mapAnswer mapMay
   map-exact vm guest page access generation =
-      decides-as
+      dropping-exact (mapMay side (t .known) (t .setup .pages) (t .sets) (t .pairs) (route side t .map) vm guest page access generation) _
+      (decides-as
       (after-early (mapEarly (t .known) (t .setup .pages) vm guest page access generation) _ (map-early (t .known) (t .setup .pages) vm guest page access generation)
       (λ (((((a, g), p), x), n), _). where-so _ _ _ _ (may-exact t v side vm page) (where-so _ _ _ _ (room-exact vm guest g) always)))
       (λ ((((((a, g), p), x), n), (k, _)), (may, (room, _))).
       record { vm-ok = a; guest-ok = g; page-ok = p; access-ok = x; generation-ok = n; known = k; may = may; room = room })
-      (λ c. ((((((c .vm-ok, c .guest-ok), c .page-ok), c .access-ok), c .generation-ok), (c .known, tt)), (c .may, (c .room, tt))))
+      (λ c. ((((((c .vm-ok, c .guest-ok), c .page-ok), c .access-ok), c .generation-ok), (c .known, tt)), (c .may, (c .room, tt)))))
 
   -- ---- 9, 10
   pub unmap-exact : (vm guest : ℕ) → Decides (accepts (unmapAnswer (t .known) (route side t .map) (route side t .cache) vm guest)) (UnmapsPage side t vm guest)
-  unfolding unmapAnswer
+  unfolding unmapAnswer unmapMay
   unmap-exact vm guest =
-      decides-as
+      dropping-exact (unmapMay (t .known) (route side t .map) vm guest) _
+      (decides-as
       (after-early (unmapEarly (t .known) vm guest) _ (unmap-early (t .known) vm guest)
-      (λ ((a, g), _). where-so _ _ _ _ (mapped-exact side t v vm guest g) always))
+      (λ ((a, g), _). where-so _ _ _ _ (mapped-exact (route-of side t v .map) vm guest g) always))
       (λ (((a, g), (k, _)), (m, _)). record { vm-ok = a; guest-ok = g; known = k; mapped = m })
-      (λ c. (((c .vm-ok, c .guest-ok), (c .known, tt)), (c .mapped, tt)))
+      (λ c. (((c .vm-ok, c .guest-ok), (c .known, tt)), (c .mapped, tt))))
 
   -- ---- 17, 18
   pub fill-exact : (port guest : ℕ) → Decides (accepts (fillAnswer (route side t .ports) (route side t .walker) port guest)) (Fills side t port guest)
@@ -98,7 +100,7 @@ module _ (side : Side) (t : Tables) (v : ValidTables t) where
   fill-exact port guest =
       decides-as
       (after-check _ _ _ _ (decides-and (decides-less port PORTS) (decides-less guest GUEST-PAGES))
-      (λ (p, g). where-so _ _ _ _ (decides-less (vmOn (route side t .ports) port) VMS) (where-so _ _ _ _ (walked-exact side t v (vmOn (route side t .ports) port) guest g) always)))
+      (λ (p, g). where-so _ _ _ _ (decides-less (vmOn (route side t .ports) port) VMS) (where-so _ _ _ _ (mapped-exact (route-of side t v .walker) (vmOn (route side t .ports) port) guest g) always)))
       (λ ((p, g), (a, (m, _))). record { port-ok = p; guest-ok = g; vm = vmOn (route side t .ports) port; vm-ok = a; runs = refl; mapped = m })
       (λ c. ((c .port-ok, c .guest-ok), (rw (c .runs) (c .vm-ok), (rw (c .runs) (c .mapped), tt))))
 
@@ -125,28 +127,13 @@ module _ (side : Side) (t : Tables) (v : ValidTables t) where
       (λ f. rw f (let (h, e) = lookup-has keyOf (route side t .cache) (slotKey port vm guest) (eqb-false _ 0 f) in by-slot port vm guest _ a g h e))
       (cases (eqb (lookup keyOf (route side t .cache) (slotKey port vm guest)) 0))
 
-  -- a mapping of the guest page that has the access bit
+  -- the walker's mapping of the guest page, where it has the access bit
   record Allowed (bit vm guest : ℕ) : Type 0 where
     page : ℕ
     access : ℕ
     generation : ℕ
-    mapped : Maps side t vm guest page access generation
+    mapped : Maps (route side t .walker) vm guest page access generation
     allowed : access / bit % 2 ≡ 1
-
-  -- the walker's word of a guest page is the mapping's
-  walks-mapping : (vm guest page access generation : ℕ) (m : Maps side t vm guest page access generation) → walks vm guest ≡ m .word
-  unfolding SameMap
-  walks-mapping vm guest page access generation m =
-      let r = route-of side t v in
-      let e = mapped-keyed side t v vm guest page access generation m in
-      sym (r .same (key vm guest) (omega arith)) ∙ rw (← e) (has-lookup keyOf (route side t .map) (m .word) (r .map .once) (m .stored) (key-filled (m .word) (r .map .each (m .word) (m .stored) .filled)))
-
-  walks-mapped : (vm guest : ℕ) → guest < GUEST-PAGES → (walks vm guest ≡ 0 → ⊥) → Mapped side t vm guest
-  unfolding SameMap
-  walks-mapped vm guest g n =
-      let e = route-of side t v .same (key vm guest) (omega arith) in
-      let (h, q) = lookup-has keyOf (route side t .map) (key vm guest) (λ z. n (sym e ∙ z)) in
-      keyed-mapped side t v vm guest g (_, h, q)
 
   allowed-exact : (bit port vm guest : ℕ) → vm < VMS → guest < GUEST-PAGES →
       Decides (accepts (if eqb (translate (route side t .cache) (route side t .walker) port vm guest) 0 then Refused MappingDiffers 0 else if not (allows bit (translate (route side t .cache) (route side t .walker) port vm guest)) then Refused AccessLacking 0 else Accepted 0 0)) (Allowed bit vm guest)
@@ -160,13 +147,13 @@ module _ (side : Side) (t : Tables) (v : ValidTables t) where
 
       to : (w ≡ 0 → ⊥) × ((accessOf w / bit % 2 ≡ 1) × Unit {0}) → Allowed bit vm guest
       to (n, (e, _)) =
-          let m = walks-mapped vm guest g (λ z. n (r .some z)) in
-          let q : accessOf w ≡ m .access = r .access ∙ ap accessOf (walks-mapping vm guest (m .page) (m .access) (m .generation) (m .mapping)) ∙ m .mapping .access-of in
+          let m = lookup-mapped (route-of side t v .walker) vm guest g (λ z. n (r .some z)) in
+          let q : accessOf w ≡ m .access = r .access ∙ ap accessOf (mapped-lookup (route-of side t v .walker) vm guest (m .page) (m .access) (m .generation) (m .mapping)) ∙ m .mapping .access-of in
           record { page = m .page; access = m .access; generation = m .generation; mapped = m .mapping; allowed = rw (← q) e }
 
       fro : Allowed bit vm guest → (w ≡ 0 → ⊥) × ((accessOf w / bit % 2 ≡ 1) × Unit {0})
       fro c =
-          let e = walks-mapping vm guest (c .page) (c .access) (c .generation) (c .mapped) in
+          let e = mapped-lookup (route-of side t v .walker) vm guest (c .page) (c .access) (c .generation) (c .mapped) in
           let q : accessOf w ≡ c .access = r .access ∙ ap accessOf e ∙ c .mapped .access-of in
           ((λ z. c .mapped .stored .filled (sym e ∙ r .none z)), (rw q (c .allowed), tt))
 

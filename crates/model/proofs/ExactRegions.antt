@@ -11,24 +11,24 @@ use Rattle.numbers.specs.CaseLaws.{cases, equal}
 use Rattle.numbers.specs.Limits.{VMS, GUEST-PAGES, ACCESSES}
 use Rattle.numbers.specs.Decides.{Decides}
 use Rattle.numbers.specs.DecidesLaws.{says-no, always, decides-as, decides-itself, decides-less, decides-most, decides-equal, decides-not, decides-and, decides-or, twice-not}
-use Rattle.numbers.specs.Packing.{vmOf, guestOf, pageOf, accessOf, generationOf, entry, keyOf}
-use Rattle.numbers.specs.PackingLaws.{entry-fits, entry-page, entry-access, entry-generation, word-vm, word-guest, word-page, word-access, word-generation, key-same, key-filled}
+use Rattle.numbers.specs.Packing.{vmOf, guestOf, pageOf, accessOf, generationOf, entry, keyOf, EntryFits, WordFits}
+use Rattle.numbers.specs.PackingLaws.{entry-fits, entry-page, entry-access, entry-generation, word-vm, word-guest, word-page, word-access, word-generation, key-same}
 use Rattle.numbers.specs.declared.Side.{Side}
 use Rattle.numbers.specs.declared.Side.the-variants.{Cpu, Dma}
 use Rattle.table.specs.Table.{Has, lookup, freeEntries}
-use Rattle.table.specs.TableLaws.{has-lookup, lookup-has}
+use Rattle.table.specs.TableLaws.{lookup-has}
 use Rattle.units.specs.Units.{suits, isUnit, noUnit, assignable}
-use Rattle.units.specs.declared.Region.{Region}
+use Rattle.numbers.specs.declared.Region.{Region}
 use Rattle.units.specs.declared.Unit.{Unit}
 use Rattle.model.specs.State.{Tables, route}
 use Rattle.model.specs.Views.{knows, inPool, inShared, targeted, butKey}
 use Rattle.model.specs.Valid.{ValidTables}
 use Rattle.model.specs.Start.{unitRegion}
-use Rattle.model.specs.Regions.{pageIn, guestIn, keyIn, regionEntry, regionEarly, notFree, claimed, inUse, insertAnswer, removeAnswer}
+use Rattle.model.specs.Regions.{pageIn, guestIn, keyIn, regionEntry, regionEarly, notFree, claimed, inUse, insertAnswer, removeMay, removeAnswer}
 use Rattle.model.specs.Conditions.{accepts, Claims, Edge, Maps, Mapped, IsUnit, RegionGood, Insertable, Inserts, Unshared, Removes}
 use Rattle.model.proofs.OneRoute.{route-of}
-use Rattle.model.proofs.ExactLaws.{where-so, after-early, after-check, no-clash, some-below}
-use Rattle.model.proofs.ExactViews.{claimed-exact, mapped-exact, targets-exact, edge-on-exact, map-key, whole, mapped-keyed, entry-good, mapping}
+use Rattle.model.proofs.ExactLaws.{where-so, after-early, after-check, no-clash, some-below, dropping-exact}
+use Rattle.model.proofs.ExactViews.{claimed-exact, mapped-exact, targets-exact, edge-on-exact, map-key, whole, mapped-lookup, mapping}
 
 -- ---- units
 -- a unit's five fields are the region's
@@ -125,7 +125,7 @@ module _ (side : Side) (t : Tables) (v : ValidTables t) (region : Region) where
       (λ (_, (((_, guests), _), _)).
       where-so _ _ _ _ (unit-exact side t region)
       (no-clash _ (λ k. NotFree side t (pageIn region k)) region _ _ (λ k h. not-free-exact side t region k)
-      (no-clash _ (λ k. Mapped side t (region .vm .0) (guestIn region k)) region _ _ (λ k h. mapped-exact side t v (region .vm .0) (guestIn region k) (omega arith))
+      (no-clash _ (λ k. Mapped (route side t .map) (region .vm .0) (guestIn region k)) region _ _ (λ k h. mapped-exact (route-of side t v .map) (region .vm .0) (guestIn region k) (omega arith))
       (no-clash _ (λ k. Taken side t (region .vm .0) (pageIn region k)) region _ _ (λ k h. taken-exact side t region k)
       (where-so _ _ _ _ (decides-most (region .count) (freeEntries (route side t .map))) always))))))
       (λ (early, (unit, (free, (absent, (mine, (room, _)))))).
@@ -138,22 +138,16 @@ module _ (side : Side) (t : Tables) (v : ValidTables t) (region : Region) where
   -- ---- 12, 14: what one page may fail
   -- the entry of page k stands as insert put it
   abbrev Stands : ℕ → Type 0
-  Stands k = Maps side t (region .vm .0) (guestIn region k) (pageIn region k) (region .access) 0
+  Stands k = Maps (route side t .map) (region .vm .0) (guestIn region k) (pageIn region k) (region .access) 0
 
   stands-exact : RegionGood side t region → (k : ℕ) → k < region .count → Decides (eqb (lookup keyOf (route side t .map) (keyIn region k)) (regionEntry region k)) (Stands k)
   stands-exact g k h = decides-as (decides-equal _ _) to fro
     where
-      vm : region .vm .0 < 256
-      vm = omega (arith, g .vm-ok)
+      entry-ok : EntryFits (pageIn region k) (region .access) 0
+      entry-ok = record { page-fits = omega (arith, g .pages-ok, v .setup .most-pages); access-fits = g .access-ok; generation-fits = omega arith }
 
-      guest : guestIn region k < 65536
-      guest = omega (arith, g .guests-ok)
-
-      page : pageIn region k < 4096
-      page = omega (arith, g .pages-ok, v .setup .most-pages)
-
-      low : entry (pageIn region k) (region .access) 0 < 4294967296
-      low = entry-fits (pageIn region k) (region .access) 0 page (g .access-ok) (omega arith)
+      word-ok : WordFits (region .vm .0) (guestIn region k) (entry (pageIn region k) (region .access) 0)
+      word-ok = record { vm-fits = omega (arith, g .vm-ok); guest-fits = omega (arith, g .guests-ok); low-fits = entry-fits entry-ok }
 
       filled : regionEntry region k ≡ 0 → ⊥
       filled z = omega arith
@@ -163,40 +157,38 @@ module _ (side : Side) (t : Tables) (v : ValidTables t) (region : Region) where
           record {
             word = regionEntry region k;
             stored = rw e at (lookup-has keyOf (route side t .map) (keyIn region k) (λ z. filled (sym e ∙ z)) .0);
-            vm-of = word-vm 0 (region .vm .0) (guestIn region k) _ vm guest low;
-            guest-of = word-guest 0 (region .vm .0) (guestIn region k) _ vm guest low;
-            page-of = word-page 0 (region .vm .0) (guestIn region k) _ vm guest low ∙ entry-page (pageIn region k) (region .access) 0 page (g .access-ok) (omega arith);
-            access-of = word-access 0 (region .vm .0) (guestIn region k) _ vm guest low ∙ entry-access (pageIn region k) (region .access) 0 page (g .access-ok) (omega arith);
-            generation-of = word-generation 0 (region .vm .0) (guestIn region k) _ vm guest low ∙ entry-generation (pageIn region k) (region .access) 0 page (g .access-ok) (omega arith);
+            vm-of = word-vm 0 word-ok;
+            guest-of = word-guest 0 word-ok;
+            page-of = word-page 0 word-ok ∙ entry-page entry-ok;
+            access-of = word-access 0 word-ok ∙ entry-access entry-ok;
+            generation-of = word-generation 0 word-ok ∙ entry-generation entry-ok;
           }
 
       fro : Stands k → lookup keyOf (route side t .map) (keyIn region k) ≡ regionEntry region k
       fro m =
-          let r = entry-good side t v (m .word) (m .stored) in
-          let w = whole side t v (region .vm .0) (guestIn region k) (pageIn region k) (region .access) 0 m in
-          let e : keyOf (m .word) ≡ keyIn region k = mapped-keyed side t v (region .vm .0) (guestIn region k) _ _ _ m in
-          rw (← e) (has-lookup keyOf (route side t .map) (m .word) (route-of side t v .map .once) (m .stored) (key-filled (m .word) (r .filled))) ∙ sym w
+          let good = route-of side t v .map in
+          mapped-lookup good (region .vm .0) (guestIn region k) (pageIn region k) (region .access) 0 m ∙ sym (whole good (region .vm .0) (guestIn region k) (pageIn region k) (region .access) 0 m)
 
   -- another mapping of the side onto page k
   abbrev Another : ℕ → Type 0
   Another k = (w : ℕ) × Has (route side t .map) w × ((keyOf w ≡ keyIn region k → ⊥) × (pageOf w ≡ pageIn region k))
 
   another-exact : (k : ℕ) → Decides (targeted (butKey (keyIn region k)) (route side t .map) (pageIn region k)) (Another k)
-  another-exact k = targets-exact side t v (butKey (keyIn region k)) (λ w. keyOf w ≡ keyIn region k → ⊥) (pageIn region k) (λ w h. decides-not (decides-equal (keyOf w) (keyIn region k)))
+  another-exact k = targets-exact (route-of side t v .map) (butKey (keyIn region k)) (λ w. keyOf w ≡ keyIn region k → ⊥) (pageIn region k) (λ w h. decides-not (decides-equal (keyOf w) (keyIn region k)))
 
-  only-own : RegionGood side t region → (k vm guest access generation : ℕ) → k < region .count → (Another k → ⊥) → Maps side t vm guest (pageIn region k) access generation → (vm ≡ region .vm .0) × (guest ≡ guestIn region k)
+  only-own : RegionGood side t region → (k vm guest access generation : ℕ) → k < region .count → (Another k → ⊥) → Maps (route side t .map) vm guest (pageIn region k) access generation → (vm ≡ region .vm .0) × (guest ≡ guestIn region k)
   only-own g k vm guest access generation h none m = ⊎-elim same (λ n. absurd (none (m .word, m .stored, (n, m .page-of)))) (equal (keyOf (m .word)) (keyIn region k))
     where
       same : keyOf (m .word) ≡ keyIn region k → (vm ≡ region .vm .0) × (guest ≡ guestIn region k)
       same e =
-          let r = entry-good side t v (m .word) (m .stored) in
+          let r = route-of side t v .map .each (m .word) (m .stored) in
           let (a, b) = key-same (vmOf (m .word)) (guestOf (m .word)) (region .vm .0) (guestIn region k) (omega arith) (omega (arith, g .guests-ok)) (sym (map-key (m .word) (r .port) (r .filled)) ∙ e) in
           (sym (m .vm-of) ∙ a, sym (m .guest-of) ∙ b)
 
-  no-other : (k : ℕ) → ((vm guest access generation : ℕ) → Maps side t vm guest (pageIn region k) access generation → (vm ≡ region .vm .0) × (guest ≡ guestIn region k)) → Another k → ⊥
+  no-other : (k : ℕ) → ((vm guest access generation : ℕ) → Maps (route side t .map) vm guest (pageIn region k) access generation → (vm ≡ region .vm .0) × (guest ≡ guestIn region k)) → Another k → ⊥
   no-other k alone (w, h, (n, e)) =
-      let r = entry-good side t v w h in
-      let (a, b) = alone (vmOf w) (guestOf w) (accessOf w) (generationOf w) (rw e at (mapping side t v w h)) in
+      let r = route-of side t v .map .each w h in
+      let (a, b) = alone (vmOf w) (guestOf w) (accessOf w) (generationOf w) (rw e at (mapping w h)) in
       n (map-key w (r .port) (r .filled) ∙ rw (a, b))
 
 -- what uses a page of a region: another mapping, or for CPU an edge
@@ -222,9 +214,10 @@ unused Dma t v region k n u = n
 
 pub remove-exact : (side : Side) (t : Tables) (v : ValidTables t) (region : Region) →
     Decides (accepts (removeAnswer side (t .known) (t .setup .pages) (t .setup .units) (t .setup .unitCount) (t .sets) (t .pairs) (route side t .map) (route side t .cache) region)) (Removes side t region)
-unfolding removeAnswer
+unfolding removeAnswer removeMay
 remove-exact side t v region =
-    decides-as
+    dropping-exact (removeMay side (t .known) (t .setup .pages) (t .setup .units) (t .setup .unitCount) (t .sets) (t .pairs) (route side t .map) region) _
+    (decides-as
     (after-early (regionEarly (t .known) (t .setup .pages) region) _ (early-exact side t region)
     (λ early.
     after-check _ _ _ _ (unit-exact side t region)
@@ -232,7 +225,7 @@ remove-exact side t v region =
     no-clash _ (λ k. Claims side t (region .vm .0) (pageIn region k) → ⊥) region _ _ (λ k h. decides-not (decides-itself _))
     (no-clash _ (λ k. Stands side t v region k → ⊥) region _ _ (λ k h. decides-not (stands-exact side t v region (region-good side t v region early unit) k h))
     (no-clash _ (λ k. Used side t v region k) region _ _ (λ k h. used-exact side t v region k) always)))))
-    to fro
+    to fro)
   where
     Passed : Type 0
     Passed =

@@ -14,21 +14,19 @@ use Rattle.numbers.specs.Limits.{VMS, GUEST-PAGES, PAGES, PORTS, IDLE}
 use Rattle.numbers.specs.Decides.{Decides}
 use Rattle.numbers.specs.DecidesLaws.{says-yes, says-no, always, decides-as, decides-itself, decides-equal, decides-not, decides-and, decides-or}
 use Rattle.numbers.specs.Packing.{portOf, vmOf, guestOf, filledOf, pageOf, accessOf, generationOf, leftOf, rightOf, entryOf, entry, mapWord, slotWord, slotKey, key, keyOf, pairKey, pairKeyOf}
-use Rattle.numbers.specs.PackingLaws.{entry-whole, word-key, word-whole, key-same, pair-same, pair-either}
+use Rattle.numbers.specs.PackingLaws.{entry-whole, word-key, word-whole, key-same, key-filled, pair-same, pair-either, parts-fit}
 use Rattle.numbers.specs.declared.Side.{Side}
 use Rattle.numbers.specs.declared.Side.the-variants.{Cpu, Dma}
 use Rattle.table.specs.ScanLaws.{any-at, any-here}
-use Rattle.table.specs.Table.{Has, find, place, isFound, orElse, lowestFree, freeEntries}
-use Rattle.table.specs.TableLaws.{find-at, find-none, free-place, place-free}
+use Rattle.table.specs.Table.{Has, find, place, lookup, isFound, orElse, lowestFree, freeEntries}
+use Rattle.table.specs.TableLaws.{find-at, find-none, has-lookup, lookup-has, free-place, place-free}
 use Rattle.table.specs.declared.Found.{Found}
 use Rattle.table.specs.declared.Found.the-variants.{At, Nothing}
 use Rattle.model.specs.MemoryLaws.{getD-there}
-use Rattle.model.specs.State.{Tables, route}
+use Rattle.model.specs.State.{Tables}
 use Rattle.model.specs.Views.{claims, claimedElsewhere, hasPages, onPage, ofVm, joins, isFilled, shares, edgeOn, edgeOf, paired, targeted, hasMappings, mayMap, onPort, whichever}
-use Rattle.model.specs.Valid.{ValidTables, EntryGood, PairGood, SameMap}
+use Rattle.model.specs.Valid.{ValidTables, PairGood, MapGood}
 use Rattle.model.specs.Conditions.{Edge, Maps, Mapped, Targets, MayMap}
-use Rattle.model.proofs.Carried.{same-has}
-use Rattle.model.proofs.OneRoute.{GoodRoute, route-of}
 use Rattle.model.proofs.ExactLaws.{some-word, some-below}
 
 -- ---- page sets
@@ -84,88 +82,81 @@ either-order a b c d l g = ⊎-elim (λ t. pick (leb-true a b t) (cases (leb c d
     flip : b < a → (leb c d ≡ true) ⊎ (leb c d ≡ false) → ((a ≡ c) × (b ≡ d)) ⊎ ((a ≡ d) × (b ≡ c))
     flip h = ⊎-elim (λ t. let k = leb-true c d t in inr (omega arith, omega arith)) (λ f. let k = leb-false c d f in inl (omega arith, omega arith))
 
--- ---- mappings of valid tables
+-- ---- mappings
 -- a map's filled word has the key of its VM and guest page
 pub map-key : (w : ℕ) → portOf w ≡ 0 → filledOf w ≡ 1 → keyOf w ≡ key (vmOf w) (guestOf w)
 map-key w p f =
-    let e : keyOf (slotWord 0 (vmOf w) (guestOf w) (entryOf w)) ≡ slotKey 0 (vmOf w) (guestOf w) = word-key 0 (vmOf w) (guestOf w) (entryOf w) (omega arith) (omega arith) (omega arith) (omega arith) in
+    let e : keyOf (slotWord 0 (vmOf w) (guestOf w) (entryOf w)) ≡ slotKey 0 (vmOf w) (guestOf w) = word-key 0 (parts-fit w) (omega arith) in
     let z = rw p at (word-whole w) in
     sym (ap keyOf z) ∙ e ∙ omega arith
 
-module _ (side : Side) (t : Tables) (v : ValidTables t) where
-  pub entry-good : (w : ℕ) → Has (route side t .map) w → EntryGood side (t .setup .pages) (t .known) (t .sets) (t .pairs) w
-  entry-good w h = route-of side t v .map .each w h
+-- a filled word of a table, as a mapping
+pub mapping : {table : List ℕ} (w : ℕ) → Has table w → Maps table (vmOf w) (guestOf w) (pageOf w) (accessOf w) (generationOf w)
+mapping w h = record { word = w; stored = h; vm-of = refl; guest-of = refl; page-of = refl; access-of = refl; generation-of = refl }
 
-  -- a filled word of a map, as a mapping
-  pub mapping : (w : ℕ) → Has (route side t .map) w → Maps side t (vmOf w) (guestOf w) (pageOf w) (accessOf w) (generationOf w)
-  mapping w h = record { word = w; stored = h; vm-of = refl; guest-of = refl; page-of = refl; access-of = refl; generation-of = refl }
-
-  -- and a mapping is one whole word
-  pub whole : (vm guest page access generation : ℕ) (m : Maps side t vm guest page access generation) → mapWord vm guest (entry page access generation) ≡ m .word
+-- in any good table, a side's software map as its walker's
+module _ {side : Side} {pages known : ℕ} {sets pairs table : List ℕ} (g : MapGood side pages known sets pairs table) where
+  -- a mapping is one whole word
+  pub whole : (vm guest page access generation : ℕ) (m : Maps table vm guest page access generation) → mapWord vm guest (entry page access generation) ≡ m .word
   whole vm guest page access generation m =
-      let r = entry-good (m .word) (m .stored) in
+      let r = g .each (m .word) (m .stored) in
       rw (← m .vm-of, ← m .guest-of, ← m .page-of, ← m .access-of, ← m .generation-of, entry-whole (m .word) (r .filled)) (rw (r .port) at (word-whole (m .word)))
 
-  -- a mapping of a guest page is a word of its key, in the walker's map as in the software's
-  abbrev Keyed : List ℕ → ℕ → ℕ → Type 0
-  Keyed table vm guest = (w : ℕ) × Has table w × (keyOf w ≡ key vm guest)
-
-  pub keyed-mapped : (vm guest : ℕ) → guest < GUEST-PAGES → Keyed (route side t .map) vm guest → Mapped side t vm guest
-  keyed-mapped vm guest g (w, h, e) =
-      let r = entry-good w h in
-      let s = key-same (vmOf w) (guestOf w) vm guest (omega arith) g (sym (map-key w (r .port) (r .filled)) ∙ e) in
+  -- a mapping of a guest page is a word of its key
+  keyed-mapped : (vm guest : ℕ) → guest < GUEST-PAGES → (w : ℕ) × Has table w × (keyOf w ≡ key vm guest) → Mapped table vm guest
+  keyed-mapped vm guest l (w, h, e) =
+      let r = g .each w h in
+      let s = key-same (vmOf w) (guestOf w) vm guest (omega arith) l (sym (map-key w (r .port) (r .filled)) ∙ e) in
       record { page = pageOf w; access = accessOf w; generation = generationOf w; mapping = rw (s .0, s .1) at (mapping w h) }
 
-  pub mapped-keyed : (vm guest page access generation : ℕ) (m : Maps side t vm guest page access generation) → keyOf (m .word) ≡ key vm guest
+  mapped-keyed : (vm guest page access generation : ℕ) (m : Maps table vm guest page access generation) → keyOf (m .word) ≡ key vm guest
   mapped-keyed vm guest page access generation m =
-      let r = entry-good (m .word) (m .stored) in
+      let r = g .each (m .word) (m .stored) in
       map-key (m .word) (r .port) (r .filled) ∙ rw (m .vm-of, m .guest-of)
 
-  keyed-of : (vm guest : ℕ) → Mapped side t vm guest → Keyed (route side t .map) vm guest
-  keyed-of vm guest m = (m .mapping .word, m .mapping .stored, mapped-keyed vm guest _ _ _ (m .mapping))
+  pub mapped-exact : (vm guest : ℕ) → guest < GUEST-PAGES → Decides (isFound (find keyOf table (key vm guest))) (Mapped table vm guest)
+  mapped-exact vm guest l =
+      decides-as (key-exact keyOf table (key vm guest) (λ e. omega arith)) (keyed-mapped vm guest l)
+      (λ m. (m .mapping .word, m .mapping .stored, mapped-keyed vm guest _ _ _ (m .mapping)))
 
-  pub mapped-exact : (vm guest : ℕ) → guest < GUEST-PAGES → Decides (isFound (find keyOf (route side t .map) (key vm guest))) (Mapped side t vm guest)
-  mapped-exact vm guest g = decides-as (key-exact keyOf (route side t .map) (key vm guest) (λ e. omega arith)) (keyed-mapped vm guest g) (keyed-of vm guest)
+  -- a guest page for which a word is looked up is mapped, and the word is its mapping's
+  pub lookup-mapped : (vm guest : ℕ) → guest < GUEST-PAGES → (lookup keyOf table (key vm guest) ≡ 0 → ⊥) → Mapped table vm guest
+  lookup-mapped vm guest l n = let (h, e) = lookup-has keyOf table (key vm guest) n in keyed-mapped vm guest l (_, h, e)
 
-  pub walked-exact : (vm guest : ℕ) → guest < GUEST-PAGES → Decides (isFound (find keyOf (route side t .walker) (key vm guest))) (Mapped side t vm guest)
-  unfolding SameMap
-  walked-exact vm guest g =
-      decides-as (key-exact keyOf (route side t .walker) (key vm guest) (λ e. omega arith))
-      (λ (w, h, e). keyed-mapped vm guest g (w, same-has (route side t .map) (route side t .walker) w (r .same) (r .walker .once) h (r .walker .each w h .filled), e))
-      (λ m. let (w, h, e) = keyed-of vm guest m in (w, same-has (route side t .walker) (route side t .map) w (λ k o. sym (r .same k o)) (r .map .once) h (r .map .each w h .filled), e))
-    where
-      r : GoodRoute side t (route side t)
-      r = route-of side t v
+  pub mapped-lookup : (vm guest page access generation : ℕ) (m : Maps table vm guest page access generation) → lookup keyOf table (key vm guest) ≡ m .word
+  mapped-lookup vm guest page access generation m =
+      let e = mapped-keyed vm guest page access generation m in
+      rw (← e) (has-lookup keyOf table (m .word) (g .once) (m .stored) (key-filled (m .word) (g .each (m .word) (m .stored) .filled)))
 
   -- some mapping of the VM
-  pub mappings-exact : (vm : ℕ) → Decides (hasMappings (route side t .map) vm) ((guest : ℕ) × Mapped side t vm guest)
+  pub mappings-exact : (vm : ℕ) → Decides (hasMappings table vm) ((guest : ℕ) × Mapped table vm guest)
   unfolding hasMappings
   mappings-exact vm =
-      decides-as (some-word (ofVm vm) (λ w. vmOf w ≡ vm) (route side t .map) refl (λ w h. filled-too w (entry-good w h .filled) (decides-equal (vmOf w) vm)))
+      decides-as (some-word (ofVm vm) (λ w. vmOf w ≡ vm) table refl (λ w h. filled-too w (g .each w h .filled) (decides-equal (vmOf w) vm)))
       (λ (w, h, e). (guestOf w, record { page = pageOf w; access = accessOf w; generation = generationOf w; mapping = rw e at (mapping w h) }))
       (λ (guest, m). (m .mapping .word, m .mapping .stored, m .mapping .vm-of))
 
   -- some mapping that counts onto the page
-  pub targets-exact : (counts : ℕ → Bool) (C : ℕ → Type 0) (page : ℕ) → ((w : ℕ) → Has (route side t .map) w → Decides (counts w) (C w)) →
-      Decides (targeted counts (route side t .map) page) ((w : ℕ) × Has (route side t .map) w × (C w × (pageOf w ≡ page)))
+  pub targets-exact : (counts : ℕ → Bool) (C : ℕ → Type 0) (page : ℕ) → ((w : ℕ) → Has table w → Decides (counts w) (C w)) →
+      Decides (targeted counts table page) ((w : ℕ) × Has table w × (C w × (pageOf w ≡ page)))
   unfolding targeted
   targets-exact counts C page d =
-      some-word _ (λ w. C w × (pageOf w ≡ page)) (route side t .map) (none (counts 0)) (λ w h. decides-and (d w h) (filled-too w (entry-good w h .filled) (decides-equal (pageOf w) page)))
+      some-word _ (λ w. C w × (pageOf w ≡ page)) table (none (counts 0)) (λ w h. decides-and (d w h) (filled-too w (g .each w h .filled) (decides-equal (pageOf w) page)))
     where
       none : (b : Bool) → (b && false) ≡ false
       none true = refl
       none false = refl
 
   -- some mapping onto the page; one of this VM
-  pub target-exact : (page : ℕ) → Decides (targeted whichever (route side t .map) page) ((mapper : ℕ) × Targets side t mapper page)
+  pub target-exact : (page : ℕ) → Decides (targeted whichever table page) ((mapper : ℕ) × Targets table mapper page)
   target-exact page =
       decides-as (targets-exact whichever (λ w. Unit {0}) page (λ w h. always))
       (λ (w, h, e). (vmOf w, record { guest = guestOf w; access = accessOf w; generation = generationOf w; mapping = rw (e .1) at (mapping w h) }))
       (λ (mapper, m). (m .mapping .word, m .mapping .stored, (tt, m .mapping .page-of)))
 
-  pub targets-of-exact : (vm page : ℕ) → Decides (targeted (ofVm vm) (route side t .map) page) (Targets side t vm page)
+  pub targets-of-exact : (vm page : ℕ) → Decides (targeted (ofVm vm) table page) (Targets table vm page)
   targets-of-exact vm page =
-      decides-as (targets-exact (ofVm vm) (λ w. vmOf w ≡ vm) page (λ w h. filled-too w (entry-good w h .filled) (decides-equal (vmOf w) vm)))
+      decides-as (targets-exact (ofVm vm) (λ w. vmOf w ≡ vm) page (λ w h. filled-too w (g .each w h .filled) (decides-equal (vmOf w) vm)))
       (λ (w, h, e). record { guest = guestOf w; access = accessOf w; generation = generationOf w; mapping = rw (e .0, e .1) at (mapping w h) })
       (λ m. (m .mapping .word, m .mapping .stored, (m .mapping .vm-of, m .mapping .page-of)))
 

@@ -10,84 +10,19 @@ use lib.ListN.{getD}
 use Rattle.numbers.specs.Decides.{Decides}
 use Rattle.numbers.specs.DecidesLaws.{always, says-yes, says-no}
 use Rattle.numbers.specs.Limits.{READ, WRITE, ANSWER-NUMBERS}
-use Rattle.numbers.specs.Meaning.{refusalNumber, numberOf}
+use Rattle.numbers.specs.Meaning.{numberOf}
+use Rattle.numbers.specs.MeaningLaws.{refusal-above}
 use Rattle.numbers.specs.declared.Answer.{Answer}
 use Rattle.numbers.specs.declared.Answer.the-variants.{Accepted, Refused}
-use Rattle.numbers.specs.declared.Refusal.{Refusal}
-use Rattle.numbers.specs.declared.Refusal.the-variants.{
-  StateNotValid,
-  OutOfRange,
-  BadSpan,
-  VmUnknown,
-  VmKnown,
-  PageNotHeld,
-  PageClaimed,
-  NoSuchUnit,
-  MappingDiffers,
-  MappingPresent,
-  StillInUse,
-  PairWrong,
-  VmBusy,
-  NoRoom,
-  PortIdle,
-  AccessLacking,
-}
-use Rattle.numbers.specs.declared.Side.the-variants.{Cpu, Dma}
+use Rattle.numbers.specs.declared.Side.{Side}
+use Rattle.numbers.specs.declared.SideOperation.{SideOperation}
+use Rattle.numbers.specs.declared.SideOperation.the-variants as sided
 use Rattle.numbers.specs.declared.Operation.{Operation}
-use Rattle.numbers.specs.declared.Operation.the-variants.{
-  AddVm,
-  RemoveVm,
-  AssignPage,
-  ReclaimPage,
-  SharePage,
-  UnsharePage,
-  CpuMap,
-  DmaMap,
-  CpuUnmap,
-  DmaUnmap,
-  InsertRegion,
-  RemoveRegion,
-  DmaInsertRegion,
-  DmaRemoveRegion,
-  SwitchCpu,
-  BindDevice,
-  CpuFill,
-  DmaFill,
-  EmptyCpuSlot,
-  EmptyDmaSlot,
-  CpuRead,
-  DmaRead,
-  CpuWrite,
-  DmaWrite,
-  DataBarrier,
-  InstructionBarrier,
-}
+use Rattle.numbers.specs.declared.Operation.the-variants as op
 use Rattle.model.specs.State.{Tables, State}
 use Rattle.model.specs.Effect.{Effect, reads, writes, clears, decided, kept}
-use Rattle.model.specs.Step.{
-  addVmControl,
-  removeVmControl,
-  assignControl,
-  reclaimControl,
-  shareControl,
-  unshareControl,
-  mapControl,
-  unmapControl,
-  insertControl,
-  removeControl,
-  portControl,
-  fillControl,
-  emptyControl,
-  readControl,
-  writeControl,
-  control,
-  regionOf,
-  Stepped,
-  answerWith,
-  carriedOut,
-  step,
-}
-use Rattle.model.specs.Sequence.{operationIn, stepKnown, stepRow, Progress, Sequenced, rowAt, rowCount, after, shapeAnswer, sequence}
+use Rattle.model.specs.Step.{answerOf, control, Stepped, answerWith, carriedOut, step}
+use Rattle.model.specs.Sequence.{operationIn, stepKnown, stepRow, Progress, Sequenced, beginning, rowAt, rowCount, after, shapeAnswer, sequence}
 use Rattle.model.specs.Valid.{ValidTables, Valid}
 use Rattle.model.specs.Entries.{valid, not-valid, JudgedRow, JudgedSequence}
 use Rattle.model.specs.Conditions.{accepts, Conditions, RowConditions}
@@ -97,54 +32,35 @@ use Rattle.model.proofs.ExactRegions.{insert-exact, remove-exact}
 use Rattle.model.proofs.Answers.{roomy, answer-row}
 use Rattle.model.proofs.Kept.{after-valid}
 
+-- ---- each operation
+module _ (t : Tables) (v : ValidTables t) where
+  side-exactly : (side : Side) (operation : SideOperation) → Decides (accepts (answerOf t (op.On side operation))) (Conditions t (op.On side operation))
+  side-exactly side (sided.MapPage vm guest page access generation) = map-exact side t v (vm .0) (guest .0) (page .0) access generation
+  side-exactly side (sided.UnmapPage vm guest) = unmap-exact side t v (vm .0) (guest .0)
+  side-exactly side (sided.InsertRegion region) = insert-exact side t v region
+  side-exactly side (sided.RemoveRegion region) = remove-exact side t v region
+  side-exactly side (sided.GivePort port target) = port-exact t port target
+  side-exactly side (sided.FillSlot port guest) = fill-exact side t v port (guest .0)
+  side-exactly side (sided.EmptySlot slot) = empty-exact slot
+  side-exactly side (sided.ReadWord port guest word) = access-exact side t v READ port (guest .0) word
+  side-exactly side (sided.WriteWord port guest word value) = access-exact side t v WRITE port (guest .0) word
+
+  answer-exactly : (operation : Operation) → Decides (accepts (answerOf t operation)) (Conditions t operation)
+  answer-exactly (op.AddVm vm) = add-vm-exact t v (vm .0)
+  answer-exactly (op.RemoveVm vm) = remove-vm-exact t v (vm .0)
+  answer-exactly (op.AssignPage vm page) = assign-exact t v (vm .0) (page .0)
+  answer-exactly (op.ReclaimPage vm page) = reclaim-exact t v (vm .0) (page .0)
+  answer-exactly (op.SharePage left right page) = share-exact t v (left .0) (right .0) (page .0)
+  answer-exactly (op.UnsharePage left right page) = unshare-exact t v (left .0) (right .0) (page .0)
+  answer-exactly (op.On side operation) = side-exactly side operation
+  answer-exactly op.DataBarrier = always
+  answer-exactly op.InstructionBarrier = always
+
 pub exactly : (t : Tables) → ValidTables t → (operation : Operation) → Decides (accepts (control t operation .answer)) (Conditions t operation)
-unfolding control decided addVmControl removeVmControl assignControl reclaimControl shareControl unshareControl mapControl unmapControl insertControl removeControl portControl fillControl emptyControl readControl writeControl
-exactly t v (AddVm vm) = add-vm-exact t v (vm .0)
-exactly t v (RemoveVm vm) = remove-vm-exact t v (vm .0)
-exactly t v (AssignPage vm page) = assign-exact t v (vm .0) (page .0)
-exactly t v (ReclaimPage vm page) = reclaim-exact t v (vm .0) (page .0)
-exactly t v (SharePage left right page) = share-exact t v (left .0) (right .0) (page .0)
-exactly t v (UnsharePage left right page) = unshare-exact t v (left .0) (right .0) (page .0)
-exactly t v (CpuMap vm guest page access generation) = map-exact Cpu t v (vm .0) (guest .0) (page .0) access generation
-exactly t v (DmaMap vm guest page access generation) = map-exact Dma t v (vm .0) (guest .0) (page .0) access generation
-exactly t v (CpuUnmap vm guest) = unmap-exact Cpu t v (vm .0) (guest .0)
-exactly t v (DmaUnmap vm guest) = unmap-exact Dma t v (vm .0) (guest .0)
-exactly t v (InsertRegion vm guest page count access) = insert-exact Cpu t v (regionOf vm guest page count access)
-exactly t v (RemoveRegion vm guest page count access) = remove-exact Cpu t v (regionOf vm guest page count access)
-exactly t v (DmaInsertRegion vm guest page count access) = insert-exact Dma t v (regionOf vm guest page count access)
-exactly t v (DmaRemoveRegion vm guest page count access) = remove-exact Dma t v (regionOf vm guest page count access)
-exactly t v (SwitchCpu port target) = port-exact t port target
-exactly t v (BindDevice port target) = port-exact t port target
-exactly t v (CpuFill port guest) = fill-exact Cpu t v port (guest .0)
-exactly t v (DmaFill port guest) = fill-exact Dma t v port (guest .0)
-exactly t v (EmptyCpuSlot slot) = empty-exact slot
-exactly t v (EmptyDmaSlot slot) = empty-exact slot
-exactly t v (CpuRead port guest word) = access-exact Cpu t v READ port (guest .0) word
-exactly t v (DmaRead port guest word) = access-exact Dma t v READ port (guest .0) word
-exactly t v (CpuWrite port guest word value) = access-exact Cpu t v WRITE port (guest .0) word
-exactly t v (DmaWrite port guest word value) = access-exact Dma t v WRITE port (guest .0) word
-exactly t v DataBarrier = always
-exactly t v InstructionBarrier = always
+unfolding control decided
+exactly t v operation = answer-exactly t v operation
 
 -- ---- 0 is the number of what is accepted, and of no refusal
-refusal-above : (refusal : Refusal) → 0 < refusalNumber refusal
-refusal-above StateNotValid = omega arith
-refusal-above OutOfRange = omega arith
-refusal-above BadSpan = omega arith
-refusal-above VmUnknown = omega arith
-refusal-above VmKnown = omega arith
-refusal-above PageNotHeld = omega arith
-refusal-above PageClaimed = omega arith
-refusal-above NoSuchUnit = omega arith
-refusal-above MappingDiffers = omega arith
-refusal-above MappingPresent = omega arith
-refusal-above StillInUse = omega arith
-refusal-above PairWrong = omega arith
-refusal-above VmBusy = omega arith
-refusal-above NoRoom = omega arith
-refusal-above PortIdle = omega arith
-refusal-above AccessLacking = omega arith
-
 zero-accepts : (answer : Answer) → Decides (accepts answer) (numberOf answer ≡ 0)
 zero-accepts (Accepted dropped word) = says-yes refl
 zero-accepts (Refused refusal index) = says-no (λ e. omega (arith, refusal-above refusal, e))
@@ -179,12 +95,12 @@ entry-exactly s row result (not-valid n e) = rw e (λ z. absurd (omega (arith, z
 
 -- ---- row k of a sequence that is carried out, in the state that the rows before it left
 pub answer-row-exactly : (s : State) (rows room : List ℕ) (result : Sequenced) → JudgedSequence s rows room result → numberOf (result .answer) ≡ 0 → (k : ℕ) → k < rowCount rows →
-    (getD (result .progress .room) (k * ANSWER-NUMBERS) 0 ≡ 0) ↔ RowConditions (after rows k (record { state = s; room = room }) .state .tables) (rowAt rows k)
+    (getD (result .progress .room) (k * ANSWER-NUMBERS) 0 ≡ 0) ↔ RowConditions (after rows k (beginning s room) .state .tables) (rowAt rows k)
 unfolding sequence
 answer-row-exactly s rows room result (valid v e) z k h = rw e (carried (shapeAnswer rows room) refl (rw e at z))
   where
     p : Progress
-    p = record { state = s; room = room }
+    p = beginning s room
 
     carried : (shape : Answer) → shapeAnswer rows room ≡ shape → numberOf shape ≡ 0 →
         (getD (kept shape p (after rows (rowCount rows) p) .room) (k * ANSWER-NUMBERS) 0 ≡ 0) ↔ RowConditions (after rows k p .state .tables) (rowAt rows k)

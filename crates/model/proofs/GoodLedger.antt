@@ -10,11 +10,11 @@ use lib.ListN.{length}
 use borrow.Author.Tests.{eqb-false, ne-eqb, ltb-true, not-false}
 use Rattle.numbers.specs.CaseLaws.{cases, equal}
 use Rattle.numbers.specs.Limits.{VMS, PAIRS}
-use Rattle.numbers.specs.Packing.{filledOf, pageOf, vmOf, leftOf, rightOf, pairWord, pairKey, pairKeyOf}
+use Rattle.numbers.specs.Packing.{filledOf, pageOf, vmOf, leftOf, rightOf, pairWord, pairKey, pairKeyOf, PairFits, GUEST-FIELD, PAGE-FIELD}
 use Rattle.numbers.specs.PackingLaws.{pair-left, pair-right, pair-page, pair-filled, pair-port, pair-access, pair-generation, pair-key, pair-same}
 use Rattle.numbers.specs.declared.Answer.{Answer}
 use Rattle.numbers.specs.declared.Answer.the-variants.{Accepted}
-use Rattle.numbers.specs.declared.Operation.the-variants.{AddVm, RemoveVm, AssignPage, ReclaimPage, SharePage, UnsharePage}
+use Rattle.numbers.specs.declared.Operation.the-variants as op
 use Rattle.numbers.specs.declared.PhysPage.{PhysPage}
 use Rattle.numbers.specs.declared.Side.{Side}
 use Rattle.numbers.specs.declared.Side.the-variants.{Cpu, Dma}
@@ -47,7 +47,7 @@ use Rattle.model.specs.Ledger.{
   unshareAnswer,
   unsharePairs,
 }
-use Rattle.model.specs.Step.{addVmControl, removeVmControl, assignControl, reclaimControl, shareControl, unshareControl}
+use Rattle.model.specs.Step.{answerOf}
 use Rattle.model.specs.Valid.{PairGood, PairsGood, ValidTables}
 use Rattle.model.specs.Good.{Good, Made, holdsPage, Cleared}
 use Rattle.model.proofs.ViewLaws.{neither, of-vm, Lends, lends-shares, shares-lends, no-edge-on, no-edge-of, not-paired, not-targeted, no-mappings, on-no-port, no-pages, may-own, may-lent}
@@ -55,21 +55,19 @@ use Rattle.model.proofs.PagesKept.{pages-assigned, pages-reclaimed}
 use Rattle.model.proofs.EditedSets.{Edited, insert-edited, remove-edited, given-stays, given-holds, taken-ended, ended-free}
 use Rattle.model.proofs.OneRoute.{lengths-of}
 use Rattle.model.proofs.LedgerKept.{Named, by-claim, by-entry, by-pair, by-port, known-valid, sets-valid, pairs-valid}
-use Rattle.model.proofs.Refused.{quiet-good, decided-good}
+use Rattle.model.proofs.Refused.{quiet-good, AcceptedGood}
 
 -- ---- 1: add VM, after which the others are known as before
 known-added : (known vm other : ℕ) → knows known other ≡ true → knows (addVmKnown known vm) other ≡ true
 unfolding knows
 known-added known vm other k = ⊎-elim (λ q. rw q (hasBit-with-same known vm)) (λ d. hasBit-with-other known vm other d ∙ k) (equal other vm)
 
-pub add-vm-good : (t : Tables) → ValidTables t → (vm : VmId) → Good t (AddVm vm) (addVmControl t (vm .0))
-unfolding addVmControl addVmAnswer
-add-vm-good t v vm =
-    decided-good t v (AddVm vm) (addVmAnswer (t .known) (vm .0)) (withKnown t (addVmKnown (t .known) (vm .0))) quiet
-    (λ dropped word e.
+pub add-vm-good : (t : Tables) → ValidTables t → (vm : VmId) {dropped word : ℕ} → answerOf t (op.AddVm vm) ≡ Accepted dropped word → AcceptedGood t (op.AddVm vm)
+unfolding addVmAnswer
+add-vm-good t v vm e =
     let a = past (not (isVm (vm .0))) _ _ _ e in
     let fits = withBit-fits (t .known) (vm .0) VMS (v .known) (ltb-true _ VMS (not-false _ (a .0))) in
-    quiet-good t (AddVm vm) _ _ (known-valid t v (addVmKnown (t .known) (vm .0)) fits (λ other n. known-added (t .known) (vm .0) other)) (λ other page l b h. h) (λ w h. inl h))
+    quiet-good t (op.AddVm vm) _ _ (known-valid t v (addVmKnown (t .known) (vm .0)) fits (λ other n. known-added (t .known) (vm .0) other)) (λ other page l b h. h) (λ w h. inl h)
 
 -- ---- 2: remove VM, of one that is named nowhere
 known-removed : (known vm other : ℕ) → (other ≡ vm → ⊥) → knows known other ≡ true → knows (removeVmKnown known vm) other ≡ true
@@ -110,16 +108,13 @@ named-nowhere t vm v u (by-entry side w h f e) = no-mappings (route side t .map)
 named-nowhere t vm v u (by-pair w h f e) = no-edge-of (t .pairs) vm w (u .no-pair) h f e
 named-nowhere t vm v u (by-port side port h e) = on-no-port (route side t .ports) vm port (u .no-port side) (rw (lengths-of side t v .ports) h) e
 
-pub remove-vm-good : (t : Tables) → ValidTables t → (vm : VmId) → Good t (RemoveVm vm) (removeVmControl t (vm .0))
-unfolding removeVmControl
-remove-vm-good t v vm =
-    decided-good t v (RemoveVm vm) _ (withKnown t (removeVmKnown (t .known) (vm .0))) quiet
-    (λ dropped word e.
+pub remove-vm-good : (t : Tables) → ValidTables t → (vm : VmId) {dropped word : ℕ} → answerOf t (op.RemoveVm vm) ≡ Accepted dropped word → AcceptedGood t (op.RemoveVm vm)
+remove-vm-good t v vm e =
     let u = remove-vm-passed t (vm .0) e in
-    quiet-good t (RemoveVm vm) _ _
+    quiet-good t (op.RemoveVm vm) _ _
     (known-valid t v (removeVmKnown (t .known) (vm .0)) (withoutBit-fits (t .known) (vm .0) VMS (v .known))
     (λ other n. known-removed (t .known) (vm .0) other (λ q. named-nowhere t (vm .0) v u (rw q at n))))
-    (λ other page l b h. h) (λ w h. inl h))
+    (λ other page l b h. h) (λ w h. inl h)
 
 -- ---- 3: assign page, after which every VM holds what it held
 record AssignPassed (t : Tables) (vm page : ℕ) : Type 0 where
@@ -153,15 +148,12 @@ module _ (t : Tables) (v : ValidTables t) (vm page : ℕ) (p : AssignPassed t vm
         pair = λ w other h g. assign-stays Cpu other (pageOf w) (g .page);
       })
 
-pub assign-good : (t : Tables) → ValidTables t → (vm : VmId) (page : PhysPage) → Good t (AssignPage vm page) (assignControl t (vm .0) (page .0))
-unfolding assignControl
-assign-good t v vm page =
-    decided-good t v (AssignPage vm page) _ (withSets t (assignSets (t .sets) (vm .0) (page .0))) quiet
-    (λ dropped word e.
+pub assign-good : (t : Tables) → ValidTables t → (vm : VmId) (page : PhysPage) {dropped word : ℕ} → answerOf t (op.AssignPage vm page) ≡ Accepted dropped word → AcceptedGood t (op.AssignPage vm page)
+assign-good t v vm page e =
     let p = assign-passed t (vm .0) (page .0) e in
-    quiet-good t (AssignPage vm page) _ _ (assign-valid t v (vm .0) (page .0) p)
+    quiet-good t (op.AssignPage vm page) _ _ (assign-valid t v (vm .0) (page .0) p)
     (λ other page′ o l. given-holds Cpu (vm .0) (page .0) 1 (t .sets) _ (given t v (vm .0) (page .0) p) page′ (omega (arith, v .setup .most-pages)) other)
-    (λ w h. inl h))
+    (λ w h. inl h)
 
 -- ---- 4: reclaim page, of one that neither the CPU map nor a pair uses
 record ReclaimPassed (t : Tables) (vm page : ℕ) : Type 0 where
@@ -214,20 +206,17 @@ module _ (t : Tables) (v : ValidTables t) (vm page : ℕ) (p : ReclaimPassed t v
           ended-free Cpu vm page 1 (t .sets) (reclaimSets (t .sets) vm page) taken page′ (omega (arith, v .setup .most-pages)) _ _ _ _ (v .pages) l (p .early .vm-ok) (rw q at (p .owned))
           (record { low = omega arith; high = omega arith; unclaimed = rw q at f }) other o e
 
-pub reclaim-good : (t : Tables) → ValidTables t → (vm : VmId) (page : PhysPage) → Good t (ReclaimPage vm page) (reclaimControl t (vm .0) (page .0))
-unfolding reclaimControl
-reclaim-good t v vm page =
-    decided-good t v (ReclaimPage vm page) _ (withSets t (reclaimSets (t .sets) (vm .0) (page .0))) (clears (reclaimClears (t .sets) (vm .0) (page .0)))
-    (λ dropped word e.
+pub reclaim-good : (t : Tables) → ValidTables t → (vm : VmId) (page : PhysPage) {dropped word : ℕ} → answerOf t (op.ReclaimPage vm page) ≡ Accepted dropped word → AcceptedGood t (op.ReclaimPage vm page)
+reclaim-good t v vm page e =
     let p = reclaim-passed t (vm .0) (page .0) e in
     record {
       valid = reclaim-valid t v (vm .0) (page .0) p;
-      reach = λ other page′ h. absurd h;
+      reach = λ bit other page′ h. absurd h;
       still = λ h. absurd h;
       wiped = λ other page′ o. reclaim-wiped t v (vm .0) (page .0) p other page′;
       free = reclaim-free t v (vm .0) (page .0) p;
       edges = λ w h. inl h;
-    })
+    }
 
 -- ---- 5: share, which stores at most the pair that was asked for
 record SharePassed (t : Tables) (left right page : ℕ) (answer : Answer) : Type 0 where
@@ -265,56 +254,52 @@ share-keeps pairs left right page vm page′ e = share-case pairs left right pag
         let other : pairKeyOf w ≡ pairKey left right page → ⊥ = λ q. not-paired pairs left right page w f (record { there = r .there; key = q }) in
         lends-shares _ vm page′ w (record { there = has-put-keep pairKeyOf pairs (pairKey left right page) _ w (r .there) other; filled = r .filled; same = r .same; end = r .end })
 
-module _ (t : Tables) (v : ValidTables t) (left right page : ℕ) (answer : Answer) (p : SharePassed t left right page answer) (l : left < 256) (r : right < 65536) (s : page < 4096) where
+module _ (t : Tables) (v : ValidTables t) (left right page : ℕ) (answer : Answer) (p : SharePassed t left right page answer) (f : PairFits left right page) where
   share-pair : PairGood (t .setup .pages) (t .known) (t .sets) (pairWord left right page)
   share-pair =
       record {
-        port = pair-port left right page l r s;
-        filled = pair-filled left right page l r s;
-        access = pair-access left right page l r s;
-        generation = pair-generation left right page l r s;
-        page = rw (pair-page left right page l r s) (p .early .page-ok);
-        apart = rw (pair-left left right page l r s, pair-right left right page l r s) (p .apart);
-        left = rw (pair-left left right page l r s) (p .early .knows-left);
-        right = rw (pair-right left right page l r s) (p .early .knows-right);
-        owned = inl (rw (pair-left left right page l r s, pair-page left right page l r s) (p .owned));
+        port = pair-port f;
+        filled = pair-filled f;
+        access = pair-access f;
+        generation = pair-generation f;
+        page = rw (pair-page f) (p .early .page-ok);
+        apart = rw (pair-left f, pair-right f) (p .apart);
+        left = rw (pair-left f) (p .early .knows-left);
+        right = rw (pair-right f) (p .early .knows-right);
+        owned = inl (rw (pair-left f, pair-page f) (p .owned));
       }
 
   share-valid : ValidTables (withPairs t (sharePairs (t .pairs) left right page))
   share-valid =
       pairs-valid t v (sharePairs (t .pairs) left right page)
-      (share-case (t .pairs) left right page (λ pairs. length pairs ≡ PAIRS) (v .lengths .pairs) (λ f. length-put pairKeyOf (t .pairs) _ _ ∙ v .lengths .pairs))
+      (share-case (t .pairs) left right page (λ pairs. length pairs ≡ PAIRS) (v .lengths .pairs) (λ new. length-put pairKeyOf (t .pairs) _ _ ∙ v .lengths .pairs))
       (share-case (t .pairs) left right page (PairsGood (t .setup .pages) (t .known) (t .sets)) (v .pairs)
-      (λ f.
+      (λ new.
       record {
         each = λ w h. ⊎-elim (λ q. rw q share-pair) (v .pairs .each w) (has-put-inv pairKeyOf (t .pairs) _ _ w h);
-        once = distinct-put pairKeyOf (t .pairs) _ _ (pair-key left right page l r s) (omega arith) (v .pairs .once);
+        once = distinct-put pairKeyOf (t .pairs) _ _ (pair-key f) (omega arith) (v .pairs .once);
       }))
-      (λ w h f e. may-lent Cpu (t .sets) _ (vmOf w) (pageOf w) (share-keeps (t .pairs) left right page (vmOf w) (pageOf w) e))
+      (λ w h filled e. may-lent Cpu (t .sets) _ (vmOf w) (pageOf w) (share-keeps (t .pairs) left right page (vmOf w) (pageOf w) e))
 
-  share-made : Made t (SharePage (vmId left) (vmId right) (physPage page)) answer (pairWord left right page)
+  share-made : Made t (op.SharePage (vmId left) (vmId right) (physPage page)) answer (pairWord left right page)
   share-made =
       record {
-        share = rw (pair-left left right page l r s, pair-right left right page l r s, pair-page left right page l r s);
+        share = rw (pair-left f, pair-right f, pair-page f);
         agreed = p .agreed;
-        owned = rw (pair-left left right page l r s, pair-page left right page l r s) (p .owned);
+        owned = rw (pair-left f, pair-page f) (p .owned);
       }
 
-  share-edges : (w : ℕ) → Has (sharePairs (t .pairs) left right page) w → Has (t .pairs) w ⊎ Made t (SharePage (vmId left) (vmId right) (physPage page)) answer w
+  share-edges : (w : ℕ) → Has (sharePairs (t .pairs) left right page) w → Has (t .pairs) w ⊎ Made t (op.SharePage (vmId left) (vmId right) (physPage page)) answer w
   share-edges w =
-      share-case (t .pairs) left right page (λ pairs. Has pairs w → Has (t .pairs) w ⊎ Made t (SharePage (vmId left) (vmId right) (physPage page)) answer w) inl
-      (λ f h. ⊎-elim (λ q. inr (rw q share-made)) inl (has-put-inv pairKeyOf (t .pairs) _ _ w h))
+      share-case (t .pairs) left right page (λ pairs. Has pairs w → Has (t .pairs) w ⊎ Made t (op.SharePage (vmId left) (vmId right) (physPage page)) answer w) inl
+      (λ new h. ⊎-elim (λ q. inr (rw q share-made)) inl (has-put-inv pairKeyOf (t .pairs) _ _ w h))
 
-pub share-good : (t : Tables) → ValidTables t → (left right : VmId) (page : PhysPage) → Good t (SharePage left right page) (shareControl t (left .0) (right .0) (page .0))
-unfolding shareControl
-share-good t v left right page =
-    decided-good t v (SharePage left right page) _ (withPairs t (sharePairs (t .pairs) (left .0) (right .0) (page .0))) quiet
-    (λ dropped word e.
+pub share-good : (t : Tables) → ValidTables t → (left right : VmId) (page : PhysPage) {dropped word : ℕ} → answerOf t (op.SharePage left right page) ≡ Accepted dropped word → AcceptedGood t (op.SharePage left right page)
+share-good t v left right page e =
     let p = share-passed t (left .0) (right .0) (page .0) e in
-    let l : left .0 < 256 = omega (arith, p .early .left-ok) in
-    let r : right .0 < 65536 = omega (arith, p .early .right-ok) in
-    let s : page .0 < 4096 = omega (arith, v .setup .most-pages, p .early .page-ok) in
-    quiet-good t (SharePage left right page) _ _ (share-valid t v (left .0) (right .0) (page .0) _ p l r s) (λ other page′ o b h. h) (share-edges t v (left .0) (right .0) (page .0) _ p l r s))
+    let f : PairFits (left .0) (right .0) (page .0) =
+    record { left-fits = omega (arith, p .early .left-ok); right-fits = omega (arith, p .early .right-ok); page-fits = omega (arith, v .setup .most-pages, p .early .page-ok) } in
+    quiet-good t (op.SharePage left right page) _ _ (share-valid t v (left .0) (right .0) (page .0) _ p f) (λ other page′ o b h. h) (share-edges t v (left .0) (right .0) (page .0) _ p f)
 
 -- ---- 6: unshare, of a pair whose borrower maps the page no longer
 record UnsharePassed (t : Tables) (left right page : ℕ) : Type 0 where
@@ -344,8 +329,8 @@ module _ (t : Tables) (v : ValidTables t) (left right page : ℕ) (p : UnsharePa
   -- an entry whose pair goes is of an end that owns the page
   owner-left : (w u : ℕ) → Has (t .cpu .map) w → filledOf w ≡ 1 → Lends (t .pairs) (vmOf w) (pageOf w) u → pairKeyOf u ≡ pairKey left right page → owns (t .sets) (vmOf w) (pageOf w) ≡ true
   owner-left w u h f r k =
-      let right-ok : right < 65536 = omega (arith, p .early .right-ok) in
-      let page-ok : page < 4096 = omega (arith, v .setup .most-pages, p .early .page-ok) in
+      let right-ok : right < GUEST-FIELD = omega (arith, p .early .right-ok) in
+      let page-ok : page < PAGE-FIELD = omega (arith, v .setup .most-pages, p .early .page-ok) in
       let e = pair-same (leftOf u) (rightOf u) (pageOf u) left right page (omega arith) (omega arith) (omega arith) (omega (arith, p .early .left-ok)) right-ok page-ok (rw (r .filled) at k) in
       let q : pageOf w ≡ page = sym (r .same) ∙ e .0 in
       ⊎-elim (λ l. not-borrower (t .sets) (t .cpu .map) left page w (p .no-left) h f l q) (λ l. not-borrower (t .sets) (t .cpu .map) right page w (p .no-right) h f l q)
@@ -372,10 +357,8 @@ module _ (t : Tables) (v : ValidTables t) (left right page : ℕ) (p : UnsharePa
       gone : ℕ → Bool
       gone = hasKey pairKeyOf (pairKey left right page)
 
-pub unshare-good : (t : Tables) → ValidTables t → (left right : VmId) (page : PhysPage) → Good t (UnsharePage left right page) (unshareControl t (left .0) (right .0) (page .0))
-unfolding unshareControl unsharePairs erase
-unshare-good t v left right page =
-    decided-good t v (UnsharePage left right page) _ (withPairs t (unsharePairs (t .pairs) (left .0) (right .0) (page .0))) quiet
-    (λ dropped word e.
-    quiet-good t (UnsharePage left right page) _ _ (unshare-valid t v (left .0) (right .0) (page .0) (unshare-passed t (left .0) (right .0) (page .0) e)) (λ other page′ o b h. h)
-    (λ w h. inl (has-wipe-inv (hasKey pairKeyOf (pairKey (left .0) (right .0) (page .0))) (t .pairs) w h .0)))
+pub unshare-good : (t : Tables) → ValidTables t → (left right : VmId) (page : PhysPage) {dropped word : ℕ} → answerOf t (op.UnsharePage left right page) ≡ Accepted dropped word → AcceptedGood t (op.UnsharePage left right page)
+unfolding unsharePairs erase
+unshare-good t v left right page e =
+    quiet-good t (op.UnsharePage left right page) _ _ (unshare-valid t v (left .0) (right .0) (page .0) (unshare-passed t (left .0) (right .0) (page .0) e)) (λ other page′ o b h. h)
+    (λ w h. inl (has-wipe-inv (hasKey pairKeyOf (pairKey (left .0) (right .0) (page .0))) (t .pairs) w h .0))

@@ -9,10 +9,12 @@ use borrow.Author.Tests.{ltb-true, not-false}
 use Rattle.numbers.specs.CaseLaws.{cases}
 use Rattle.numbers.specs.Limits.{VMS, GUEST-PAGES, PORTS, SLOTS, IDLE}
 use Rattle.numbers.specs.Meaning.{targetNumber}
-use Rattle.numbers.specs.Packing.{keyOf, key, slotKey, entryOf}
+use Rattle.numbers.specs.Packing.{keyOf, key, slotKey, entryOf, WordFits}
 use Rattle.numbers.specs.PackingLaws.{word-key, word-filled}
 use Rattle.numbers.specs.declared.Answer.the-variants.{Accepted}
-use Rattle.numbers.specs.declared.Operation.{Operation}
+use Rattle.numbers.specs.declared.Operation.the-variants as op
+use Rattle.numbers.specs.declared.SideOperation.the-variants as sided
+use Rattle.numbers.specs.declared.GuestPage.{GuestPage}
 use Rattle.numbers.specs.declared.Side.{Side}
 use Rattle.numbers.specs.declared.Target.{Target}
 use Rattle.numbers.specs.declared.Target.the-variants.{Idle, Vm}
@@ -22,12 +24,11 @@ use Rattle.table.specs.TableLaws.{found-at, lookup-nothing}
 use Rattle.model.specs.State.{Tables, route, withPorts}
 use Rattle.model.specs.Views.{isPort, isGuest, isIdle, knows}
 use Rattle.model.specs.Ports.{isTarget, knowsTarget, portAnswer, portPorts, vmOn, fillAnswer, fillCache, fillHand}
-use Rattle.model.specs.Step.{portControl, fillRoute, fillControl, emptyControl}
+use Rattle.model.specs.Step.{fillRoute, answerOf}
 use Rattle.model.specs.EarlyLaws.{past, hold}
 use Rattle.model.specs.ShapeLaws.{same-switched, same-filled, same-emptied}
 use Rattle.model.specs.Valid.{CacheGood, ValidTables}
-use Rattle.model.specs.Good.{Good}
-use Rattle.model.proofs.Refused.{decided-good}
+use Rattle.model.proofs.Refused.{AcceptedGood}
 use Rattle.model.proofs.RoutesKept.{cache-fill, cache-empty, slot-made, next-hand, ports-set}
 use Rattle.model.proofs.OneRoute.{GoodRoute, route-of, lengths-of, cache-route, ports-route, route-good}
 
@@ -53,14 +54,9 @@ port-kept side t v port target a =
     let g = route-of side t v in
     ports-route side t (route side t) _ g (ports-set (t .known) (route side t .ports) port (targetNumber target) (lengths-of side t v .ports) (a .port-ok) (a .target-ok) (g .ports))
 
-pub port-good : (side : Side) (t : Tables) → ValidTables t → (operation : Operation) (port : ℕ) (target : Target) → Good t operation (portControl side t port target)
-unfolding portControl
-port-good side t v operation port target =
-    decided-good t v operation _ _ _
-    (λ dropped word e.
-    route-good side t v operation _ _
-    (same-switched (route side t) port target)
-    (port-kept side t v port target (port-passed (t .known) port target e)))
+pub port-good : (side : Side) (t : Tables) → ValidTables t → (port : ℕ) (target : Target) {dropped word : ℕ} → answerOf t (op.On side (sided.GivePort port target)) ≡ Accepted dropped word → AcceptedGood t (op.On side (sided.GivePort port target))
+port-good side t v port target e =
+    route-good side t v _ _ _ (same-switched (route side t) port target) (port-kept side t v port target (port-passed (t .known) port target e))
 
 -- ---- a slot filled
 pub record FillPassed (ports walker : List ℕ) (port guest : ℕ) : Type 0 where
@@ -88,11 +84,9 @@ fill-cache : (cache : List ℕ) (hand : ℕ) (ports walker : List ℕ) (port gue
 unfolding fillCache
 fill-cache cache hand ports walker port guest a g =
     let vm = vmOn ports port in
-    let low = entryOf (lookup keyOf walker (key (vmOn ports port) guest)) in
-    let v : vmOn ports port < 256 = omega (arith, a .vm-ok) in
-    let l : entryOf (lookup keyOf walker (key (vmOn ports port) guest)) < 4294967296 = omega arith in
+    let f : WordFits (vmOn ports port) guest (entryOf (lookup keyOf walker (key (vmOn ports port) guest))) = record { vm-fits = omega (arith, a .vm-ok); guest-fits = a .guest-ok; low-fits = omega arith } in
     let s = slot-made walker port vm guest (a .port-ok) (a .vm-ok) (a .guest-ok) (a .walks) in
-    cache-fill walker cache g hand (slotKey port vm guest) _ s (word-key port vm guest low v (a .guest-ok) l (sym (word-filled port vm guest low v (a .guest-ok) l) ∙ s .filled))
+    cache-fill walker cache g hand (slotKey port vm guest) _ s (word-key port f (sym (word-filled port f) ∙ s .filled))
 
 fill-hand : (cache : List ℕ) (hand : ℕ) (ports : List ℕ) (port guest : ℕ) → hand < SLOTS → fillHand cache hand ports port guest < SLOTS
 unfolding fillHand
@@ -104,21 +98,14 @@ fill-kept side t v port guest a =
     let r = route side t in
     cache-route side t r _ _ g (fill-cache (r .cache) (r .hand) (r .ports) (r .walker) port guest a (g .cache)) (fill-hand (r .cache) (r .hand) (r .ports) port guest (g .hand))
 
-pub fill-good : (side : Side) (t : Tables) → ValidTables t → (operation : Operation) (port guest : ℕ) → Good t operation (fillControl side t port guest)
-unfolding fillControl
-fill-good side t v operation port guest =
-    decided-good t v operation _ _ _
-    (λ dropped word e.
-    route-good side t v operation _ _ (same-filled (route side t) port guest)
-    (fill-kept side t v port guest (fill-passed (route side t .ports) (route side t .walker) port guest e)))
+pub fill-good : (side : Side) (t : Tables) → ValidTables t → (port : ℕ) (guest : GuestPage) {dropped word : ℕ} → answerOf t (op.On side (sided.FillSlot port guest)) ≡ Accepted dropped word → AcceptedGood t (op.On side (sided.FillSlot port guest))
+fill-good side t v port guest e =
+    route-good side t v _ _ _ (same-filled (route side t) port (guest .0))
+    (fill-kept side t v port (guest .0) (fill-passed (route side t .ports) (route side t .walker) port (guest .0) e))
 
 -- ---- a slot emptied, whichever it is
-pub empty-good : (side : Side) (t : Tables) → ValidTables t → (operation : Operation) (slot : ℕ) → Good t operation (emptyControl side t slot)
-unfolding emptyControl
-empty-good side t v operation slot =
+pub empty-good : (side : Side) (t : Tables) → ValidTables t → (slot : ℕ) → AcceptedGood t (op.On side (sided.EmptySlot slot))
+empty-good side t v slot =
     let g = route-of side t v in
-    decided-good t v operation _ _ _
-    (λ dropped word e.
-    route-good side t v operation _ _
-    (same-emptied (route side t) slot)
-    (cache-route side t (route side t) _ _ g (cache-empty (route side t .walker) (route side t .cache) (g .cache) slot) (g .hand)))
+    route-good side t v _ _ _ (same-emptied (route side t) slot)
+    (cache-route side t (route side t) _ _ g (cache-empty (route side t .walker) (route side t .cache) (g .cache) slot) (g .hand))

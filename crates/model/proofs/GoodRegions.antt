@@ -9,21 +9,23 @@ use borrow.Author.Tests.{not-false}
 use Rattle.numbers.specs.CaseLaws.{cases, equal}
 use Rattle.numbers.specs.Limits.{VMS}
 use Rattle.numbers.specs.Packing.{pageOf, vmOf}
-use Rattle.numbers.specs.declared.Operation.{Operation}
+use Rattle.numbers.specs.declared.Answer.the-variants.{Accepted}
+use Rattle.numbers.specs.declared.Operation.the-variants as op
+use Rattle.numbers.specs.declared.SideOperation.the-variants as sided
 use Rattle.numbers.specs.declared.Side.{Side}
 use Rattle.numbers.specs.declared.Side.the-variants.{Cpu, Dma}
 use Rattle.table.specs.Table.{Has}
-use Rattle.units.specs.declared.Region.{Region}
-use Rattle.model.specs.State.{Tables, Route, route, withRoute, withSets}
+use Rattle.numbers.specs.declared.Region.{Region}
+use Rattle.model.specs.State.{Tables, Route, route, withRoute, withSide, withSets}
 use Rattle.model.specs.Views.{owns, claims, otherSide, targeted, butKey, edgeOn}
 use Rattle.model.specs.Effect.{clears, quiet}
 use Rattle.model.specs.Regions.{pageIn, keyIn, inUse, insertSets, removeSets, removeTable, removeClears, removeClearsFrom}
-use Rattle.model.specs.Step.{insertRoute, insertControl, removeRoute, removeControl}
+use Rattle.model.specs.Step.{insertRoute, removeRoute, answerOf}
 use Rattle.model.specs.Valid.{EntryGood, PairGood, ValidTables}
-use Rattle.model.specs.Good.{Good, holdsPage, PageIn}
+use Rattle.model.specs.Good.{holdsPage, PageIn}
 use Rattle.model.proofs.ViewLaws.{neither, no-edge-on}
-use Rattle.model.proofs.Refused.{quiet-good, decided-good}
-use Rattle.model.proofs.LedgerKept.{sets-valid, both-valid}
+use Rattle.model.proofs.Refused.{quiet-good, AcceptedGood}
+use Rattle.model.proofs.LedgerKept.{sets-valid, side-valid}
 use Rattle.model.proofs.RegionLaws.{InsertPassed, insert-passed, RemovePassed, remove-passed}
 use Rattle.model.proofs.EditedSets.{Changed, Ended, changed-or, other-differs, given-stays, given-holds, taken-ended, ended-free}
 use Rattle.model.proofs.RegionSets.{Turned, insert-sets, remove-sets}
@@ -34,7 +36,7 @@ route-sets : (side : Side) (t : Tables) (sets : List ℕ) → route side (withSe
 route-sets Cpu t sets = refl
 route-sets Dma t sets = refl
 
-sets-route : (side : Side) (t : Tables) (r : Route) (sets : List ℕ) → withRoute side (withSets t sets) r ≡ withSets (withRoute side t r) sets
+sets-route : (side : Side) (t : Tables) (r : Route) (sets : List ℕ) → withRoute side (withSets t sets) r ≡ withSide side t r sets
 sets-route Cpu t r sets = refl
 sets-route Dma t r sets = refl
 
@@ -42,9 +44,13 @@ route-with : (side : Side) (t : Tables) (r : Route) → route side (withRoute si
 route-with Cpu t r = refl
 route-with Dma t r = refl
 
-pairs-with : (side : Side) (t : Tables) (r : Route) → withRoute side t r .pairs ≡ t .pairs
-pairs-with Cpu t r = refl
-pairs-with Dma t r = refl
+pairs-with : (side : Side) (t : Tables) (r : Route) (sets : List ℕ) → withSide side t r sets .pairs ≡ t .pairs
+pairs-with Cpu t r sets = refl
+pairs-with Dma t r sets = refl
+
+sets-with : (side : Side) (t : Tables) (r : Route) (sets : List ℕ) → withSide side t r sets .sets ≡ sets
+sets-with Cpu t r sets = refl
+sets-with Dma t r sets = refl
 
 -- ---- 11 and 13: insert
 module _ (side : Side) (t : Tables) (v : ValidTables t) (region : Region) (p : InsertPassed side (t .known) (t .setup .pages) (t .sets) (route side t .map) region) where
@@ -69,21 +75,21 @@ module _ (side : Side) (t : Tables) (v : ValidTables t) (region : Region) (p : I
         pair = λ w other h e. stays (pageOf w) (e .page) Cpu other;
       })
 
-  insert-valid : ValidTables (withSets (withRoute side t (insertRoute (route side t) region)) inserted)
+  insert-valid : ValidTables (withSide side t (insertRoute (route side t) region) inserted)
   insert-valid =
       let same = route-sets side t inserted in
       rw (same, sets-route side t (insertRoute (route side t) region) inserted) at
       (insert-route side (withSets t inserted) settled region (p .early) (λ k h. taken .edited .inside (pageIn region k) (omega arith) (omega arith)) (rw same (p .absent)) (rw same (p .room)))
 
-pub insert-good : (side : Side) (t : Tables) → ValidTables t → (operation : Operation) (region : Region) → Good t operation (insertControl side t region)
-unfolding insertControl
-insert-good side t v operation region =
-    decided-good t v operation _ _ quiet
-    (λ dropped word e.
+pub insert-good : (side : Side) (t : Tables) → ValidTables t → (region : Region) {dropped word : ℕ} → answerOf t (op.On side (sided.InsertRegion region)) ≡ Accepted dropped word → AcceptedGood t (op.On side (sided.InsertRegion region))
+insert-good side t v region e =
     let p = insert-passed side (t .known) (t .setup .pages) (t .setup .units) (t .setup .unitCount) (t .sets) (route side t .map) region e in
-    quiet-good t operation _ _ (insert-valid side t v region p)
-    (λ vm page l b. given-holds side (region .vm .0) (region .page .0) (region .count) (t .sets) _ (taken side t v region p .edited) page (omega (arith, v .setup .most-pages)) vm)
-    (λ w h. inl (rw (pairs-with side t (insertRoute (route side t) region)) at h)))
+    let r = insertRoute (route side t) region in
+    quiet-good t _ _ _ (insert-valid side t v region p)
+    (λ vm page l b h.
+    rw (sets-with side t r (insertSets side (t .sets) region))
+    (given-holds side (region .vm .0) (region .page .0) (region .count) (t .sets) _ (taken side t v region p .edited) page (omega (arith, v .setup .most-pages)) vm h))
+    (λ w h. inl (rw (pairs-with side t r (insertSets side (t .sets) region)) at h))
 
 -- ---- 12 and 14: remove
 -- the pages that are cleared: the region's, but for those that the VM claims on the other side
@@ -150,9 +156,9 @@ module _ (side : Side) (t : Tables) (v : ValidTables t) (region : Region) (p : R
           let b : k < region .count = omega (arith, c .low, c .high) in
           absurd (no-edge-on (t .pairs) (pageIn region k) w (unused-edge side (t .pairs) (route side t .map) region k (c .of-side) (p .unused k b)) h (g .filled) (omega (arith, c .low)))
 
-  remove-valid : ValidTables (withSets (withRoute side t (removeRoute (route side t) region)) removed)
+  remove-valid : ValidTables (withSide side t (removeRoute (route side t) region) removed)
   remove-valid =
-      both-valid side t (removeRoute (route side t) region) removed (remove-route side t v region)
+      side-valid side t (removeRoute (route side t) region) removed (remove-route side t v region)
       (record { long = left .edited .lengths ∙ v .lengths .sets; good = left .good; shared = left .edited .shared; entry = entry-stays; pair = pair-stays })
 
   -- a page is cleared where the VM's last claim on it ended, and then nobody holds it
@@ -176,17 +182,16 @@ module _ (side : Side) (t : Tables) (v : ValidTables t) (region : Region) (p : R
           let e : pageIn region k ≡ page = omega (arith, d .low) in
           rw e at held
 
-pub remove-good : (side : Side) (t : Tables) → ValidTables t → (operation : Operation) (region : Region) → Good t operation (removeControl side t region)
-unfolding removeControl
-remove-good side t v operation region =
-    decided-good t v operation _ _ (clears (removeClears side (t .sets) region))
-    (λ dropped word e.
+pub remove-good : (side : Side) (t : Tables) → ValidTables t → (region : Region) {dropped word : ℕ} → answerOf t (op.On side (sided.RemoveRegion region)) ≡ Accepted dropped word → AcceptedGood t (op.On side (sided.RemoveRegion region))
+remove-good side t v region e =
     let p = remove-passed side (t .known) (t .setup .pages) (t .setup .units) (t .setup .unitCount) (t .sets) (t .pairs) (route side t .map) (route side t .cache) region e in
+    let r = removeRoute (route side t) region in
+    let same = sets-with side t r (removeSets side (t .sets) region) in
     record {
       valid = remove-valid side t v region p;
-      reach = λ vm page h. absurd h;
+      reach = λ bit vm page h. absurd h;
       still = λ h. absurd h;
-      wiped = λ vm page l b. remove-wiped side t v region p vm page b;
-      free = λ vm page l b. remove-free side t v region p vm page l b;
-      edges = λ w h. inl (rw (pairs-with side t (removeRoute (route side t) region)) at h);
-    })
+      wiped = λ vm page l b h n. remove-wiped side t v region p vm page b h (rw same at n);
+      free = λ vm page l b c h. remove-free side t v region p vm page l b c (rw same at h);
+      edges = λ w h. inl (rw (pairs-with side t r (removeSets side (t .sets) region)) at h);
+    }

@@ -11,7 +11,7 @@ use Rattle.numbers.specs.Packing.{filledOf, pageOf, vmOf, leftOf, rightOf}
 use Rattle.numbers.specs.declared.Side.{Side}
 use Rattle.numbers.specs.declared.Side.the-variants.{Cpu, Dma}
 use Rattle.table.specs.Table.{Has}
-use Rattle.model.specs.State.{Tables, Route, route, withRoute, withKnown, withSets, withPairs}
+use Rattle.model.specs.State.{Tables, Route, route, withRoute, withSide, withKnown, withSets, withPairs}
 use Rattle.model.specs.Views.{knows, inShared, owns, claims, shares, lentTo, mayMap}
 use Rattle.model.specs.Valid.{KnownGood, PagesGood, PairGood, PairsGood, EntryGood, PortsGood, ValidTables}
 use Rattle.model.proofs.ViewLaws.{AtEnd, may-own, may-lent}
@@ -93,9 +93,9 @@ sets-valid t v sets k =
         (λ l. may-lent side sets (t .pairs) (vmOf w) (pageOf w) (lent ∙ l))
 
 -- after an edit of a route
-pub both-valid : (side : Side) (t : Tables) (r : Route) (sets : List ℕ) → ValidTables (withRoute side t r) → SetsKept t sets (λ s. route s (withRoute side t r) .map) → ValidTables (withSets (withRoute side t r) sets)
-both-valid Cpu t r sets v k = sets-valid (withRoute Cpu t r) v sets (record { long = k .long; good = k .good; shared = k .shared; entry = k .entry; pair = k .pair })
-both-valid Dma t r sets v k = sets-valid (withRoute Dma t r) v sets (record { long = k .long; good = k .good; shared = k .shared; entry = k .entry; pair = k .pair })
+pub side-valid : (side : Side) (t : Tables) (r : Route) (sets : List ℕ) → ValidTables (withRoute side t r) → SetsKept t sets (λ s. route s (withRoute side t r) .map) → ValidTables (withSide side t r sets)
+side-valid Cpu t r sets v k = sets-valid (withRoute Cpu t r) v sets (record { long = k .long; good = k .good; shared = k .shared; entry = k .entry; pair = k .pair })
+side-valid Dma t r sets v k = sets-valid (withRoute Dma t r) v sets (record { long = k .long; good = k .good; shared = k .shared; entry = k .entry; pair = k .pair })
 
 -- ---- other pairs
 -- every CPU entry on a page that was lent may stay

@@ -22,8 +22,6 @@ pub mod GoodAccess
 pub mod GoodRegions
 pub mod Kept
 pub mod FullMaps
-pub mod Refusals
-pub mod RefusalOrder
 pub mod ExactLaws
 pub mod ExactViews
 pub mod ExactLedger
@@ -51,6 +49,3 @@ pub mod UpstreamRegionViews
 pub mod UpstreamRegionSets
 pub mod UpstreamRegions
 pub mod UpstreamSteps
-pub mod SecrecyWorked
-pub mod SecrecyNeeded
-pub mod SecrecySetWorked

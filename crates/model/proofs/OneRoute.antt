@@ -8,7 +8,7 @@ use Rattle.numbers.specs.declared.Answer.{Answer}
 use Rattle.numbers.specs.declared.Operation.{Operation}
 use Rattle.numbers.specs.declared.Side.{Side}
 use Rattle.numbers.specs.declared.Side.the-variants.{Cpu, Dma}
-use Rattle.model.specs.State.{Tables, Route, route, withRoute, withMaps, withCache, withPorts}
+use Rattle.model.specs.State.{Tables, Route, route, withRoute, withSide, withMaps, withCache, withPorts}
 use Rattle.model.specs.Effect.{quiet}
 use Rattle.model.specs.ShapeLaws.{SameRoute}
 use Rattle.model.specs.Valid.{RouteLengths, Lengths, CacheGood, PortsGood, RouteGood, ValidTables}
@@ -57,7 +57,8 @@ pub route-valid : (side : Side) (t : Tables) (r : Route) → ValidTables t → S
 route-valid Cpu t r v s g = record { lengths = lengths-with Cpu t r s (v .lengths); setup = v .setup; known = v .known; pages = v .pages; pairs = v .pairs; cpu = g; dma = v .dma }
 route-valid Dma t r v s g = record { lengths = lengths-with Dma t r s (v .lengths); setup = v .setup; known = v .known; pages = v .pages; pairs = v .pairs; cpu = v .cpu; dma = g }
 
+-- an operation that leaves the page sets and replaces one side's route
 pub route-good : (side : Side) (t : Tables) → ValidTables t → (operation : Operation) (answer : Answer) (r : Route) → SameRoute (route side t) r → GoodRoute side t r →
-    Good t operation (record { answer = answer; tables = withRoute side t r; effect = quiet })
+    Good t operation (record { answer = answer; tables = withSide side t r (t .sets); effect = quiet })
 route-good Cpu t v operation answer r s g = quiet-good t operation answer (withRoute Cpu t r) (route-valid Cpu t r v s g) (λ vm page l b h. h) (λ w h. inl h)
 route-good Dma t v operation answer r s g = quiet-good t operation answer (withRoute Dma t r) (route-valid Dma t r v s g) (λ vm page l b h. h) (λ w h. inl h)

@@ -14,10 +14,10 @@ use Rattle.table.specs.Scan.{lowest}
 use Rattle.table.specs.ScanLaws.{lowest-none}
 use Rattle.table.specs.Table.{freeEntries, roomFor}
 use Rattle.units.specs.Units.{assignable}
-use Rattle.units.specs.declared.Region.{Region}
+use Rattle.numbers.specs.declared.Region.{Region}
 use Rattle.units.specs.declared.Unit.{Unit}
 use Rattle.model.specs.EarlyLaws.{past, then-passed, RegionPassed, region-passed}
-use Rattle.model.specs.Regions.{clash, regionEarly, notFree, present, claimed, insertAnswer, notHeld, differs, inUse, removeAnswer}
+use Rattle.model.specs.Regions.{clash, regionEarly, notFree, present, claimed, insertAnswer, notHeld, differs, inUse, removeMay, removeAnswer}
 
 -- no page of the region fails
 abbrev pub NoneFails : (ℕ → Bool) → Region → Type 0
@@ -55,9 +55,10 @@ pub record RemovePassed (side : Side) (known pages : ℕ) (sets pairs map : List
 
 pub remove-passed : (side : Side) (known pages : ℕ) (units : List Unit) (unitCount : ℕ) (sets pairs map cache : List ℕ) (region : Region) {dropped word : ℕ} →
     removeAnswer side known pages units unitCount sets pairs map cache region ≡ Accepted dropped word → RemovePassed side known pages sets pairs map region
-unfolding removeAnswer
+unfolding removeAnswer removeMay
 remove-passed side known pages units unitCount sets pairs map cache region e =
-    let (d, w, early, a) = then-passed (regionEarly known pages region) _ e in
+    let (n, r, may, _) = then-passed (removeMay side known pages units unitCount sets pairs map region) _ e in
+    let (d, w, early, a) = then-passed (regionEarly known pages region) _ may in
     let (b, c) = past (not (assignable units unitCount side region)) _ _ _ a in
     let (held, f) = clash-passed (notHeld side sets region) region PageNotHeld _ c in
     let (same, g) = clash-passed (differs map region) region MappingDiffers _ f in

@@ -10,7 +10,7 @@ use Rattle.numbers.specs.Limits.{PAGES, SETS, SET-WORDS}
 use Rattle.numbers.specs.declared.Side.{Side}
 use Rattle.numbers.specs.declared.Side.the-variants.{Cpu, Dma}
 use Rattle.table.specs.Scan.{repeat}
-use Rattle.units.specs.declared.Region.{Region}
+use Rattle.numbers.specs.declared.Region.{Region}
 use Rattle.model.specs.Views.{claims, claimedElsewhere, inPool, inShared}
 use Rattle.model.specs.Regions.{pageIn, notFree, claimed, notHeld, insertPage, removePage, insertSets, removeSets}
 use Rattle.model.specs.EarlyLaws.{RegionPassed}

@@ -8,7 +8,7 @@ use native.Mathlib.Omega.{arith}
 use borrow.Author.Tests.{eq-eqb, ne-eqb, le-leb, lt-ltb}
 use Rattle.numbers.specs.CaseLaws.{equal}
 use Rattle.numbers.specs.Limits.{PAGES, GUEST-PAGES}
-use Rattle.numbers.specs.Packing.{keyOf, vmOf, guestOf, filledOf, pageOf, slotKey}
+use Rattle.numbers.specs.Packing.{keyOf, vmOf, guestOf, filledOf, pageOf, slotKey, VM-FIELD, GUEST-FIELD}
 use Rattle.numbers.specs.PackingLaws.{key-same, key-vm, key-guest}
 use Rattle.numbers.specs.declared.Side.{Side}
 use Rattle.table.specs.ScanLaws.{has-wipe-inv}
@@ -16,7 +16,7 @@ use Rattle.table.specs.Table.{Has, isFound, wordAt, freeEntries, find, lookup, 
 use Rattle.table.specs.TableLaws.{lookup-nothing, lookup-put-other, place-room, free-put-new}
 use Rattle.table.specs.declared.Found.{Found}
 use Rattle.table.specs.declared.Found.the-variants.{At, Nothing}
-use Rattle.units.specs.declared.Region.{Region}
+use Rattle.numbers.specs.declared.Region.{Region}
 use Rattle.model.specs.State.{Tables, route, withRoute}
 use Rattle.model.specs.Views.{claims, targeted, butKey}
 use Rattle.model.specs.EarlyLaws.{RegionPassed}
@@ -105,7 +105,7 @@ module _ (side : Side) (t : Tables) (v : ValidTables t) (region : Region) (early
 
 -- ---- remove
 -- a word of one of the region's keys is one that goes
-in-region : (region : Region) (k w : ℕ) → region .vm .0 < 256 → guestIn region k < 65536 → k < region .count → keyOf w ≡ keyIn region k → inRegion region w ≡ true
+in-region : (region : Region) (k w : ℕ) → region .vm .0 < VM-FIELD → guestIn region k < GUEST-FIELD → k < region .count → keyOf w ≡ keyIn region k → inRegion region w ≡ true
 in-region region k w v g h e =
     let q : keyOf w ≡ slotKey 0 (region .vm .0) (guestIn region k) = omega arith in
     let vm : vmOf w ≡ region .vm .0 = key-vm 0 (region .vm .0) (guestIn region k) w v g q in

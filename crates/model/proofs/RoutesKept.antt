@@ -11,7 +11,7 @@ use lib.Seq.{getD-set-same, getD-set-other}
 use borrow.Author.Tests.{eqb-false, ltb-true}
 use Rattle.numbers.specs.CaseLaws.{cases, equal}
 use Rattle.numbers.specs.Limits.{PAGES, VMS, GUEST-PAGES, ACCESSES, GENERATIONS, PORTS, SLOTS, IDLE}
-use Rattle.numbers.specs.Packing.{entryOf, filledOf, keyOf, addressOf, slotWord, mapWord, entry, key}
+use Rattle.numbers.specs.Packing.{entryOf, filledOf, keyOf, addressOf, slotWord, mapWord, entry, key, EntryFits, WordFits}
 use Rattle.numbers.specs.PackingLaws.{entry-fits, entry-filled, entry-page, word-port, word-page, word-vm, word-guest, word-entry, word-filled, word-address, key-whole, key-filled, address-filled, unported, unported-vm, unported-guest, unported-filled, unported-key}
 use Rattle.numbers.specs.declared.Side.{Side}
 use Rattle.table.specs.Scan.{wipe}
@@ -21,7 +21,7 @@ use Rattle.table.specs.TableLaws.{Alone, lookup-has, has-set-inv, distinct-set,
 use Rattle.table.specs.AgreeLaws.{Keyed, agree-free, agree-place, agree-put, agree-wipe, lookup-wipe}
 use Rattle.table.specs.declared.Found.{Found}
 use Rattle.table.specs.declared.Found.the-variants.{At, Nothing}
-use Rattle.units.specs.declared.Region.{Region}
+use Rattle.numbers.specs.declared.Region.{Region}
 use Rattle.model.specs.Views.{knows, mayMap}
 use Rattle.model.specs.Regions.{inRegion}
 use Rattle.model.specs.Ports.{fillPlace, nextHand}
@@ -32,17 +32,20 @@ module _ (vm guest page access generation : ℕ) (v : vm < VMS) (g : guest < GUE
   pub entry-key : keyOf (mapWord vm guest (entry page access generation)) ≡ key vm guest
   entry-key = omega arith
 
+  pub entry-ok : EntryFits page access generation
+  entry-ok = record { page-fits = omega arith; access-fits = a; generation-fits = n }
+
+  pub word-ok : WordFits vm guest (entry page access generation)
+  word-ok = record { vm-fits = omega arith; guest-fits = g; low-fits = entry-fits entry-ok }
+
   pub entry-made : (side : Side) (pages known : ℕ) (sets pairs : List ℕ) → page < pages → knows known vm ≡ true → mayMap side sets pairs vm page ≡ true →
       EntryGood side pages known sets pairs (mapWord vm guest (entry page access generation))
   entry-made side pages known sets pairs b k m =
-      let v′ : vm < 256 = omega arith in
-      let p′ : page < 4096 = omega arith in
-      let l = entry-fits page access generation p′ a n in
-      let vm-is = word-vm 0 vm guest (entry page access generation) v′ g l in
-      let page-is = word-page 0 vm guest (entry page access generation) v′ g l ∙ entry-page page access generation p′ a n in
+      let vm-is = word-vm 0 word-ok in
+      let page-is = word-page 0 word-ok ∙ entry-page entry-ok in
       record {
-        port = word-port 0 vm guest (entry page access generation) v′ g l;
-        filled = word-filled 0 vm guest (entry page access generation) v′ g l ∙ entry-filled page access generation p′ a n;
+        port = word-port 0 word-ok;
+        filled = word-filled 0 word-ok ∙ entry-filled entry-ok;
         page = rw page-is b;
         vm = rw vm-is k;
         may = rw (vm-is, page-is) m;
@@ -185,17 +188,12 @@ cache-erase walker cache k d g = cache-wipe-both walker cache g (hasKey keyOf k)
 module _ (walker : List ℕ) (port vm guest : ℕ) (p : port < PORTS) (v : vm < VMS) (h : guest < GUEST-PAGES) where
   slot-of : (w : ℕ) → lookup keyOf walker (key vm guest) ≡ w → keyOf w ≡ key vm guest → SlotGood walker (slotWord port vm guest (entryOf w))
   slot-of w e q =
-      let l : entryOf w < 4294967296 = omega arith in
-      let f : filledOf (entryOf w) ≡ 1 = omega arith in
-      let v′ : vm < 256 = omega arith in
+      let f : WordFits vm guest (entryOf w) = record { vm-fits = omega arith; guest-fits = h; low-fits = omega arith } in
+      let filled : filledOf (entryOf w) ≡ 1 = omega arith in
       record {
-        port = rw (word-port port vm guest (entryOf w) v′ h l) p;
-        filled = word-filled port vm guest (entryOf w) v′ h l ∙ f;
-        entry =
-            ap (lookup keyOf walker) (word-address port vm guest (entryOf w) v′ h l f)
-            ∙ e
-            ∙ sym (key-whole 0 vm guest w (omega arith))
-            ∙ rw (word-vm port vm guest (entryOf w) v′ h l, word-guest port vm guest (entryOf w) v′ h l, word-entry port vm guest (entryOf w) v′ h l);
+        port = rw (word-port port f) p;
+        filled = word-filled port f ∙ filled;
+        entry = ap (lookup keyOf walker) (word-address port f filled) ∙ e ∙ sym (key-whole 0 vm guest w (omega arith)) ∙ rw (word-vm port f, word-guest port f, word-entry port f);
       }
 
   pub slot-made : (lookup keyOf walker (key vm guest) ≡ 0 → ⊥) → SlotGood walker (slotWord port vm guest (entryOf (lookup keyOf walker (key vm guest))))

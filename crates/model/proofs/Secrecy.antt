@@ -1,7 +1,7 @@
 -- Demand 3 (docs/MACHINE.md, 12), for a set of VMs and for one: one row, a sequence, and what changes a private page.
 use Prim.Native.Nat.{ℕ, zero, suc, _≤_, _<_}
 use mathlib.Core.Bool.{Bool, true, false}
-use mathlib.Core.List.{List}
+use mathlib.Core.List.{List, [], _∷_}
 use mathlib.Core.Logic.{_⊎_, inl, inr, ⊎-elim}
 use mathlib.Core.Option.{Option, none, some}
 use mathlib.Core.Path.{_≡_, refl, sym, ap, subst, _∙_}
@@ -9,26 +9,29 @@ use native.Mathlib.Omega.{arith}
 use lib.Dec.{eqb}
 use lib.ListN.{length}
 use borrow.Author.Tests.{eqb-true, eq-eqb, ne-eqb}
+use Rattle.numbers.specs.CaseLaws.{none-some}
 use Rattle.numbers.specs.Limits.{PAGE-WORDS}
 use Rattle.numbers.specs.Packing.{leftOf, rightOf}
 use Rattle.numbers.specs.declared.Answer.{Answer}
 use Rattle.numbers.specs.declared.Answer.the-variants.{Accepted, Refused}
 use Rattle.numbers.specs.declared.Side.{Side}
-use Rattle.numbers.specs.declared.Side.the-variants.{Cpu, Dma}
+use Rattle.numbers.specs.declared.SideOperation.{SideOperation}
+use Rattle.numbers.specs.declared.SideOperation.the-variants as sided
 use Rattle.numbers.specs.declared.Operation.{Operation}
+use Rattle.numbers.specs.declared.Operation.the-variants as op
 use Rattle.model.specs.State.{Tables, State}
 use Rattle.model.specs.Effect.{wordIn, Place, Store, Effect, reads, writes, clears, clearedPages, apply, decided, Control}
-use Rattle.model.specs.Step.{Stepped, answerWith, step, writeControl, control}
+use Rattle.model.specs.Step.{Stepped, answerWith, step, control}
 use Rattle.model.specs.Sequence.{operationIn, stepKnown, stepRow, rowAt, Progress, after}
 use Rattle.model.specs.Valid.{ValidTables, Valid}
 use Rattle.model.specs.MemoryLaws.{length-applied}
 use Rattle.model.specs.ShapeLaws.{control-shape}
 use Rattle.model.specs.Good.{PlaceOn, Wrote}
-use Rattle.model.specs.Secrecy.{PrivateTo, Private, effectIn, SameButValue, equal, cpu-value, dma-value, Shared, withoutWord, NearStores, stop, same, other, Near, alike, stores, Seen, Alike, SameAnswer, Asked, Premise, StayAlike}
+use Rattle.model.specs.Secrecy.{PrivateTo, Private, effectIn, sideWithoutValue, withoutValue, withoutValueIn, Shared, withoutWord, NearStores, stop, same, other, Near, alike, stores, SecretAt, Seen, SameRead, Alike, SharesEqual, SameAnswer, Asked, Premise, StayAlike}
 use Rattle.model.proofs.Answers.{after-next}
 use Rattle.model.proofs.Kept.{good, row-valid, after-valid}
 use Rattle.model.proofs.EffectLaws.{inside, stored-over}
-use Rattle.model.proofs.Secret.{Sound, only-own, no-outsider, same-answer, same-words}
+use Rattle.model.proofs.Secret.{Sound, only-own, no-outsider, same-read, same-answer, same-words}
 
 sound : (t : Tables) → ValidTables t → (operation : Operation) → Sound t operation (control t operation)
 sound t v operation = record { good = good t v operation; inside = inside t operation; setup = control-shape t operation .setup }
@@ -38,19 +41,36 @@ pub record SameControl (c d : Control) : Type 0 where
   pub answer : c .answer ≡ d .answer
   pub tables : c .tables ≡ d .tables
 
-decided-alike : (t : Tables) (answer : Answer) (new : Tables) (effect effect′ : Effect) → SameControl (decided t answer new effect) (decided t answer new effect′)
-unfolding decided
-decided-alike t answer new effect effect′ = record { answer = refl; tables = refl }
+module _ (t : Tables) where
+  side-valueless : (side : Side) (operation : SideOperation) → SameControl (control t (op.On side operation)) (control t (op.On side (sideWithoutValue operation)))
+  unfolding control decided
+  side-valueless side (sided.MapPage vm guest page access generation) = record { answer = refl; tables = refl }
+  side-valueless side (sided.UnmapPage vm guest) = record { answer = refl; tables = refl }
+  side-valueless side (sided.InsertRegion region) = record { answer = refl; tables = refl }
+  side-valueless side (sided.RemoveRegion region) = record { answer = refl; tables = refl }
+  side-valueless side (sided.GivePort port target) = record { answer = refl; tables = refl }
+  side-valueless side (sided.FillSlot port guest) = record { answer = refl; tables = refl }
+  side-valueless side (sided.EmptySlot slot) = record { answer = refl; tables = refl }
+  side-valueless side (sided.ReadWord port guest word) = record { answer = refl; tables = refl }
+  side-valueless side (sided.WriteWord port guest word value) = record { answer = refl; tables = refl }
 
-write-blind : (side : Side) (t : Tables) (port guest word value value′ : ℕ) → SameControl (writeControl side t port guest word value) (writeControl side t port guest word value′)
-unfolding writeControl
-write-blind side t port guest word value value′ = decided-alike t _ _ _ _
+  valueless : (operation : Operation) → SameControl (control t operation) (control t (withoutValue operation))
+  valueless (op.AddVm vm) = record { answer = refl; tables = refl }
+  valueless (op.RemoveVm vm) = record { answer = refl; tables = refl }
+  valueless (op.AssignPage vm page) = record { answer = refl; tables = refl }
+  valueless (op.ReclaimPage vm page) = record { answer = refl; tables = refl }
+  valueless (op.SharePage left right page) = record { answer = refl; tables = refl }
+  valueless (op.UnsharePage left right page) = record { answer = refl; tables = refl }
+  valueless (op.On side operation) = side-valueless side operation
+  valueless op.DataBarrier = record { answer = refl; tables = refl }
+  valueless op.InstructionBarrier = record { answer = refl; tables = refl }
 
-pub blind : (t : Tables) (x y : Operation) → SameButValue (some x) (some y) → SameControl (control t x) (control t y)
-unfolding control
-blind t x y equal = record { answer = refl; tables = refl }
-blind t x y (cpu-value {port = port} {guest = guest} {word = word} {a = a} {b = b}) = write-blind Cpu t port (guest .0) word a b
-blind t x y (dma-value {port = port} {guest = guest} {word = word} {a = a} {b = b}) = write-blind Dma t port (guest .0) word a b
+  pub blind : (x y : Operation) → withoutValue x ≡ withoutValue y → SameControl (control t x) (control t y)
+  blind x y e =
+      record {
+        answer = valueless x .answer ∙ ap (λ (z : Operation). control t z .answer) e ∙ sym (valueless y .answer);
+        tables = valueless x .tables ∙ ap (λ (z : Operation). control t z .tables) e ∙ sym (valueless y .tables);
+      }
 
 -- ---- answers but for the word
 unread : (effect : Effect) (memory : List ℕ) (x : Answer) → withoutWord (answerWith effect memory x) ≡ withoutWord x
@@ -104,8 +124,9 @@ module _ (members : ℕ → Bool) (Secret : Tables → ℕ → Type 0) where
   abbrev pub ReadsNoSecret : Tables → Effect → Type 0
   ReadsNoSecret t effect = (vm : ℕ) (places : List Place) → effect ≡ reads vm places → members vm ≡ true → (page : ℕ) → PlaceOn page places → Secret t page → ⊥
 
-  unseen : (t : Tables) (effect : Effect) → ReadsNoSecret t effect → Seen members Secret t effect → ⊥
-  unseen t (reads vm places) n (m, (page, on, x)) = n vm places refl m page on x
+  unseen : (t : Tables) (effect : Effect) → ReadsNoSecret t effect → Seen members Secret t effect 0 → ⊥
+  unseen t (reads vm (x ∷ xs)) n (m, secret) = n vm (x ∷ xs) refl m (x .page) (inl refl) secret
+  unseen t (reads vm []) n (m, z) = z
   unseen t (writes vm xs) n z = z
   unseen t (clears pages) n z = z
 
@@ -133,11 +154,8 @@ module _ (members : ℕ → Bool) where
   abbrev BothAlike : Tables → Option Operation → Stepped → Stepped → Type 0
   BothAlike = StepAlike members (Private members)
 
-  abbrev SharesEqual : Tables → Option Operation → List ℕ → List ℕ → Type 0
-  SharesEqual t operation a b = (left right page word : ℕ) → Shared t operation left right page → members left ≡ true → members right ≡ false → word < PAGE-WORDS → wordIn a page word ≡ wordIn b page word
-
   module _ (t : Tables) (v : ValidTables t) (a b : List ℕ) (like : Alike members (Private members) (record { tables = t; memory = a }) (record { tables = t; memory = b })) where
-    operation-alike : (x y : Operation) → SameButValue (some x) (some y) → Near members (Private members) t (control t x .effect) (control t y .effect) → SharesEqual t (some x) a b →
+    operation-alike : (x y : Operation) → withoutValue x ≡ withoutValue y → Near members (Private members) t (control t x .effect) (control t y .effect) → SharesEqual members t (some x) a b →
         BothAlike t (some x) (step (record { tables = t; memory = a }) x) (step (record { tables = t; memory = b }) y)
     unfolding step
     operation-alike x y shape near shares =
@@ -151,7 +169,7 @@ module _ (members : ℕ → Bool) where
                 tables = decides .tables;
                 size = length-applied (c .effect) a ∙ like .size ∙ sym (length-applied (d .effect) b);
                 words = same-words members t v x (c .answer) (c .tables) a b (like .words)
-                    (λ left right page word share agreed. shares left right page word (record { share = rw share; agreed = rw share at agreed })) (like .size) s near;
+                    (λ left right page word share agreed. shares left right page word (record { share = share; agreed = agreed })) (like .size) s near;
               };
           answers =
               record {
@@ -161,10 +179,12 @@ module _ (members : ℕ → Bool) where
         }
 
     -- a row of no operation is refused in both
-    known-alike : (x y : Option Operation) → SameButValue x y → Near members (Private members) t (effectIn t x) (effectIn t y) → SharesEqual t x a b →
+    known-alike : (x y : Option Operation) → withoutValueIn x ≡ withoutValueIn y → Near members (Private members) t (effectIn t x) (effectIn t y) → SharesEqual members t x a b →
         BothAlike t x (stepKnown (record { tables = t; memory = a }) x) (stepKnown (record { tables = t; memory = b }) y)
     known-alike none none shape near shares = record { states = like; answers = record { but-word = refl; whole = λ n. refl } }
-    known-alike (some x) (some y) shape near shares = operation-alike x y shape near shares
+    known-alike (some x) (some y) shape near shares = operation-alike x y (cc shape) near shares
+    known-alike none (some y) shape near shares = absurd (none-some shape)
+    known-alike (some x) none shape near shares = absurd (none-some (sym shape))
 
   pub secret-step : (s s′ : State) (row row′ : List ℕ) → Valid s → Alike members (Private members) s s′ → Asked members (Private members) s s′ row row′ →
       BothAlike (s .tables) (operationIn row) (stepRow s row) (stepRow s′ row′)
@@ -172,6 +192,16 @@ module _ (members : ℕ → Bool) where
   secret-step s s′ row row′ v like asked =
       subst (λ (t : Tables). Alike members (Private members) s (record { tables = t; memory = s′ .memory }) → BothAlike (s .tables) (operationIn row) (stepRow s row) (stepRow (record { tables = t; memory = s′ .memory }) row′))
       (like .tables) (λ l. known-alike (s .tables) (v .tables) (s .memory) (s′ .memory) l (operationIn row) (operationIn row′) (asked .differ .shape) (asked .differ .near) (asked .shares-equal)) like
+
+  -- what a row reads, place by place
+  pub secret-read : (s s′ : State) (row : List ℕ) → Valid s → Alike members (Private members) s s′ → SameRead members (Private members) (s .tables) (effectIn (s .tables) (operationIn row)) (s .memory) (s′ .memory)
+  secret-read s s′ row v like = go (operationIn row)
+    where
+      go : (found : Option Operation) → SameRead members (Private members) (s .tables) (effectIn (s .tables) found) (s .memory) (s′ .memory)
+      go none k n = refl
+      go (some x) k n =
+          let c = control (s .tables) x in
+          same-read members (s .tables) (v .tables) x (c .answer) (c .tables) (s .memory) (s′ .memory) (like .words) (c .effect) (sound (s .tables) (v .tables) x) k n
 
   -- ---- a sequence, after every row
   pub secrecy : (p q : Progress) (rows rows′ : List ℕ) (count : ℕ) → Valid (p .state) → Alike members (Private members) (p .state) (q .state) →
@@ -238,16 +268,21 @@ module _ (members : ℕ → Bool) (P Q : Tables → ℕ → Type 0) (gives : (t 
   near-as t v alike = alike
   near-as t v (stores {vm = vm} near) = stores (stores-as t v vm near)
 
-  seen-as : (t : Tables) → ValidTables t → (effect : Effect) → Seen members P t effect → Seen members Q t effect
-  seen-as t v (reads vm places) (m, (page, on, x)) = (m, (page, on, gives t v page x))
-  seen-as t v (writes vm xs) z = z
-  seen-as t v (clears pages) z = z
+  secret-as : (t : Tables) → ValidTables t → (places : List Place) (k : ℕ) → SecretAt (P t) places k → SecretAt (Q t) places k
+  secret-as t v [] k z = z
+  secret-as t v (x ∷ xs) zero secret = gives t v (x .page) secret
+  secret-as t v (x ∷ xs) (suc k) secret = secret-as t v xs k secret
+
+  seen-as : (t : Tables) → ValidTables t → (effect : Effect) (k : ℕ) → Seen members P t effect k → Seen members Q t effect k
+  seen-as t v (reads vm places) k (m, secret) = (m, secret-as t v places k secret)
+  seen-as t v (writes vm xs) k z = z
+  seen-as t v (clears pages) k z = z
 
   asked-as : (s s′ : State) (row row′ : List ℕ) → Valid s → Asked members P s s′ row row′ → Asked members Q s s′ row row′
   asked-as s s′ row row′ v a = record { differ = record { shape = a .differ .shape; near = near-as (s .tables) (v .tables) (a .differ .near) }; shares-equal = a .shares-equal }
 
   answer-as : (t : Tables) → ValidTables t → (found : Option Operation) (x y : Answer) → SameAnswer members P t found x y → SameAnswer members Q t found x y
-  answer-as t v found x y a = record { but-word = a .but-word; whole = λ n. a .whole (λ seen. n (seen-as t v (effectIn t found) seen)) }
+  answer-as t v found x y a = record { but-word = a .but-word; whole = λ n. a .whole (λ seen. n (seen-as t v (effectIn t found) 0 seen)) }
 
   premise-as : (p q : Progress) (rows rows′ : List ℕ) (count : ℕ) → Valid (p .state) → Premise members P p q rows rows′ count → Premise members Q p q rows rows′ count
   premise-as p q rows rows′ count v asked k h = asked-as _ _ _ _ (after-valid rows k p v) (asked k h)
@@ -271,7 +306,7 @@ module _ (vm : ℕ) where
         unshared = λ w h on. let both = p .inside w h on in v .pairs .each w h .apart (sym (eqb-true vm (leftOf w) (both .0)) ∙ eqb-true vm (rightOf w) (both .1));
       }
 
-  set-of : (t : Tables) → ValidTables t → (page : ℕ) → PrivateTo vm t page → Private (eqb vm) t page
+  pub set-of : (t : Tables) → ValidTables t → (page : ℕ) → PrivateTo vm t page → Private (eqb vm) t page
   set-of t v page p =
       record { holder = vm; member = eq-eqb vm vm refl; holder-ok = p .vm-ok; page-ok = p .page-ok; held = p .held; inside = λ w h on. absurd (p .unshared w h on) }
 

@@ -14,15 +14,12 @@ use Rattle.numbers.specs.declared.Answer.the-variants.{Accepted, Refused}
 use Rattle.model.specs.State.{Tables, State}
 use Rattle.model.specs.Effect.{accepted, kept}
 use Rattle.model.specs.EarlyLaws.{never-both}
-use Rattle.model.specs.Sequence.{Progress, Sequenced, rowAt, operationIn, rowCount, after, shapeAnswer, sequence}
+use Rattle.model.specs.Sequence.{Progress, Sequenced, rowAt, operationIn, rowCount, after, shapeAnswer, sequence, beginning}
 use Rattle.model.specs.Valid.{Valid}
 use Rattle.model.specs.Entries.{valid, not-valid, sequenceRefused, JudgedSequence}
 use Rattle.model.specs.Secrecy.{PrivateTo, Private, effectIn, withoutWord, Seen, Alike, Premise, StayAlike}
 use Rattle.model.proofs.Answers.{roomy, answerTo, answer-row, room-kept}
 use Rattle.model.proofs.Secrecy.{secrecy, secrecy-one}
-
-abbrev pub begun : State → List ℕ → Progress
-begun s room = record { state = s; room = room }
 
 -- ---- what the entry judges is the same in both calls
 pub valid-as : (s s′ : State) → s .tables ≡ s′ .tables → length (s .memory) ≡ length (s′ .memory) → Valid s → Valid s′
@@ -53,7 +50,7 @@ module _ (members : ℕ → Bool) (Secret : Tables → ℕ → Type 0) where
     pub numbers : result .answer ≡ accepted → (k i : ℕ) → k < rowCount rows → i < 3 →
         getD (result .progress .room) (k * ANSWER-NUMBERS + i) 0 ≡ getD (result′ .progress .room) (k * ANSWER-NUMBERS + i) 0
     pub words : result .answer ≡ accepted → (k i : ℕ) → k < rowCount rows → i < ANSWER-NUMBERS →
-        (Seen members Secret (after rows k (begun s room) .state .tables) (effectIn (after rows k (begun s room) .state .tables) (operationIn (rowAt rows k))) → ⊥) →
+        (Seen members Secret (after rows k (beginning s room) .state .tables) (effectIn (after rows k (beginning s room) .state .tables) (operationIn (rowAt rows k))) 0 → ⊥) →
         getD (result .progress .room) (k * ANSWER-NUMBERS + i) 0 ≡ getD (result′ .progress .room) (k * ANSWER-NUMBERS + i) 0
     -- a number of the rooms that is no answer's is equal where it was
     pub rest : (j : ℕ) → (result .answer ≡ accepted → rowCount rows * ANSWER-NUMBERS ≤ j) → getD room j 0 ≡ getD room′ j 0 → getD (result .progress .room) j 0 ≡ getD (result′ .progress .room) j 0
@@ -61,10 +58,10 @@ module _ (members : ℕ → Bool) (Secret : Tables → ℕ → Type 0) where
   module _
       (s s′ : State) (rows rows′ room room′ : List ℕ) (like : Alike members Secret s s′) (same : length rows ≡ length rows′) (roomSame : length room ≡ length room′) where
     abbrev p : Progress
-    p = begun s room
+    p = beginning s room
 
     abbrev p′ : Progress
-    p′ = begun s′ room′
+    p′ = beginning s′ room′
 
     agreed : shapeAnswer rows room ≡ shapeAnswer rows′ room′
     agreed = shape-as rows rows′ room room′ same roomSame
@@ -119,16 +116,16 @@ module _ (members : ℕ → Bool) (Secret : Tables → ℕ → Type 0) where
 pub secrecy-calls : (members : ℕ → Bool) (s s′ : State) (rows rows′ room room′ : List ℕ) (result result′ : Sequenced) →
     JudgedSequence s rows room result → JudgedSequence s′ rows′ room′ result′ →
     Alike members (Private members) s s′ → length rows ≡ length rows′ → length room ≡ length room′ →
-    (result .answer ≡ accepted → Premise members (Private members) (begun s room) (begun s′ room′) rows rows′ (rowCount rows)) → CallsAlike members (Private members) s rows room room′ result result′
+    (result .answer ≡ accepted → Premise members (Private members) (beginning s room) (beginning s′ room′) rows rows′ (rowCount rows)) → CallsAlike members (Private members) s rows room room′ result result′
 secrecy-calls members s s′ rows rows′ room room′ result result′ j j′ like same roomSame asked =
     two-calls members (Private members) s s′ rows rows′ room room′ like same roomSame result result′ j j′
-    (λ v a. secrecy members (begun s room) (begun s′ room′) rows rows′ (rowCount rows) v like (asked a))
+    (λ v a. secrecy members (beginning s room) (beginning s′ room′) rows rows′ (rowCount rows) v like (asked a))
 
 -- ---- one VM
 pub secrecy-calls-one : (vm : ℕ) (s s′ : State) (rows rows′ room room′ : List ℕ) (result result′ : Sequenced) →
     JudgedSequence s rows room result → JudgedSequence s′ rows′ room′ result′ →
     Alike (eqb vm) (PrivateTo vm) s s′ → length rows ≡ length rows′ → length room ≡ length room′ →
-    (result .answer ≡ accepted → Premise (eqb vm) (PrivateTo vm) (begun s room) (begun s′ room′) rows rows′ (rowCount rows)) → CallsAlike (eqb vm) (PrivateTo vm) s rows room room′ result result′
+    (result .answer ≡ accepted → Premise (eqb vm) (PrivateTo vm) (beginning s room) (beginning s′ room′) rows rows′ (rowCount rows)) → CallsAlike (eqb vm) (PrivateTo vm) s rows room room′ result result′
 secrecy-calls-one vm s s′ rows rows′ room room′ result result′ j j′ like same roomSame asked =
     two-calls (eqb vm) (PrivateTo vm) s s′ rows rows′ room room′ like same roomSame result result′ j j′
-    (λ v a. secrecy-one vm (begun s room) (begun s′ room′) rows rows′ (rowCount rows) v like (asked a))
+    (λ v a. secrecy-one vm (beginning s room) (beginning s′ room′) rows rows′ (rowCount rows) v like (asked a))

@@ -1,29 +1,28 @@
 -- Secrecy of one step, from valid tables and what the step owes: who reaches a private page is a member, two memories that
 -- agree outside the private pages still do, and a word of a page that stays private changes only by a member's own write.
 use Prim.{tt}
-use Prim.Native.Nat.{ℕ, _<_}
+use Prim.Native.Nat.{ℕ, zero, suc, _<_}
 use mathlib.Core.Bool.{Bool, true, false, true≢false}
 use mathlib.Core.List.{List, [], _∷_}
 use mathlib.Core.Logic.{_⊎_, inl, inr, ⊎-elim}
+use mathlib.Core.Option.{some}
 use mathlib.Core.Path.{_≡_, refl, sym, _∙_}
-use lib.ListN.{length, length-set, getD}
+use lib.ListN.{length, length-set}
 use Rattle.numbers.specs.CaseLaws.{cases, equal}
-use Rattle.numbers.specs.Limits.{VMS, PAGE-WORDS}
+use Rattle.numbers.specs.Limits.{VMS, PAGE-WORDS, READ, WRITE}
 use Rattle.numbers.specs.Packing.{leftOf, rightOf, pageOf}
 use Rattle.numbers.specs.declared.Answer.{Answer}
 use Rattle.numbers.specs.declared.Answer.the-variants.{Accepted, Refused}
 use Rattle.numbers.specs.declared.Operation.{Operation}
-use Rattle.numbers.specs.declared.Operation.the-variants.{SharePage}
 use Rattle.table.specs.Table.{Has}
 use Rattle.model.specs.State.{Tables}
 use Rattle.model.specs.Effect.{wordIn, Place, Store, Effect, reads, writes, clears, stored, loaded, apply, Control, accepted}
-use Rattle.model.specs.Sequence.{vmId, physPage}
 use Rattle.model.specs.Step.{answerWith}
 use Rattle.model.specs.KnownLaws.{knows-below}
 use Rattle.model.specs.Valid.{ValidTables}
-use Rattle.model.specs.Good.{holdsPage, PlaceOn, PageIn, Wrote, Way, own, lent, span, Reaches, Made, Good}
+use Rattle.model.specs.Good.{holdsPage, PlaceOn, PageIn, Wrote, Way, own, lent, span, MayReach, sharing, Made, Good}
 use Rattle.model.specs.MemoryLaws.{store-elsewhere, store-both}
-use Rattle.model.specs.Secrecy.{Private, NearStores, stop, same, other, Near, alike, stores, Seen}
+use Rattle.model.specs.Secrecy.{Private, NearStores, stop, same, other, Near, alike, stores, Seen, SameRead}
 use Rattle.model.proofs.ViewLaws.{shares-lends}
 use Rattle.model.proofs.PagesKept.{one-holder, span-unheld}
 use Rattle.model.proofs.EffectLaws.{Inside, PlacesInside, StoresInside, store-on, listed, stored-or-same, uncleared-same, cleared-agrees}
@@ -54,7 +53,7 @@ module _ (members : ℕ → Bool) (t : Tables) (vm : ℕ) where
 -- ---- a step from valid tables
 module _ (members : ℕ → Bool) (t : Tables) (v : ValidTables t) where
   -- who reaches a private page is a member
-  pub confined : (vm page : ℕ) → Private members t page → Reaches t vm page → members vm ≡ true
+  pub confined : (vm page : ℕ) → Private members t page → MayReach t vm page → members vm ≡ true
   confined vm page p r = go (r .way)
     where
       go : Way t vm page → members vm ≡ true
@@ -75,33 +74,38 @@ module _ (members : ℕ → Bool) (t : Tables) (v : ValidTables t) where
     unfolding apply
     only-own (reads vm places) s memory page word h p p′ = inl refl
     only-own (writes vm xs) s memory page word h p p′ =
-        ⊎-elim inl (λ o. inr (vm, confined vm page p (s .good .reach vm page (refl, store-on page word xs o)), (refl, o))) (stored-or-same page word h xs memory (s .inside))
+        ⊎-elim inl (λ o. inr (vm, confined vm page p (s .good .reach WRITE vm page (refl, refl, store-on page word xs o) .may), (refl, o))) (stored-or-same page word h xs memory (s .inside))
     only-own (clears pages) s memory page word h p p′ =
         inl (uncleared-same page word h pages memory (λ c. s .good .free (p′ .holder) page (p′ .holder-ok) (p .page-ok) c (p′ .held)))
 
     -- and no effect writes a word of a private page for a VM outside
     pub no-outsider : (effect : Effect) → SoundWith effect → (vm page word : ℕ) → Private members t page → members vm ≡ false → Wrote effect vm page word → ⊥
     no-outsider (reads w places) s vm page word p outside z = z
-    no-outsider (writes w xs) s vm page word p outside (e, o) = true≢false (sym (confined vm page p (s .good .reach vm page (e, store-on page word xs o))) ∙ outside)
+    no-outsider (writes w xs) s vm page word p outside (e, o) = true≢false (sym (confined vm page p (s .good .reach WRITE vm page (refl, e, store-on page word xs o) .may)) ∙ outside)
     no-outsider (clears pages) s vm page word p outside z = z
 
     -- ---- two memories that agree outside the private pages
     module _ (a b : List ℕ) (words : (page word : ℕ) → word < PAGE-WORDS → (Private members t page → ⊥) → wordIn a page word ≡ wordIn b page word) where
-      -- answer alike where no member reads a private page
-      first-word : (vm : ℕ) (places : List Place) → ((page : ℕ) → PlaceOn page places → Reaches t vm page) → PlacesInside places → (Seen members (Private members) t (reads vm places) → ⊥) →
-          getD (loaded places a) 0 0 ≡ getD (loaded places b) 0 0
+      -- give a read equal words but at the places where a member reads a private page
+      words-same : (vm : ℕ) (places : List Place) → ((page : ℕ) → PlaceOn page places → MayReach t vm page) → PlacesInside places → SameRead members (Private members) t (reads vm places) a b
       unfolding loaded
-      first-word vm [] r i n = refl
-      first-word vm (x ∷ xs) r i n = words (x .page) (x .word) (i .0) (λ p. n (confined vm (x .page) p (r (x .page) (inl refl)), (x .page, inl refl, p)))
+      words-same vm [] r i k n = refl
+      words-same vm (x ∷ xs) r i zero n = words (x .page) (x .word) (i .0) (λ p. n (confined vm (x .page) p (r (x .page) (inl refl)), p))
+      words-same vm (x ∷ xs) r i (suc k) n = words-same vm xs (λ page o. r page (inr o)) (i .1) k n
 
-      pub same-answer : (effect : Effect) → SoundWith effect → (Seen members (Private members) t effect → ⊥) → (x : Answer) → answerWith effect a x ≡ answerWith effect b x
-      same-answer (reads vm places) s n (Accepted dropped word) = rw (first-word vm places (λ page o. s .good .reach vm page (refl, o)) (s .inside) n)
+      pub same-read : (effect : Effect) → SoundWith effect → SameRead members (Private members) t effect a b
+      same-read (reads vm places) s k n = words-same vm places (λ page o. s .good .reach READ vm page (refl, refl, o) .may) (s .inside) k n
+      same-read (writes vm xs) s k n = refl
+      same-read (clears pages) s k n = refl
+
+      pub same-answer : (effect : Effect) → SoundWith effect → (Seen members (Private members) t effect 0 → ⊥) → (x : Answer) → answerWith effect a x ≡ answerWith effect b x
+      same-answer (reads vm places) s n (Accepted dropped word) = rw (same-read (reads vm places) s 0 n)
       same-answer (reads vm places) s n (Refused refusal index) = refl
       same-answer (writes vm xs) s n x = refl
       same-answer (clears pages) s n x = refl
 
       -- a page that was not cleared stays private, unless a member shares it with a VM outside
-      module _ (shown : (left right page word : ℕ) → operation ≡ SharePage (vmId left) (vmId right) (physPage page) → answer ≡ accepted → members left ≡ true → members right ≡ false → word < PAGE-WORDS → wordIn a page word ≡ wordIn b page word) where
+      module _ (shown : (left right page word : ℕ) → sharing operation ≡ some (record { left = left; right = right; page = page }) → answer ≡ accepted → members left ≡ true → members right ≡ false → word < PAGE-WORDS → wordIn a page word ≡ wordIn b page word) where
         stays-private : (pages : List ℕ) → SoundWith (clears pages) → (page word : ℕ) → word < PAGE-WORDS → (wordIn a page word ≡ wordIn b page word → ⊥) → (PageIn page pages → ⊥) → Private members t page → Private members new page
         stays-private pages s page word h differ uncleared p =
             record {

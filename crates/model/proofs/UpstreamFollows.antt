@@ -5,11 +5,13 @@ use mathlib.Core.Option.{Option}
 use mathlib.Core.Path.{_≡_, refl}
 use Rattle.numbers.specs.declared.Answer.{Answer}
 use Rattle.numbers.specs.declared.Answer.the-variants.{Accepted, Refused}
+use Rattle.numbers.specs.declared.Operation.{Operation}
 use Rattle.model.specs.State.{Tables, Setup, State}
 use Rattle.model.specs.Effect.{Effect, decided, apply, clearedPages}
+use Rattle.model.specs.Step.{nextOf, effectOf}
 use Rattle.model.specs.Upstream.{PageSets, SameSets, SoftwareView, HardwareView, SameSoftware, SameHardware}
 use Rattle.model.specs.UpstreamStep.{withActive, withMemory}
-use Rattle.model.specs.UpstreamRun.{SoftwareCall, HardwareCall, SoftwareStep, HardwareStep, SoftwareRun, HardwareRun, stop, go, Follows, FollowsControl}
+use Rattle.model.specs.UpstreamRun.{SoftwareCall, HardwareCall, SoftwareStep, HardwareStep, SoftwareRun, HardwareRun, stop, go, softwareCalls, hardwareCalls, Follows, FollowsControl}
 
 pub same-sets : (a : PageSets) → SameSets a a
 same-sets a = record { vms = λ vm v. refl; pages = λ vm page v h e. refl }
@@ -50,7 +52,13 @@ software-once x = go x (stop (same-software _))
 pub hardware-once : {call : HardwareCall} {a b : HardwareView} → HardwareStep call a b → HardwareRun (call ∷ []) a b
 hardware-once x = go x (stop (same-hardware _))
 
--- what an accepted operation leaves is all that is asked for
+-- what an accepted operation owes: its steps lead to the tables and the memory that it leaves
+abbrev pub AcceptedFollows : State → Operation → Type 0
+AcceptedFollows s operation =
+    Follows s (record { tables = nextOf (s .tables) operation; memory = apply (effectOf (s .tables) operation) (s .memory) }) (softwareCalls (s .tables) operation)
+    (hardwareCalls (s .tables) operation)
+
+-- and that is all that is asked for: a refused one takes no step
 pub decided-follows : (s : State) (answer : Answer) (new : Tables) (effect : Effect) (software : List SoftwareCall) (hardware : List HardwareCall) →
     ((dropped word : ℕ) → answer ≡ Accepted dropped word → Follows s (record { tables = new; memory = apply effect (s .memory) }) software hardware) →
     FollowsControl s (decided (s .tables) answer new effect) software hardware

@@ -11,7 +11,7 @@ use lib.ListN.{getD}
 use borrow.Author.Tests.{eqb-true, eqb-false, eq-eqb, ne-eqb, not-true}
 use Rattle.numbers.specs.CaseLaws.{cases, equal}
 use Rattle.numbers.specs.Limits.{VMS, GUEST-PAGES, PAGES, ACCESSES, READ, WRITE}
-use Rattle.numbers.specs.Packing.{key, keyOf, slotKey, addressOf, pairKey, portOf, vmOf, guestOf, entryOf, filledOf, pageOf, accessOf, generationOf}
+use Rattle.numbers.specs.Packing.{key, keyOf, slotKey, addressOf, pairKey, portOf, vmOf, guestOf, entryOf, filledOf, pageOf, accessOf, generationOf, VM-FIELD, GUEST-FIELD, PAGE-FIELD}
 use Rattle.numbers.specs.PackingLaws.{pair-either, pair-same, key-same}
 use Rattle.table.specs.ScanLaws.{found-never}
 use Rattle.table.specs.Table.{find, lookup, place, put, erase, isFound, wordAt, Has}
@@ -101,7 +101,7 @@ key-parts w f =
     omega arith
 
 -- two slot keys are one where their three parts are
-pub slot-key-same : (port vm gpa port′ vm′ gpa′ : ℕ) → vm < 256 → vm′ < 256 → gpa < GUEST-PAGES → gpa′ < GUEST-PAGES → slotKey port vm gpa ≡ slotKey port′ vm′ gpa′ →
+pub slot-key-same : (port vm gpa port′ vm′ gpa′ : ℕ) → vm < VM-FIELD → vm′ < VM-FIELD → gpa < GUEST-PAGES → gpa′ < GUEST-PAGES → slotKey port vm gpa ≡ slotKey port′ vm′ gpa′ →
     (port ≡ port′) × (vm ≡ vm′) × (gpa ≡ gpa′)
 slot-key-same port vm gpa port′ vm′ gpa′ v v′ g g′ e =
     let a : (port * 256 + vm) * 65536 + gpa ≡ (port′ * 256 + vm′) * 65536 + gpa′ = omega arith in
@@ -113,7 +113,7 @@ slot-key-same port vm gpa port′ vm′ gpa′ v v′ g g′ e =
 abbrev pub SamePair : ℕ → ℕ → ℕ → ℕ → ℕ → ℕ → Type 0
 SamePair left right page l r p = ((left ≡ l) × (right ≡ r) × (page ≡ p)) ⊎ ((left ≡ r) × (right ≡ l) × (page ≡ p))
 
-pub pair-ends : (left right page l r p : ℕ) → left < 65536 → right < 65536 → page < 4096 → l < 65536 → r < 65536 → p < 4096 → pairKey left right page ≡ pairKey l r p →
+pub pair-ends : (left right page l r p : ℕ) → left < GUEST-FIELD → right < GUEST-FIELD → page < PAGE-FIELD → l < GUEST-FIELD → r < GUEST-FIELD → p < PAGE-FIELD → pairKey left right page ≡ pairKey l r p →
     SamePair left right page l r p
 pair-ends left right page l r p a b c a′ b′ c′ e =
     let (same, low, high) = pair-same left right page l r p a b c a′ b′ c′ e in
@@ -206,7 +206,7 @@ key-test vm gpa v g h h′ = ⊎-elim same other (equal (key vm gpa) (key v g))
         rw (ne-eqb (key vm gpa) (key v g) n)
         (not-so _ (λ t. let q = both (eqb v vm) (eqb g gpa) t in n (rw (eqb-true v vm (q .0), eqb-true g gpa (q .1)))))
 
-pub slot-key-test : (port vm gpa p v g : ℕ) → vm < 256 → v < 256 → gpa < GUEST-PAGES → g < GUEST-PAGES →
+pub slot-key-test : (port vm gpa p v g : ℕ) → vm < VM-FIELD → v < VM-FIELD → gpa < GUEST-PAGES → g < GUEST-PAGES →
     (eqb p port && (eqb v vm && eqb g gpa)) ≡ eqb (slotKey port vm gpa) (slotKey p v g)
 slot-key-test port vm gpa p v g l l′ h h′ = ⊎-elim same other (equal (slotKey port vm gpa) (slotKey p v g))
   where

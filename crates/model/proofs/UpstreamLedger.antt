@@ -1,7 +1,7 @@
 -- Operations 1 to 6 are upstream's steps: VMs, ownership and sharing.
 use Prim.Native.Nat.{ℕ, _<_}
 use mathlib.Core.Bool.{Bool, true, false, not, _||_, true≢false}
-use mathlib.Core.List.{List, [], _∷_}
+use mathlib.Core.List.{List}
 use mathlib.Core.Logic.{inl, inr, ⊎-elim}
 use mathlib.Core.Path.{_≡_, refl, sym, _∙_}
 use native.Mathlib.Omega.{arith}
@@ -12,8 +12,11 @@ use Rattle.numbers.specs.Limits.{VMS, GUEST-PAGES, PAGES}
 use Rattle.numbers.specs.Packing.{pairKey, pairKeyOf, pairWord}
 use Rattle.numbers.specs.PackingLaws.{pair-key}
 use Rattle.numbers.specs.declared.Answer.the-variants.{Accepted}
+use Rattle.numbers.specs.declared.Operation.the-variants as op
+use Rattle.numbers.specs.declared.PhysPage.{PhysPage}
 use Rattle.numbers.specs.declared.Side.{Side}
 use Rattle.numbers.specs.declared.Side.the-variants.{Cpu, Dma}
+use Rattle.numbers.specs.declared.VmId.{VmId}
 use Rattle.table.specs.Table.{freeEntries, roomFor}
 use Rattle.table.specs.TableLaws.{place-room}
 use Rattle.pages.specs.Bits.{withBit, withoutBit}
@@ -22,19 +25,19 @@ use Rattle.pages.specs.Rows.{holds, poolRow, sharedRow, cpuRow, dmaRow}
 use Rattle.model.specs.State.{Tables, State, withKnown, withSets, withPairs}
 use Rattle.model.specs.Views.{isVm, knows, paired, owns, holdsDma, inPool, claimedElsewhere, hasPages, hasMappings, edgeOf, onPort}
 use Rattle.model.specs.Valid.{MapGood, ValidTables}
-use Rattle.model.specs.Effect.{quiet, clears, decided, apply, clearedPages}
+use Rattle.model.specs.Effect.{apply, clearedPages}
 use Rattle.model.specs.EarlyLaws.{past, then-passed, vm-passed, PagePassed, page-passed, pair-passed}
 use Rattle.model.specs.Ledger.{vmEarly, pageEarly, pairEarly, addVmAnswer, removeVmAnswer, assignAnswer, assignSets, reclaimAnswer, reclaimSets, reclaimClears, shareAnswer, sharePairs, unshareAnswer, unsharePairs}
-use Rattle.model.specs.Step.{addVmControl, removeVmControl, assignControl, reclaimControl, shareControl, unshareControl}
+use Rattle.model.specs.Step.{answerOf}
 use Rattle.model.specs.Upstream.{PageSets, SameSets, SameSoftware, plus, minus, withSet, withoutSet, mapSeen, isSome, softwareView}
 use Rattle.model.specs.UpstreamStep.{withVms, withPool, withSetsOf, withEdges, plusEdge, minusEdge, noPages, AddVmStep, RemoveVmEnabled, RemoveVmStep, AssignPageStep, ReclaimPageStep, SharePageStep, UnsharePageStep}
-use Rattle.model.specs.UpstreamRun.{add-vm, remove-vm, assign-page, reclaim-page, share-page, unshare-page, stop, clearCalls, FollowsControl}
+use Rattle.model.specs.UpstreamRun.{stop}
 use Rattle.model.proofs.ViewLaws.{not-so, neither, no-pages, no-mappings, no-edge-of, not-elsewhere}
 use Rattle.model.proofs.PagesKept.{Moved, assign-moved, reclaim-moved}
 use Rattle.model.proofs.UpstreamLaws.{map-word, edge-key, found-put-same, found-put-other, found-erase-same, found-erase-other}
 use Rattle.model.proofs.UpstreamWf.{held-below, edge-pair, edge-either, pool-no-span}
 use Rattle.model.proofs.UpstreamMemory.{clear-run}
-use Rattle.model.proofs.UpstreamFollows.{same-sets, same-hardware, software-once, decided-follows}
+use Rattle.model.proofs.UpstreamFollows.{same-sets, same-hardware, software-once, AcceptedFollows}
 
 -- ---- known VMs
 knows-plus : (known vm v : ℕ) → knows (withBit known vm) v ≡ plus (knows known) vm v
@@ -127,7 +130,7 @@ module _ (pairs : List ℕ) (left right page : ℕ) (a : left < VMS) (b : right 
       new f =
           let (i, at) = place-room pairKeyOf pairs (pairKey left right page) (λ q. room f) in
           rw (f, ← e) (found-put-same pairKeyOf refl pairs (pairKey left right page) (pairWord left right page) i (omega arith)
-          (pair-key left right page (omega arith) (omega arith) (omega arith)) at)
+          (pair-key {left = left} {right = right} {page = page} (record { left-fits = omega arith; right-fits = omega arith; page-fits = omega arith })) at)
 
   put-other : (l r p : ℕ) → (pairKey left right page ≡ pairKey l r p → ⊥) → paired (sharePairs pairs left right page) l r p ≡ paired pairs l r p
   unfolding sharePairs paired
@@ -137,7 +140,7 @@ module _ (pairs : List ℕ) (left right page : ℕ) (a : left < VMS) (b : right 
       new f =
           rw f
           (found-put-other pairKeyOf refl pairs (pairKey left right page) (pairWord left right page) (pairKey l r p)
-          (pair-key left right page (omega arith) (omega arith) (omega arith)) (omega arith) n)
+          (pair-key {left = left} {right = right} {page = page} (record { left-fits = omega arith; right-fits = omega arith; page-fits = omega arith })) (omega arith) n)
 
   pub share-seen : (paired pairs left right page ≡ false → 0 < freeEntries pairs) → (l r p : ℕ) → l < VMS → r < VMS → p < PAGES →
       paired (sharePairs pairs left right page) l r p ≡ plusEdge (paired pairs) left right page l r p
@@ -166,15 +169,12 @@ module _ (s : State) (valid : ValidTables (s .tables)) where
       not-so _ (λ e. true≢false (sym (valid .pages .dma-known vm page v (held-below (s .tables) valid (dmaRow vm) page (omega arith) h e) e) ∙ n))
 
   -- ---- 1
-  pub add-vm-follows : (vm : ℕ) → FollowsControl s (addVmControl (s .tables) vm) (add-vm vm ∷ []) []
-  unfolding addVmControl addVmAnswer decided apply clearedPages
-  add-vm-follows vm =
-      decided-follows s (addVmAnswer (s .tables .known) vm) _ quiet _ _
-      (λ dropped word e.
-      let a = past (not (isVm vm)) _ _ _ e in
-      let b = past (knows (s .tables .known) vm) _ _ _ (a .1) in
-      let v = ltb-true vm VMS (not-false _ (a .0)) in
-      record { software = software-once (added vm v (b .0)); hardware = stop (same-hardware _) })
+  pub add-vm-follows : (vm : VmId) {dropped word : ℕ} → answerOf (s .tables) (op.AddVm vm) ≡ Accepted dropped word → AcceptedFollows s (op.AddVm vm)
+  unfolding addVmAnswer apply clearedPages
+  add-vm-follows vm e =
+      let (small, a) = past (not (isVm (vm .0))) _ _ _ e in
+      let (fresh, b) = past (knows (s .tables .known) (vm .0)) _ _ _ a in
+      record { software = software-once (added (vm .0) (ltb-true (vm .0) VMS (not-false _ small)) fresh); hardware = stop (same-hardware _) }
     where
       added : (vm : ℕ) → vm < VMS → knows (s .tables .known) vm ≡ false →
           AddVmStep vm (softwareView (s .tables)) (softwareView (withKnown (s .tables) (withBit (s .tables .known) vm)))
@@ -220,12 +220,9 @@ module _ (s : State) (valid : ValidTables (s .tables)) where
             ⊎-elim (λ x. (λ z. none (inl (x .0 ∙ z)), λ z. none (inr (x .1 ∙ z)))) (λ x. (λ z. none (inr (x .1 ∙ z)), λ z. none (inl (x .0 ∙ z)))) same;
       }
 
-  pub remove-vm-follows : (vm : ℕ) → FollowsControl s (removeVmControl (s .tables) vm) (remove-vm vm ∷ []) []
-  unfolding removeVmControl decided apply clearedPages
-  remove-vm-follows vm =
-      decided-follows s (removeVmAnswer (s .tables .known) (s .tables .sets) (s .tables .pairs) (s .tables .cpu .map) (s .tables .dma .map) (s .tables .cpu .ports)
-      (s .tables .dma .ports) vm) _ quiet _ _
-      (λ dropped word e. record { software = software-once (dropped-vm vm (removable vm e)); hardware = stop (same-hardware _) })
+  pub remove-vm-follows : (vm : VmId) {dropped word : ℕ} → answerOf (s .tables) (op.RemoveVm vm) ≡ Accepted dropped word → AcceptedFollows s (op.RemoveVm vm)
+  unfolding apply clearedPages
+  remove-vm-follows vm e = record { software = software-once (dropped-vm (vm .0) (removable (vm .0) e)); hardware = stop (same-hardware _) }
     where
       dropped-vm : (vm : ℕ) → RemoveVmEnabled vm (softwareView (s .tables)) →
           RemoveVmStep vm (softwareView (s .tables)) (softwareView (withKnown (s .tables) (withoutBit (s .tables .known) vm)))
@@ -239,16 +236,15 @@ module _ (s : State) (valid : ValidTables (s .tables)) where
           }
 
   -- ---- 3
-  pub assign-follows : (vm page : ℕ) → FollowsControl s (assignControl (s .tables) vm page) (assign-page vm page ∷ []) []
-  unfolding assignControl assignAnswer decided apply clearedPages
-  assign-follows vm page =
-      decided-follows s (assignAnswer (s .tables .known) (s .tables .setup .pages) (s .tables .sets) vm page) _ quiet _ _
-      (λ dropped word e.
-      let (d, w, early, a) = then-passed (pageEarly (s .tables .known) (s .tables .setup .pages) vm page) _ e in
-      let r = page-passed (s .tables .known) (s .tables .setup .pages) vm page early in
-      let (free, b) = past (not (inPool (s .tables .sets) page)) _ _ _ a in
-      let (alone, c) = past (claimedElsewhere Dma (s .tables .sets) vm page) _ _ _ b in
-      record { software = software-once (assigned vm page r (not-false _ free) alone); hardware = stop (same-hardware _) })
+  pub assign-follows : (vm : VmId) (page : PhysPage) {dropped word : ℕ} → answerOf (s .tables) (op.AssignPage vm page) ≡ Accepted dropped word →
+      AcceptedFollows s (op.AssignPage vm page)
+  unfolding assignAnswer apply clearedPages
+  assign-follows vm page e =
+      let (d, w, early, a) = then-passed (pageEarly (s .tables .known) (s .tables .setup .pages) (vm .0) (page .0)) _ e in
+      let r = page-passed (s .tables .known) (s .tables .setup .pages) (vm .0) (page .0) early in
+      let (free, b) = past (not (inPool (s .tables .sets) (page .0))) _ _ _ a in
+      let (alone, c) = past (claimedElsewhere Dma (s .tables .sets) (vm .0) (page .0)) _ _ _ b in
+      record { software = software-once (assigned (vm .0) (page .0) r (not-false _ free) alone); hardware = stop (same-hardware _) }
     where
       assigned : (vm page : ℕ) → PagePassed (s .tables .known) (s .tables .setup .pages) vm page → inPool (s .tables .sets) page ≡ true →
           claimedElsewhere Dma (s .tables .sets) vm page ≡ false →
@@ -265,19 +261,17 @@ module _ (s : State) (valid : ValidTables (s .tables)) where
           }
 
   -- ---- 4: the guards on mappings and edges come on top of upstream's, and the page is cleared where its last claim ends
-  pub reclaim-follows : (vm page : ℕ) → FollowsControl s (reclaimControl (s .tables) vm page) (reclaim-page vm page ∷ []) (clearCalls (reclaimClears (s .tables .sets) vm page))
-  unfolding reclaimControl reclaimAnswer decided apply
-  reclaim-follows vm page =
-      decided-follows s (reclaimAnswer (s .tables .known) (s .tables .setup .pages) (s .tables .sets) (s .tables .pairs) (s .tables .cpu .map) vm page) _
-      (clears (reclaimClears (s .tables .sets) vm page)) _ _
-      (λ dropped word e.
-      let (d, w, early, a) = then-passed (pageEarly (s .tables .known) (s .tables .setup .pages) vm page) _ e in
-      let r = page-passed (s .tables .known) (s .tables .setup .pages) vm page early in
-      let (own, b) = past (not (owns (s .tables .sets) vm page)) _ _ _ a in
+  pub reclaim-follows : (vm : VmId) (page : PhysPage) {dropped word : ℕ} → answerOf (s .tables) (op.ReclaimPage vm page) ≡ Accepted dropped word →
+      AcceptedFollows s (op.ReclaimPage vm page)
+  unfolding reclaimAnswer apply
+  reclaim-follows vm page e =
+      let (d, w, early, a) = then-passed (pageEarly (s .tables .known) (s .tables .setup .pages) (vm .0) (page .0)) _ e in
+      let r = page-passed (s .tables .known) (s .tables .setup .pages) (vm .0) (page .0) early in
+      let (own, b) = past (not (owns (s .tables .sets) (vm .0) (page .0))) _ _ _ a in
       record {
-        software = software-once (reclaimed vm page r (not-false _ own));
-        hardware = clear-run (s .tables) (reclaimClears (s .tables .sets) vm page) (s .memory);
-      })
+        software = software-once (reclaimed (vm .0) (page .0) r (not-false _ own));
+        hardware = clear-run (s .tables) (reclaimClears (s .tables .sets) (vm .0) (page .0)) (s .memory);
+      }
     where
       reclaimed : (vm page : ℕ) → PagePassed (s .tables .known) (s .tables .setup .pages) vm page → owns (s .tables .sets) vm page ≡ true →
           ReclaimPageStep vm page (softwareView (s .tables)) (softwareView (withSets (s .tables) (reclaimSets (s .tables .sets) vm page)))
@@ -328,11 +322,10 @@ module _ (s : State) (valid : ValidTables (s .tables)) where
         next = edges-edited _ _ (share-seen (s .tables .pairs) left right page (r .left-ok) (r .right-ok) (below-pages page (r .page-ok)) place);
       }
 
-  pub share-follows : (left right page : ℕ) → FollowsControl s (shareControl (s .tables) left right page) (share-page left right page ∷ []) []
-  unfolding shareControl decided apply clearedPages
-  share-follows left right page =
-      decided-follows s (shareAnswer (s .tables .known) (s .tables .setup .pages) (s .tables .sets) (s .tables .pairs) left right page) _ quiet _ _
-      (λ dropped word e. record { software = software-once (shared-step left right page e); hardware = stop (same-hardware _) })
+  pub share-follows : (left right : VmId) (page : PhysPage) {dropped word : ℕ} → answerOf (s .tables) (op.SharePage left right page) ≡ Accepted dropped word →
+      AcceptedFollows s (op.SharePage left right page)
+  unfolding apply clearedPages
+  share-follows left right page e = record { software = software-once (shared-step (left .0) (right .0) (page .0) e); hardware = stop (same-hardware _) }
 
   unshared-step : (left right page : ℕ) {dropped word : ℕ} →
       unshareAnswer (s .tables .known) (s .tables .setup .pages) (s .tables .sets) (s .tables .pairs) (s .tables .cpu .map) left right page ≡ Accepted dropped word →
@@ -348,8 +341,7 @@ module _ (s : State) (valid : ValidTables (s .tables)) where
         next = edges-edited _ _ (unshare-seen (s .tables .pairs) left right page (r .left-ok) (r .right-ok) (below-pages page (r .page-ok)));
       }
 
-  pub unshare-follows : (left right page : ℕ) → FollowsControl s (unshareControl (s .tables) left right page) (unshare-page left right page ∷ []) []
-  unfolding unshareControl decided apply clearedPages
-  unshare-follows left right page =
-      decided-follows s (unshareAnswer (s .tables .known) (s .tables .setup .pages) (s .tables .sets) (s .tables .pairs) (s .tables .cpu .map) left right page) _ quiet _ _
-      (λ dropped word e. record { software = software-once (unshared-step left right page e); hardware = stop (same-hardware _) })
+  pub unshare-follows : (left right : VmId) (page : PhysPage) {dropped word : ℕ} → answerOf (s .tables) (op.UnsharePage left right page) ≡ Accepted dropped word →
+      AcceptedFollows s (op.UnsharePage left right page)
+  unfolding apply clearedPages
+  unshare-follows left right page e = record { software = software-once (unshared-step (left .0) (right .0) (page .0) e); hardware = stop (same-hardware _) }

@@ -1,7 +1,7 @@
 -- Operations 7 to 10 are upstream's steps: map and unmap, for CPU or DMA.
 use Prim.Native.Nat.{ℕ, _<_}
 use mathlib.Core.Bool.{true, false, not, _&&_, true≢false}
-use mathlib.Core.List.{List, [], _∷_}
+use mathlib.Core.List.{List}
 use mathlib.Core.Logic.{⊎-elim}
 use mathlib.Core.Option.{Option, none, some}
 use mathlib.Core.Path.{_≡_, refl, sym, ap, _∙_}
@@ -14,27 +14,32 @@ use Rattle.numbers.specs.Limits.{VMS, GUEST-PAGES, PAGES, ACCESSES, GENERATIONS
 use Rattle.numbers.specs.Packing.{key, keyOf, slotKey, addressOf, mapWord, entry}
 use Rattle.numbers.specs.PackingLaws.{key-filled, entry-fits, entry-page, entry-access, entry-generation, word-page, word-access, word-generation}
 use Rattle.numbers.specs.declared.Answer.the-variants.{Accepted}
+use Rattle.numbers.specs.declared.GuestPage.{GuestPage}
+use Rattle.numbers.specs.declared.Operation.the-variants as op
+use Rattle.numbers.specs.declared.PhysPage.{PhysPage}
 use Rattle.numbers.specs.declared.Side.{Side}
+use Rattle.numbers.specs.declared.SideOperation.the-variants as sided
+use Rattle.numbers.specs.declared.VmId.{VmId}
 use Rattle.table.specs.Table.{hasKey, find, lookup, place, erase, isFound}
 use Rattle.table.specs.TableLaws.{lookup-put-same, lookup-put-other, lookup-erase-same, lookup-erase-other, lookup-wipe-same, lookup-wipe-other}
 use Rattle.table.specs.AgreeLaws.{agree-place}
 use Rattle.table.specs.declared.Found.the-variants.{At}
-use Rattle.model.specs.State.{Tables, Route, State, route, withRoute}
+use Rattle.model.specs.State.{Tables, Route, State, route, withSide}
 use Rattle.model.specs.Valid.{SameMap, CacheGood, ValidTables}
 use Rattle.model.specs.EarlyLaws.{past, both, then-passed, unmap-passed}
-use Rattle.model.specs.Step.{mapRoute, mapControl, unmapRoute, unmapControl}
-use Rattle.model.specs.Effect.{quiet, decided, apply, clearedPages}
-use Rattle.model.specs.Maps.{mapTable, unmapEarly, unmapAnswer, unmapTable, withoutSlots}
+use Rattle.model.specs.Step.{mapRoute, unmapRoute, answerOf}
+use Rattle.model.specs.Effect.{apply, clearedPages}
+use Rattle.model.specs.Maps.{mapTable, unmapEarly, unmapAnswer, unmapTable, withoutSlots, unmapMay}
 use Rattle.model.specs.Upstream.{S2Entry, isSome, mapAt, flushed, seen, mapSeen, tlbSeen, softwareView, SameS2Map, SameTlb}
 use Rattle.model.specs.UpstreamStep.{MapStep, UnmapStep, UnmapInvalidateStep, HardwareMapStep}
-use Rattle.model.specs.UpstreamRun.{map, unmap, unmap-invalidate, entryOf, mapCalls, HardwareRun, stop, go, Follows, FollowsControl}
+use Rattle.model.specs.UpstreamRun.{entryOf, mapCalls, HardwareRun, stop, go}
 use Rattle.model.proofs.ViewLaws.{not-so}
-use Rattle.model.proofs.RoutesKept.{entry-key}
+use Rattle.model.proofs.RoutesKept.{entry-key, entry-ok, word-ok}
 use Rattle.model.proofs.OneRoute.{route-of, maps-of}
 use Rattle.model.proofs.GoodMaps.{MapAllPassed, map-all-passed}
 use Rattle.model.proofs.UpstreamLaws.{seen-is, key-test, of-slot-key, map-found, not-some, found-erase-same}
 use Rattle.model.proofs.UpstreamWf.{slot-seen}
-use Rattle.model.proofs.UpstreamFollows.{same-hardware, software-once, hardware-once, decided-follows}
+use Rattle.model.proofs.UpstreamFollows.{same-hardware, software-once, hardware-once, AcceptedFollows}
 use Rattle.model.proofs.UpstreamRoutes.{shown, with-own, map-of, walk-of, tlb-of, may-target, route-software, route-hardware}
 
 -- ---- what the views show after an edit
@@ -42,12 +47,11 @@ use Rattle.model.proofs.UpstreamRoutes.{shown, with-own, map-of, walk-o
 pub entry-shown : (vm gpa page access generation : ℕ) → vm < VMS → gpa < GUEST-PAGES → page < PAGES → access < ACCESSES → generation < GENERATIONS →
     seen (mapWord vm gpa (entry page access generation)) ≡ some (entryOf page access generation)
 entry-shown vm gpa page access generation v g p a n =
-    let v′ : vm < 256 = omega arith in
-    let p′ : page < 4096 = omega arith in
-    let l = entry-fits page access generation p′ a n in
-    let i = word-page 0 vm gpa (entry page access generation) v′ g l ∙ entry-page page access generation p′ a n in
-    let j = word-access 0 vm gpa (entry page access generation) v′ g l ∙ entry-access page access generation p′ a n in
-    let k = word-generation 0 vm gpa (entry page access generation) v′ g l ∙ entry-generation page access generation p′ a n in
+    let e = entry-ok vm gpa page access generation v g p a n in
+    let f = word-ok vm gpa page access generation v g p a n in
+    let i = word-page 0 f ∙ entry-page e in
+    let j = word-access 0 f ∙ entry-access e in
+    let k = word-generation 0 f ∙ entry-generation e in
     seen-is (mapWord vm gpa (entry page access generation)) (λ z. omega arith) ∙ rw (i, j, k)
 
 -- a table with one key's word replaced
@@ -174,7 +178,7 @@ module _ (side : Side) (s : State) (valid : ValidTables (s .tables)) where
   map-software : (vm gpa page access generation : ℕ) →
       MapAllPassed side (s .tables .known) (s .tables .setup .pages) (s .tables .sets) (s .tables .pairs) (route side (s .tables) .map) vm gpa page access generation →
       MapStep side vm gpa (entryOf page access generation) (softwareView (s .tables))
-      (softwareView (withRoute side (s .tables) (mapRoute (route side (s .tables)) vm gpa page access generation)))
+      (softwareView (withSide side (s .tables) (mapRoute (route side (s .tables)) vm gpa page access generation) (s .tables .sets)))
   map-software vm gpa page access generation a =
       let r = route side (s .tables) in
       let f = a .early in
@@ -187,23 +191,26 @@ module _ (side : Side) (s : State) (valid : ValidTables (s .tables)) where
             (put-seen (r .map) vm gpa page access generation (a .spot) (f .vm-ok) (f .guest-ok) (below-pages page (f .page-ok)) (f .access-ok) (f .generation-ok) (a .placed)));
       }
 
-  map-both : (vm gpa page access generation : ℕ) →
-      MapAllPassed side (s .tables .known) (s .tables .setup .pages) (s .tables .sets) (s .tables .pairs) (route side (s .tables) .map) vm gpa page access generation →
-      Follows s (record { tables = withRoute side (s .tables) (mapRoute (route side (s .tables)) vm gpa page access generation); memory = s .memory })
-      (map side vm gpa (entryOf page access generation) ∷ []) (mapCalls side (route side (s .tables)) vm gpa (entryOf page access generation))
-  map-both vm gpa page access generation a =
+  pub map-follows : (vm : VmId) (guest : GuestPage) (page : PhysPage) (access generation : ℕ) {dropped word : ℕ} →
+      answerOf (s .tables) (op.On side (sided.MapPage vm guest page access generation)) ≡ Accepted dropped word →
+      AcceptedFollows s (op.On side (sided.MapPage vm guest page access generation))
+  unfolding apply clearedPages
+  map-follows vm guest page access generation e =
+      let t = s .tables in
+      let r = route side t in
+      let a = map-all-passed side (t .known) (t .setup .pages) (t .sets) (t .pairs) (r .map) (r .cache) (vm .0) (guest .0) (page .0) access generation e in
       let f = a .early in
-      let (j, p) = walker-place (key vm gpa) (a .spot) (omega arith) (a .placed) in
+      let (j, p) = walker-place (key (vm .0) (guest .0)) (a .spot) (omega arith) (a .placed) in
       record {
-        software = software-once (map-software vm gpa page access generation a);
+        software = software-once (map-software (vm .0) (guest .0) (page .0) access generation a);
         hardware =
-            rw (with-own side (s .tables)) at
-            (map-run side (s .tables) (s .memory) (route side (s .tables)) vm gpa page access generation j (f .vm-ok) (f .guest-ok) (below-pages page (f .page-ok))
-            (f .access-ok) (f .generation-ok) p (route-of side (s .tables) valid .cache));
+            rw (with-own side t) at
+            (map-run side t (s .memory) r (vm .0) (guest .0) (page .0) access generation j (f .vm-ok) (f .guest-ok) (below-pages (page .0) (f .page-ok)) (f .access-ok)
+            (f .generation-ok) p (route-of side t valid .cache));
       }
 
   unmap-software : (vm gpa : ℕ) → gpa < GUEST-PAGES → isFound (find keyOf (route side (s .tables) .map) (key vm gpa)) ≡ true →
-      UnmapStep side vm gpa (softwareView (s .tables)) (softwareView (withRoute side (s .tables) (unmapRoute (route side (s .tables)) vm gpa)))
+      UnmapStep side vm gpa (softwareView (s .tables)) (softwareView (withSide side (s .tables) (unmapRoute (route side (s .tables)) vm gpa) (s .tables .sets)))
   unmap-software vm gpa g found =
       let r = route side (s .tables) in
       record {
@@ -211,31 +218,17 @@ module _ (side : Side) (s : State) (valid : ValidTables (s .tables)) where
         next = rw (map-of side (s .tables)) (route-software side (s .tables) (unmapRoute r vm gpa) _ (erase-seen (r .map) vm gpa g));
       }
 
-  unmap-both : (vm gpa : ℕ) {dropped word : ℕ} →
-      unmapAnswer (s .tables .known) (route side (s .tables) .map) (route side (s .tables) .cache) vm gpa ≡ Accepted dropped word →
-      Follows s (record { tables = withRoute side (s .tables) (unmapRoute (route side (s .tables)) vm gpa); memory = s .memory }) (unmap side vm gpa ∷ [])
-      (unmap-invalidate side vm gpa ∷ [])
-  unfolding unmapAnswer
-  unmap-both vm gpa e =
-      let (d, w, early, a) = then-passed (unmapEarly (s .tables .known) vm gpa) _ e in
-      let g = unmap-passed (s .tables .known) vm gpa early .guest-ok in
-      let (found, b) = past (not (isFound (find keyOf (route side (s .tables) .map) (key vm gpa)))) _ _ _ a in
+  pub unmap-follows : (vm : VmId) (guest : GuestPage) {dropped word : ℕ} → answerOf (s .tables) (op.On side (sided.UnmapPage vm guest)) ≡ Accepted dropped word →
+      AcceptedFollows s (op.On side (sided.UnmapPage vm guest))
+  unfolding unmapAnswer unmapMay apply clearedPages
+  unmap-follows vm guest e =
+      let t = s .tables in
+      let r = route side t in
+      let (n, k, may, _) = then-passed (unmapMay (t .known) (r .map) (vm .0) (guest .0)) _ e in
+      let (d, w, early, a) = then-passed (unmapEarly (t .known) (vm .0) (guest .0)) _ may in
+      let g = unmap-passed (t .known) (vm .0) (guest .0) early .guest-ok in
+      let (found, b) = past (not (isFound (find keyOf (r .map) (key (vm .0) (guest .0))))) _ _ _ a in
       record {
-        software = software-once (unmap-software vm gpa g (not-false _ found));
-        hardware = hardware-once (rw (with-own side (s .tables)) at (unmap-step side (s .tables) (s .memory) (route side (s .tables)) vm gpa g));
+        software = software-once (unmap-software (vm .0) (guest .0) g (not-false _ found));
+        hardware = hardware-once (rw (with-own side t) at (unmap-step side t (s .memory) r (vm .0) (guest .0) g));
       }
-
-  pub map-follows : (vm gpa page access generation : ℕ) →
-      FollowsControl s (mapControl side (s .tables) vm gpa page access generation) (map side vm gpa (entryOf page access generation) ∷ [])
-      (mapCalls side (route side (s .tables)) vm gpa (entryOf page access generation))
-  unfolding mapControl decided apply clearedPages
-  map-follows vm gpa page access generation =
-      decided-follows s _ _ quiet _ _
-      (λ dropped word e.
-      map-both vm gpa page access generation
-      (map-all-passed side (s .tables .known) (s .tables .setup .pages) (s .tables .sets) (s .tables .pairs) (route side (s .tables) .map)
-      (route side (s .tables) .cache) vm gpa page access generation e))
-
-  pub unmap-follows : (vm gpa : ℕ) → FollowsControl s (unmapControl side (s .tables) vm gpa) (unmap side vm gpa ∷ []) (unmap-invalidate side vm gpa ∷ [])
-  unfolding unmapControl decided apply clearedPages
-  unmap-follows vm gpa = decided-follows s _ _ quiet _ _ (λ dropped word e. unmap-both vm gpa e)

@@ -12,32 +12,35 @@ use borrow.Author.Tests.{eq-eqb, ne-eqb, ltb-true, lt-ltb, not-false}
 use Rattle.numbers.specs.CaseLaws.{equal}
 use Rattle.numbers.specs.Choice.{if_then_else_}
 use Rattle.numbers.specs.Limits.{VMS, GUEST-PAGES, PORTS, SLOTS, IDLE}
-use Rattle.numbers.specs.Packing.{key, keyOf, slotKey, slotWord, entryOf, portOf, vmOf, guestOf, filledOf}
+use Rattle.numbers.specs.Packing.{key, keyOf, slotKey, slotWord, entryOf, portOf, vmOf, guestOf, filledOf, WordFits, VM-FIELD}
 use Rattle.numbers.specs.PackingLaws.{word-entry, word-filled, word-key, key-filled}
 use Rattle.numbers.specs.declared.Answer.the-variants.{Accepted}
+use Rattle.numbers.specs.declared.GuestPage.{GuestPage}
+use Rattle.numbers.specs.declared.Operation.the-variants as op
 use Rattle.numbers.specs.declared.Target.{Target}
 use Rattle.numbers.specs.declared.Target.the-variants.{Idle, Vm}
 use Rattle.numbers.specs.declared.Side.{Side}
 use Rattle.numbers.specs.declared.Side.the-variants.{Cpu, Dma}
+use Rattle.numbers.specs.declared.SideOperation.the-variants as sided
 use Rattle.table.specs.ScanLaws.{found-never, found-count}
 use Rattle.table.specs.Table.{isEmpty, freeEntries, lookup, place, Has, Distinct}
 use Rattle.table.specs.TableLaws.{IsPlace, find-none, place-is, place-none, place-room, distinct-alone, lookup-has, lookup-none, has-lookup, has-set-inv, has-set-keep, lookup-set-same, lookup-set-other}
 use Rattle.table.specs.declared.Found.{Found}
 use Rattle.table.specs.declared.Found.the-variants.{At, Nothing}
-use Rattle.model.specs.State.{Tables, Route, State, route, withRoute, withCache, withPorts}
-use Rattle.model.specs.Ports.{isTarget, portAnswer, portPorts, vmOn, fillPlace, fillAnswer, fillCache, emptyAnswer, emptyCache}
+use Rattle.model.specs.State.{Tables, Route, State, route, withSide, withCache, withPorts}
+use Rattle.model.specs.Ports.{isTarget, portAnswer, portPorts, vmOn, fillPlace, fillCache, emptyAnswer, emptyCache}
 use Rattle.model.specs.Views.{isPort, isSlot, isIdle}
-use Rattle.model.specs.Step.{portControl, fillRoute, fillControl, emptyControl, barrierControl}
-use Rattle.model.specs.Effect.{quiet, decided, apply, clearedPages}
+use Rattle.model.specs.Step.{fillRoute, answerOf}
+use Rattle.model.specs.Effect.{quiet, apply, clearedPages}
 use Rattle.model.specs.EarlyLaws.{past, hold}
 use Rattle.model.specs.Valid.{SlotGood, CacheGood, ValidTables}
 use Rattle.model.specs.Upstream.{S2Entry, tlbAt, seen, mapSeen, tlbSeen, activeSeen, hardwareView, SameTlb, SameHardware}
-use Rattle.model.specs.UpstreamRun.{HardwareStep, HardwareRun, stop, go, fillCall, forgetCall, portCalls, fillCalls, emptyCalls, HardwareCall, Follows, FollowsControl}
+use Rattle.model.specs.UpstreamRun.{HardwareStep, HardwareRun, stop, go, fillCall, forgetCall, portCalls, fillCalls, emptyCalls, HardwareCall, Follows}
 use Rattle.model.specs.UpstreamStep.{withActive, answerAt}
 use Rattle.model.proofs.RoutesKept.{slot-made}
 use Rattle.model.proofs.OneRoute.{route-of, lengths-of}
 use Rattle.model.proofs.GoodPorts.{FillPassed, fill-passed}
-use Rattle.model.proofs.UpstreamFollows.{same-with, same-software, same-hardware, hardware-once, decided-follows}
+use Rattle.model.proofs.UpstreamFollows.{same-with, same-software, same-hardware, hardware-once, AcceptedFollows}
 use Rattle.model.proofs.UpstreamRoutes.{shown, walk-of, tlb-of, route-hardware}
 use Rattle.model.proofs.UpstreamLaws.{seen-same, seen-filled, slot-key-test, key-parts}
 
@@ -74,7 +77,7 @@ module _ (ws : List ℕ) (i : ℕ) (once : Distinct keyOf ws) (h : i < length ws
 
 -- ---- what a cache shows after an edit
 -- with one key's slot replaced
-at-slot : (cache cache′ : List ℕ) (port vm gpa : ℕ) (answer : Option S2Entry) → vm < 256 → gpa < GUEST-PAGES → seen (lookup keyOf cache′ (slotKey port vm gpa)) ≡ answer →
+at-slot : (cache cache′ : List ℕ) (port vm gpa : ℕ) (answer : Option S2Entry) → vm < VM-FIELD → gpa < GUEST-PAGES → seen (lookup keyOf cache′ (slotKey port vm gpa)) ≡ answer →
     ((other : ℕ) → 0 < other → (slotKey port vm gpa ≡ other → ⊥) → lookup keyOf cache′ other ≡ lookup keyOf cache other) →
     SameTlb (tlbSeen cache′) (tlbAt (tlbSeen cache) port vm gpa answer)
 at-slot cache cache′ port vm gpa answer v g here there c u q c′ u′ q′ =
@@ -103,11 +106,10 @@ fill-seen : (walker cache : List ℕ) (port vm gpa i : ℕ) → port < PORTS →
 fill-seen walker cache port vm gpa i c v g walks made at =
     let u = lookup keyOf walker (key vm gpa) in
     let w = slotWord port vm gpa (entryOf u) in
-    let v′ : vm < 256 = omega arith in
-    let l : entryOf u < 4294967296 = omega arith in
-    let k = word-key port vm gpa (entryOf u) v′ g l (sym (word-filled port vm gpa (entryOf u) v′ g l) ∙ made .filled) in
-    at-slot cache (set cache i w) port vm gpa (mapSeen walker vm gpa) v′ g
-    (rw (lookup-set-same keyOf cache (slotKey port vm gpa) i w k at) (seen-same w u (λ z. omega (arith, made .filled)) walks (word-entry port vm gpa (entryOf u) v′ g l)))
+    let f : WordFits vm gpa (entryOf (lookup keyOf walker (key vm gpa))) = record { vm-fits = omega arith; guest-fits = g; low-fits = omega arith } in
+    let k = word-key port f (sym (word-filled port f) ∙ made .filled) in
+    at-slot cache (set cache i w) port vm gpa (mapSeen walker vm gpa) (f .vm-fits) g
+    (rw (lookup-set-same keyOf cache (slotKey port vm gpa) i w k at) (seen-same w u (λ z. omega (arith, made .filled)) walks (word-entry port f)))
     (λ other o d. lookup-set-other keyOf refl cache (slotKey port vm gpa) i w other k (at .fits) o d)
 
 -- ---- steps of a side's cache
@@ -207,13 +209,13 @@ active-set ports port n h cpu =
     ⊎-elim (λ q. rw (eq-eqb cpu port q) (rw (q, getD-set-same ports port n IDLE h))) (λ d. rw (ne-eqb cpu port d, getD-set-other ports port cpu n IDLE d)) (equal cpu port)
 
 ports-hardware : (s : State) (ports : List ℕ) (active : ℕ → Option ℕ) → ((cpu : ℕ) → activeSeen ports cpu ≡ active cpu) →
-    SameHardware (hardwareView (record { tables = withRoute Cpu (s .tables) (withPorts (s .tables .cpu) ports); memory = s .memory })) (withActive (hardwareView s) active)
+    SameHardware (hardwareView (record { tables = withSide Cpu (s .tables) (withPorts (s .tables .cpu) ports) (s .tables .sets); memory = s .memory })) (withActive (hardwareView s) active)
 ports-hardware s ports active e =
-    same-with (hardwareView (record { tables = withRoute Cpu (s .tables) (withPorts (s .tables .cpu) ports); memory = s .memory })) _ active (λ address. refl) e
+    same-with (hardwareView (record { tables = withSide Cpu (s .tables) (withPorts (s .tables .cpu) ports) (s .tables .sets); memory = s .memory })) _ active (λ address. refl) e
 
 switch-run : (s : State) (port : ℕ) (target : Target) → port < length (s .tables .cpu .ports) → isTarget target ≡ true →
     HardwareRun (portCalls Cpu port target) (hardwareView s)
-    (hardwareView (record { tables = withRoute Cpu (s .tables) (withPorts (s .tables .cpu) (portPorts (s .tables .cpu .ports) port target)); memory = s .memory }))
+    (hardwareView (record { tables = withSide Cpu (s .tables) (withPorts (s .tables .cpu) (portPorts (s .tables .cpu .ports) port target)) (s .tables .sets); memory = s .memory }))
 switch-run s port Idle h e = hardware-once (ports-hardware s (set (s .tables .cpu .ports) port IDLE) _ (active-set (s .tables .cpu .ports) port IDLE h))
 switch-run s port (Vm vm) h e =
     hardware-once (ports-hardware s (set (s .tables .cpu .ports) port (vm .0)) _ (λ cpu. active-set (s .tables .cpu .ports) port (vm .0) h cpu ∙ rw e))
@@ -222,8 +224,8 @@ switch-run s port (Vm vm) h e =
 -- what a device is bound to is in neither view
 port-run : (side : Side) (s : State) (port : ℕ) (target : Target) → port < length (route side (s .tables) .ports) → isTarget target ≡ true →
     Follows s (record {
-      tables = withRoute side (s .tables)
-          (withPorts (route side (s .tables)) (portPorts (route side (s .tables) .ports) port target));
+      tables = withSide side (s .tables)
+          (withPorts (route side (s .tables)) (portPorts (route side (s .tables) .ports) port target)) (s .tables .sets);
       memory = s .memory;
     }) [] (portCalls side port target)
 port-run Cpu s port target h e = record { software = stop (same-software _); hardware = switch-run s port target h e }
@@ -236,41 +238,38 @@ slot-below slot e = ltb-true slot SLOTS (not-false _ (past (not (isSlot slot)) _
 -- a run of hardware steps that leaves the side's maps and ports
 cache-only : (side : Side) (s : State) (cache : List ℕ) (hand : ℕ) (calls : List HardwareCall) →
     HardwareRun calls (shown side (s .tables) (s .memory) (route side (s .tables))) (shown side (s .tables) (s .memory) (withCache (route side (s .tables)) cache hand)) →
-    Follows s (record { tables = withRoute side (s .tables) (withCache (route side (s .tables)) cache hand); memory = s .memory }) [] calls
+    Follows s (record { tables = withSide side (s .tables) (withCache (route side (s .tables)) cache hand) (s .tables .sets); memory = s .memory }) [] calls
 cache-only Cpu s cache hand calls run = record { software = stop (same-software _); hardware = run }
 cache-only Dma s cache hand calls run = record { software = stop (same-software _); hardware = run }
 
 module _ (side : Side) (s : State) (valid : ValidTables (s .tables)) where
-  pub port-follows : (port : ℕ) (target : Target) → FollowsControl s (portControl side (s .tables) port target) [] (portCalls side port target)
-  unfolding portControl portAnswer decided apply clearedPages
-  port-follows port target =
-      decided-follows s (portAnswer (s .tables .known) port target) _ quiet _ _
-      (λ dropped word e.
+  pub port-follows : (port : ℕ) (target : Target) {dropped word : ℕ} → answerOf (s .tables) (op.On side (sided.GivePort port target)) ≡ Accepted dropped word →
+      AcceptedFollows s (op.On side (sided.GivePort port target))
+  unfolding portAnswer apply clearedPages
+  port-follows port target e =
       let (a, b) = past (not (isPort port && isTarget target)) _ _ _ e in
       let (p, r) = hold (isPort port) (isTarget target) a in
-      port-run side s port target (rw (lengths-of side (s .tables) valid .ports) (ltb-true port PORTS p)) r)
+      port-run side s port target (rw (lengths-of side (s .tables) valid .ports) (ltb-true port PORTS p)) r
 
-  pub fill-follows : (port gpa : ℕ) → FollowsControl s (fillControl side (s .tables) port gpa) [] (fillCalls side (route side (s .tables)) port gpa)
-  unfolding fillControl decided apply clearedPages
-  fill-follows port gpa =
+  pub fill-follows : (port : ℕ) (guest : GuestPage) {dropped word : ℕ} → answerOf (s .tables) (op.On side (sided.FillSlot port guest)) ≡ Accepted dropped word →
+      AcceptedFollows s (op.On side (sided.FillSlot port guest))
+  unfolding apply clearedPages
+  fill-follows port guest e =
       let r = route side (s .tables) in
       let g = route-of side (s .tables) valid in
-      decided-follows s (fillAnswer (r .ports) (r .walker) port gpa) _ quiet _ _
-      (λ dropped word e.
-      cache-only side s _ _ _ (fill-run side (s .tables) (s .memory) r (g .cache) (lengths-of side (s .tables) valid .cache) (g .hand) port gpa
-      (fill-passed (r .ports) (r .walker) port gpa e)))
+      cache-only side s _ _ _ (fill-run side (s .tables) (s .memory) r (g .cache) (lengths-of side (s .tables) valid .cache) (g .hand) port (guest .0)
+      (fill-passed (r .ports) (r .walker) port (guest .0) e))
 
-  pub empty-follows : (slot : ℕ) → FollowsControl s (emptyControl side (s .tables) slot) [] (emptyCalls side (route side (s .tables)) slot)
-  unfolding emptyControl decided apply clearedPages
-  empty-follows slot =
+  pub empty-follows : (slot : ℕ) {dropped word : ℕ} → answerOf (s .tables) (op.On side (sided.EmptySlot slot)) ≡ Accepted dropped word →
+      AcceptedFollows s (op.On side (sided.EmptySlot slot))
+  unfolding apply clearedPages
+  empty-follows slot e =
       let r = route side (s .tables) in
-      decided-follows s (emptyAnswer slot) _ quiet _ _
-      (λ dropped word e.
       cache-only side s _ _ _ (empty-run side (s .tables) (s .memory) r slot (route-of side (s .tables) valid .cache)
-      (rw (lengths-of side (s .tables) valid .cache) (slot-below slot e))))
+      (rw (lengths-of side (s .tables) valid .cache) (slot-below slot e)))
 
 -- a barrier, of either kind
 pub barrier-follows : (s : State) (call : HardwareCall) → HardwareStep call (hardwareView s) (hardwareView s) →
-    FollowsControl s (barrierControl (s .tables)) [] (call ∷ [])
-unfolding decided apply clearedPages
+    Follows s (record { tables = s .tables; memory = apply quiet (s .memory) }) [] (call ∷ [])
+unfolding apply clearedPages
 barrier-follows s call same = record { software = stop (same-software _); hardware = hardware-once same }

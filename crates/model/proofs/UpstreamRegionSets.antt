@@ -12,8 +12,8 @@ use Rattle.numbers.specs.declared.Side.the-variants.{Cpu, Dma}
 use Rattle.pages.specs.BitLaws.{below-or}
 use Rattle.pages.specs.Rows.{holds, poolRow, sharedRow, cpuRow, dmaRow}
 use Rattle.pages.specs.RowLaws.{holds-add-other, holds-remove-other}
-use Rattle.units.specs.declared.Region.{Region}
-use Rattle.model.specs.State.{Tables, Route, withRoute, withSets}
+use Rattle.numbers.specs.declared.Region.{Region}
+use Rattle.model.specs.State.{Tables, Route, withSide}
 use Rattle.model.specs.Views.{knows, inPool, inShared, owns, holdsDma, claims}
 use Rattle.model.specs.Regions.{pageIn, insertSets, removeSets, insertPage, removePage}
 use Rattle.model.specs.Valid.{Home, pool, shared, cpu, PagesGood}
@@ -114,7 +114,7 @@ module _ (t : Tables) (r : Route) (sets : List ℕ) (vm : ℕ) (k : knows (t .kn
   pub region-software : (side : Side) → ((page : ℕ) → page < PAGES → claims side sets vm page ≡ edit page) →
       ((s : Side) (other page : ℕ) → page < PAGES → (s ≡ side → other ≡ vm → ⊥) → claims s sets other page ≡ claims s (t .sets) other page) →
       ((page : ℕ) → page < PAGES → inPool sets page ≡ poolNow side (inPool (t .sets)) free page) →
-      SameSoftware (softwareView (withSets (withRoute side t r) sets))
+      SameSoftware (softwareView (withSide side t r sets))
       (withMapOf side (withSetsOf side (withPoolOf side (softwareView t) free) (withSet (record { vms = knows (t .known); pages = claims side (t .sets) }) vm edit)) map)
   region-software Cpu own others pooled =
       record {

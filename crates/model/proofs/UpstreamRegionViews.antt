@@ -17,7 +17,7 @@ use Rattle.table.specs.Scan.{cleared, wipe}
 use Rattle.table.specs.Table.{freeEntries, lookup, put, Distinct}
 use Rattle.table.specs.TableLaws.{lookup-has, lookup-put-same, lookup-put-other, place-room, free-put}
 use Rattle.table.specs.AgreeLaws.{lookup-wipe}
-use Rattle.units.specs.declared.Region.{Region}
+use Rattle.numbers.specs.declared.Region.{Region}
 use Rattle.model.specs.Views.{isFilled}
 use Rattle.model.specs.EarlyLaws.{both, RegionPassed}
 use Rattle.model.specs.Regions.{guestIn, pageIn, keyIn, regionEntry, inRegion, insertTable, removeTable}

@@ -1,7 +1,7 @@
 -- Operations 11 to 14 are upstream's steps: one software step for the region, one hardware step for each of its pages.
 use Prim.Native.Nat.{ℕ, zero, suc, _+_, _≤_, _<_}
 use mathlib.Core.Bool.{Bool, true, false, not, _||_, true≢false}
-use mathlib.Core.List.{List, [], _∷_, _++_}
+use mathlib.Core.List.{List, _++_}
 use mathlib.Core.Logic.{⊎-elim}
 use mathlib.Core.Option.{some}
 use mathlib.Core.Path.{_≡_, refl, sym, ap, _∙_}
@@ -11,36 +11,38 @@ use Rattle.numbers.specs.Limits.{VMS, GUEST-PAGES, PAGES}
 use Rattle.numbers.specs.Packing.{key, keyOf, pageOf}
 use Rattle.numbers.specs.PackingLaws.{key-same}
 use Rattle.numbers.specs.declared.Answer.the-variants.{Accepted}
+use Rattle.numbers.specs.declared.Operation.the-variants as op
 use Rattle.numbers.specs.declared.Side.{Side}
 use Rattle.numbers.specs.declared.Side.the-variants.{Cpu, Dma}
+use Rattle.numbers.specs.declared.SideOperation.the-variants as sided
 use Rattle.table.specs.Table.{lookup, put, freeEntries, Distinct}
 use Rattle.table.specs.TableLaws.{lookup-has, lookup-put-other, place-room, free-put}
 use Rattle.table.specs.Scan.{repeat}
 use Rattle.units.specs.Units.{assignable}
-use Rattle.units.specs.declared.Region.{Region}
+use Rattle.numbers.specs.declared.Region.{Region}
 use Rattle.units.specs.declared.Unit.{Unit}
-use Rattle.model.specs.State.{Tables, Route, State, route, withRoute, withSets, withMaps}
+use Rattle.model.specs.State.{Tables, Route, State, route, withSide, withMaps}
 use Rattle.model.specs.Maps.{mapTable}
 use Rattle.model.specs.Views.{inPool, inShared, claims, claimedElsewhere, paired, edgeOn, targeted, butKey}
 use Rattle.model.specs.EarlyLaws.{past, then-passed, RegionPassed}
-use Rattle.model.specs.Regions.{guestIn, pageIn, keyIn, regionEntry, regionEarly, present, claimed, notHeld, differs, insertAnswer, insertSets, insertTable, removeAnswer, removeSets, removeClears}
-use Rattle.model.specs.Step.{insertRoute, insertControl, removeRoute, removeControl}
-use Rattle.model.specs.Effect.{quiet, clears, decided, apply, clearedPages}
+use Rattle.model.specs.Regions.{guestIn, pageIn, keyIn, regionEntry, regionEarly, present, claimed, notHeld, differs, insertAnswer, insertSets, insertTable, removeMay, removeAnswer, removeSets, removeClears}
+use Rattle.model.specs.Step.{insertRoute, removeRoute, answerOf}
+use Rattle.model.specs.Effect.{apply, clearedPages}
 use Rattle.model.specs.Valid.{SameMap, MapGood, ValidTables}
 use Rattle.model.specs.Upstream.{S2Entry, isSome, entriesOf, pagesOf, seen, mapSeen, HardwareView, softwareView}
 use Rattle.model.specs.UpstreamStep.{withPages, withoutPages, RegionFits, InsertEnabled, InsertRegionStep, RemoveEnabled, RemoveRegionStep, HardwareMapStep, UnmapInvalidateStep}
-use Rattle.model.specs.UpstreamRun.{HardwareCall, insert-region, remove-region, HardwareRun, stop, go, entryOf, insertCalls, removeCalls, clearCalls, Follows, FollowsControl}
+use Rattle.model.specs.UpstreamRun.{HardwareCall, HardwareRun, stop, go, entryOf, insertCalls, removeCalls}
 use Rattle.model.proofs.ViewLaws.{neither, not-so, not-elsewhere, not-targeted, no-edge-on}
 use Rattle.model.proofs.OneRoute.{route-of, maps-of}
 use Rattle.model.proofs.RoutesKept.{maps-free}
 use Rattle.model.proofs.RegionLaws.{NoneFails, InsertPassed, insert-passed, RemovePassed, remove-passed}
 use Rattle.model.proofs.RegionSets.{Turned, insert-sets, remove-sets}
 use Rattle.model.proofs.UpstreamLaws.{map-found, seen-some, seen-filled, found-looked}
-use Rattle.model.proofs.UpstreamFollows.{same-hardware, software-once, decided-follows}
+use Rattle.model.proofs.UpstreamFollows.{same-hardware, software-once, AcceptedFollows}
 use Rattle.model.proofs.UpstreamMemory.{clear-run}
 use Rattle.model.proofs.UpstreamMaps.{put-seen}
 use Rattle.model.proofs.UpstreamWf.{pool-no-span, edge-pair}
-use Rattle.model.proofs.UpstreamRoutes.{shown, with-own, map-of, walk-of, tlb-of, route-hardware}
+use Rattle.model.proofs.UpstreamRoutes.{shown, with-own, sets-unseen, map-of, walk-of, tlb-of, route-hardware}
 use Rattle.model.proofs.UpstreamRegionViews.{in-span, span-in, page-place, entry-in, entry-some, key-place, entry-key-in, keys-apart, insert-seen, map-wiped, upTo, removed-none, map-wiped-more, tlb-wiped-more}
 use Rattle.model.proofs.UpstreamRegionSets.{claims-given, claims-taken, pool-given, pool-taken, pool-left, pool-kept, poolNow, sets-of, region-software}
 
@@ -126,7 +128,7 @@ module _ (t : Tables) (valid : ValidTables t) (region : Region) where
   insert-pool Dma p = pool-left region (omega (arith, p .early .page-ok, valid .setup .most-pages)) (t .sets)
 
   insert-step : (side : Side) (assign : Region → Bool) → assign region ≡ true → InsertPassed side (t .known) (t .setup .pages) (t .sets) (route side t .map) region →
-      InsertRegionStep assign side region (softwareView t) (softwareView (withSets (withRoute side t (insertRoute (route side t) region)) (insertSets side (t .sets) region)))
+      InsertRegionStep assign side region (softwareView t) (softwareView (withSide side t (insertRoute (route side t) region) (insertSets side (t .sets) region)))
   insert-step side assign unit p =
       let r = insert-turned side p .edited in
       let map = insert-seen (t .known) (t .setup .pages) region (p .early) (valid .setup .most-pages) (route side t .map) (p .room) in
@@ -193,9 +195,10 @@ module _ (side : Side) (t : Tables) (memory : List ℕ) (r : Route) (known pages
 -- ---- remove: what upstream asks for
 remove-unit : (side : Side) (known pages : ℕ) (units : List Unit) (n : ℕ) (sets pairs map cache : List ℕ) (region : Region) {dropped word : ℕ} →
     removeAnswer side known pages units n sets pairs map cache region ≡ Accepted dropped word → assignable units n side region ≡ true
-unfolding removeAnswer
+unfolding removeAnswer removeMay
 remove-unit side known pages units n sets pairs map cache region e =
-    let (d, w, early, a) = then-passed (regionEarly known pages region) _ e in
+    let (k, r, may, _) = then-passed (removeMay side known pages units n sets pairs map region) _ e in
+    let (d, w, early, a) = then-passed (regionEarly known pages region) _ may in
     not-false _ (past (not (assignable units n side region)) _ _ _ a .0)
 
 module _ (t : Tables) (valid : ValidTables t) (region : Region) (early : RegionPassed (t .known) (t .setup .pages) region) where
@@ -284,7 +287,7 @@ module _ (t : Tables) (valid : ValidTables t) (region : Region) (early : RegionP
 
   remove-step : (side : Side) (assign : Region → Bool) → assign region ≡ true →
       RemovePassed side (t .known) (t .setup .pages) (t .sets) (t .pairs) (route side t .map) region →
-      RemoveRegionStep assign side region (softwareView t) (softwareView (withSets (withRoute side t (removeRoute (route side t) region)) (removeSets side (t .sets) region)))
+      RemoveRegionStep assign side region (softwareView t) (softwareView (withSide side t (removeRoute (route side t) region) (removeSets side (t .sets) region)))
   remove-step side assign unit p =
       let r = remove-turned side (p .held) .edited in
       let once = route-of side t valid .map .once in
@@ -319,15 +322,10 @@ module _ (side : Side) (t : Tables) (memory : List ℕ) (r : Route) (region : Re
 
 -- ---- the operations
 module _ (side : Side) (s : State) (valid : ValidTables (s .tables)) (region : Region) where
-  insert-both : {dropped word : ℕ} → insertAnswer side (s .tables .known) (s .tables .setup .pages) (s .tables .setup .units) (s .tables .setup .unitCount)
-      (s .tables .sets) (route side (s .tables) .map) region ≡ Accepted dropped word →
-      Follows s (record {
-        tables = withSets (withRoute side (s .tables) (insertRoute (route side (s .tables)) region))
-            (insertSets side (s .tables .sets) region);
-        memory = s .memory;
-      }) (insert-region side region ∷ []) (insertCalls side region 0 (region .count))
-  unfolding SameMap
-  insert-both e =
+  pub insert-follows : {dropped word : ℕ} → answerOf (s .tables) (op.On side (sided.InsertRegion region)) ≡ Accepted dropped word →
+      AcceptedFollows s (op.On side (sided.InsertRegion region))
+  unfolding SameMap apply clearedPages
+  insert-follows e =
       let t = s .tables in
       let p = insert-passed side (t .known) (t .setup .pages) (t .setup .units) (t .setup .unitCount) (t .sets) (route side t .map) region e in
       let m = maps-of side t valid in
@@ -342,18 +340,15 @@ module _ (side : Side) (s : State) (valid : ValidTables (s .tables)) (region : R
       (omega arith) ∙ rw (← m .same (keyIn region k) (omega arith)) (sym (found-looked keyOf refl (route side t .map) (keyIn region k) (omega arith)) ∙ p .absent k h) in
       record {
         software = software-once (insert-step t valid region side (assignable (t .setup .units) (t .setup .unitCount) side) unit p);
-        hardware = rw (with-own side t) at (insert-run side t (s .memory) (route side t) (t .known) (t .setup .pages) region (p .early) (valid .setup .most-pages) room absent);
+        hardware =
+            rw (sets-unseen side t (s .memory) (insertRoute (route side t) region) (insertSets side (t .sets) region))
+            (rw (with-own side t) at (insert-run side t (s .memory) (route side t) (t .known) (t .setup .pages) region (p .early) (valid .setup .most-pages) room absent));
       }
 
-  remove-both : {dropped word : ℕ} → removeAnswer side (s .tables .known) (s .tables .setup .pages) (s .tables .setup .units) (s .tables .setup .unitCount)
-      (s .tables .sets) (s .tables .pairs) (route side (s .tables) .map) (route side (s .tables) .cache) region ≡ Accepted dropped word →
-      Follows s (record {
-        tables = withSets (withRoute side (s .tables) (removeRoute (route side (s .tables)) region))
-            (removeSets side (s .tables .sets) region);
-        memory = clearedPages (removeClears side (s .tables .sets) region) (s .memory);
-      }) (remove-region side region ∷ [])
-      (removeCalls side region 0 (region .count) ++ clearCalls (removeClears side (s .tables .sets) region))
-  remove-both e =
+  pub remove-follows : {dropped word : ℕ} → answerOf (s .tables) (op.On side (sided.RemoveRegion region)) ≡ Accepted dropped word →
+      AcceptedFollows s (op.On side (sided.RemoveRegion region))
+  unfolding apply
+  remove-follows e =
       let t = s .tables in
       let r = route side t in
       let p = remove-passed side (t .known) (t .setup .pages) (t .setup .units) (t .setup .unitCount) (t .sets) (t .pairs) (r .map) (r .cache) region e in
@@ -362,16 +357,8 @@ module _ (side : Side) (s : State) (valid : ValidTables (s .tables)) (region : R
       record {
         software = software-once (remove-step t valid region (p .early) side (assignable (t .setup .units) (t .setup .unitCount) side) unit p);
         hardware =
-            rw (with-own side t) at
+            rw (sets-unseen side t (clearedPages (removeClears side (t .sets) region) (s .memory)) (removeRoute r region) (removeSets side (t .sets) region))
+            (rw (with-own side t) at
             (remove-run side t (s .memory) r region (good .walker .once) (good .cache .once) _ _
-            (clear-run (withRoute side t (removeRoute r region)) (removeClears side (t .sets) region) (s .memory)));
+            (clear-run (withSide side t (removeRoute r region) (t .sets)) (removeClears side (t .sets) region) (s .memory))));
       }
-
-  pub insert-follows : FollowsControl s (insertControl side (s .tables) region) (insert-region side region ∷ []) (insertCalls side region 0 (region .count))
-  unfolding insertControl decided apply clearedPages
-  insert-follows = decided-follows s _ _ quiet _ _ (λ dropped word e. insert-both e)
-
-  pub remove-follows : FollowsControl s (removeControl side (s .tables) region) (remove-region side region ∷ [])
-      (removeCalls side region 0 (region .count) ++ clearCalls (removeClears side (s .tables .sets) region))
-  unfolding removeControl decided apply
-  remove-follows = decided-follows s _ _ (clears (removeClears side (s .tables .sets) region)) _ _ (λ dropped word e. remove-both e)

@@ -5,7 +5,7 @@ use mathlib.Core.List.{List}
 use mathlib.Core.Path.{_≡_, refl}
 use Rattle.numbers.specs.declared.Side.{Side}
 use Rattle.numbers.specs.declared.Side.the-variants.{Cpu, Dma}
-use Rattle.model.specs.State.{Tables, Route, route, withRoute}
+use Rattle.model.specs.State.{Tables, Route, route, withSide}
 use Rattle.model.specs.Views.{knows, mayMap}
 use Rattle.model.specs.Valid.{ValidTables}
 use Rattle.model.specs.Upstream.{S2Map, Tlb, mapSeen, tlbSeen, softwareView, HardwareView, hardwareView, SameS2Map, SameTlb, SameSoftware, SameHardware}
@@ -15,11 +15,17 @@ use Rattle.model.proofs.UpstreamFollows.{same-sets}
 
 -- the hardware view with this route on the side
 abbrev pub shown : Side → Tables → List ℕ → Route → HardwareView
-shown side t memory r = hardwareView (record { tables = withRoute side t r; memory = memory })
+shown side t memory r = hardwareView (record { tables = withSide side t r (t .sets); memory = memory })
 
-pub with-own : (side : Side) (t : Tables) → withRoute side t (route side t) ≡ t
+pub with-own : (side : Side) (t : Tables) → withSide side t (route side t) (t .sets) ≡ t
 with-own Cpu t = refl
 with-own Dma t = refl
+
+-- hardware does not see the page sets
+pub sets-unseen : (side : Side) (t : Tables) (memory : List ℕ) (r : Route) (sets : List ℕ) →
+    hardwareView (record { tables = withSide side t r sets; memory = memory }) ≡ shown side t memory r
+sets-unseen Cpu t memory r sets = refl
+sets-unseen Dma t memory r sets = refl
 
 -- what the side's fields are
 pub map-of : (side : Side) (t : Tables) → mapOf side (softwareView t) ≡ mapSeen (route side t .map)
@@ -41,7 +47,7 @@ may-target Dma t valid vm page k m = (k, may-dma t valid vm page m)
 
 -- the software map replaced, the walker and cache replaced
 pub route-software : (side : Side) (t : Tables) (r : Route) (map : S2Map) → SameS2Map (mapSeen (r .map)) map →
-    SameSoftware (softwareView (withRoute side t r)) (withMapOf side (softwareView t) map)
+    SameSoftware (softwareView (withSide side t r (t .sets))) (withMapOf side (softwareView t) map)
 route-software Cpu t r map e =
     record {
       all-vms = λ vm v. refl;

@@ -1,5 +1,6 @@
 -- The worked table of the paper, C1 to C10, computed at the full table sizes (docs/MACHINE.md, 10).
-use Prim.Native.Nat.{ℕ}
+use Prim.Native.Nat.{ℕ, _*_}
+use Rattle.numbers.specs.Limits.{SETS, SET-WORDS, PAIRS, ENTRIES, SLOTS, PAGE-WORDS}
 use mathlib.Core.List.{List, [], _∷_, map}
 use mathlib.Core.Path.{_≡_, refl}
 use lib.ListN.{replicate}
@@ -61,15 +62,15 @@ eightPages =
 abbrev pub lent : Lent
 lent =
     record {
-      sets = replicate 544 7;
-      pairs = replicate 128 7;
-      cpuMap = replicate 512 7;
-      cpuWalker = replicate 512 7;
-      cpuCache = replicate 64 7;
-      dmaMap = replicate 512 7;
-      dmaWalker = replicate 512 7;
-      dmaCache = replicate 64 7;
-      memory = replicate 4096 7;
+      sets = replicate (SETS * SET-WORDS) 7;
+      pairs = replicate PAIRS 7;
+      cpuMap = replicate ENTRIES 7;
+      cpuWalker = replicate ENTRIES 7;
+      cpuCache = replicate SLOTS 7;
+      dmaMap = replicate ENTRIES 7;
+      dmaWalker = replicate ENTRIES 7;
+      dmaCache = replicate SLOTS 7;
+      memory = replicate (PAGE-WORDS * 8) 7;
     }
 
 abbrev pub started : State

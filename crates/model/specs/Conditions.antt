@@ -16,42 +16,16 @@ use Rattle.numbers.specs.declared.Side.{Side}
 use Rattle.numbers.specs.declared.Side.the-variants.{Cpu, Dma}
 use Rattle.numbers.specs.declared.Target.{Target}
 use Rattle.numbers.specs.declared.Target.the-variants.{Idle, Vm}
+use Rattle.numbers.specs.declared.SideOperation.{SideOperation}
+use Rattle.numbers.specs.declared.SideOperation.the-variants as sided
 use Rattle.numbers.specs.declared.Operation.{Operation}
-use Rattle.numbers.specs.declared.Operation.the-variants.{
-  AddVm,
-  RemoveVm,
-  AssignPage,
-  ReclaimPage,
-  SharePage,
-  UnsharePage,
-  CpuMap,
-  DmaMap,
-  CpuUnmap,
-  DmaUnmap,
-  InsertRegion,
-  RemoveRegion,
-  DmaInsertRegion,
-  DmaRemoveRegion,
-  SwitchCpu,
-  BindDevice,
-  CpuFill,
-  DmaFill,
-  EmptyCpuSlot,
-  EmptyDmaSlot,
-  CpuRead,
-  DmaRead,
-  CpuWrite,
-  DmaWrite,
-  DataBarrier,
-  InstructionBarrier,
-}
+use Rattle.numbers.specs.declared.Operation.the-variants as op
 use Rattle.table.specs.Table.{Has, freeEntries}
 use Rattle.units.specs.Units.{suits, noUnit}
-use Rattle.units.specs.declared.Region.{Region}
+use Rattle.numbers.specs.declared.Region.{Region}
 use Rattle.model.specs.State.{Tables, route}
 use Rattle.model.specs.Views.{knows, inPool, inShared, owns, holdsDma, claims}
 use Rattle.model.specs.Start.{unitRegion}
-use Rattle.model.specs.Step.{regionOf}
 use Rattle.model.specs.Sequence.{operationIn}
 
 -- ---- the answer accepts
@@ -85,10 +59,10 @@ pub record Edge (t : Tables) (left right page : ℕ) : Type 0 where
   pub ends : ((leftOf pair ≡ left) × (rightOf pair ≡ right)) ⊎ ((leftOf pair ≡ right) × (rightOf pair ≡ left))
   pub on : pageOf pair ≡ page
 
--- the VM's guest page is mapped onto the page on the side
-pub record Maps (side : Side) (t : Tables) (vm guest page access generation : ℕ) : Type 0 where
+-- the table, a side's software map or its walker's, maps the VM's guest page onto the page
+pub record Maps (table : List ℕ) (vm guest page access generation : ℕ) : Type 0 where
   pub word : ℕ
-  pub stored : Has (route side t .map) word
+  pub stored : Has table word
   pub vm-of : vmOf word ≡ vm
   pub guest-of : guestOf word ≡ guest
   pub page-of : pageOf word ≡ page
@@ -96,18 +70,18 @@ pub record Maps (side : Side) (t : Tables) (vm guest page access generation : �
   pub generation-of : generationOf word ≡ generation
 
 -- onto whatever page, with whatever access and generation
-pub record Mapped (side : Side) (t : Tables) (vm guest : ℕ) : Type 0 where
+pub record Mapped (table : List ℕ) (vm guest : ℕ) : Type 0 where
   pub page : ℕ
   pub access : ℕ
   pub generation : ℕ
-  pub mapping : Maps side t vm guest page access generation
+  pub mapping : Maps table vm guest page access generation
 
--- some guest page of the VM is mapped onto the page
-pub record Targets (side : Side) (t : Tables) (vm page : ℕ) : Type 0 where
+-- it maps some guest page of the VM onto the page
+pub record Targets (table : List ℕ) (vm page : ℕ) : Type 0 where
   pub guest : ℕ
   pub access : ℕ
   pub generation : ℕ
-  pub mapping : Maps side t vm guest page access generation
+  pub mapping : Maps table vm guest page access generation
 
 -- the VM runs on the CPU, or the device is bound to it
 abbrev pub RunsOn : Side → Tables → ℕ → ℕ → Type 0
@@ -127,7 +101,7 @@ pub record RemovesVm (t : Tables) (vm : ℕ) : Type 0 where
   pub vm-ok : vm < VMS
   pub known : Knows t vm
   pub no-page : (side : Side) (page : ℕ) → page < PAGES → Claims side t vm page → ⊥
-  pub no-mapping : (side : Side) (guest : ℕ) → Mapped side t vm guest → ⊥
+  pub no-mapping : (side : Side) (guest : ℕ) → Mapped (route side t .map) vm guest → ⊥
   pub no-edge : (other page : ℕ) → Edge t vm other page → ⊥
   pub no-port : (side : Side) (port : ℕ) → port < PORTS → RunsOn side t port vm → ⊥
 
@@ -144,7 +118,7 @@ pub record Reclaims (t : Tables) (vm page : ℕ) : Type 0 where
   pub page-ok : page < t .setup .pages
   pub known : Knows t vm
   pub owned : Owns t vm page
-  pub no-mapping : (mapper : ℕ) → Targets Cpu t mapper page → ⊥
+  pub no-mapping : (mapper : ℕ) → Targets (t .cpu .map) mapper page → ⊥
   pub no-edge : (left right : ℕ) → Edge t left right page → ⊥
 
 pub record Shares (t : Tables) (left right page : ℕ) : Type 0 where
@@ -166,7 +140,7 @@ pub record Unshares (t : Tables) (left right page : ℕ) : Type 0 where
   pub right-known : Knows t right
   pub shared : Edge t left right page
   -- an end that does not own the page maps it no longer
-  pub no-mapping : (borrower : ℕ) → (borrower ≡ left) ⊎ (borrower ≡ right) → (Owns t borrower page → ⊥) → Targets Cpu t borrower page → ⊥
+  pub no-mapping : (borrower : ℕ) → (borrower ≡ left) ⊎ (borrower ≡ right) → (Owns t borrower page → ⊥) → Targets (t .cpu .map) borrower page → ⊥
 
 -- ---- 7 to 10
 pub record MapsPage (side : Side) (t : Tables) (vm guest page access generation : ℕ) : Type 0 where
@@ -178,13 +152,13 @@ pub record MapsPage (side : Side) (t : Tables) (vm guest page access generation 
   pub known : Knows t vm
   pub may : MayMap side t vm page
   -- a mapping is replaced, or there is room for one more
-  pub room : Mapped side t vm guest ⊎ (0 < freeEntries (route side t .map))
+  pub room : Mapped (route side t .map) vm guest ⊎ (0 < freeEntries (route side t .map))
 
 pub record UnmapsPage (side : Side) (t : Tables) (vm guest : ℕ) : Type 0 where
   pub vm-ok : vm < VMS
   pub guest-ok : guest < GUEST-PAGES
   pub known : Knows t vm
-  pub mapped : Mapped side t vm guest
+  pub mapped : Mapped (route side t .map) vm guest
 
 -- ---- 11 to 14
 -- some unit has the region's five fields and a mark that suits the side
@@ -212,7 +186,7 @@ Insertable Dma t vm page = (InShared t page → ⊥) × ((side : Side) (other : 
 pub record Inserts (side : Side) (t : Tables) (region : Region) : Type 0 where
   pub good : RegionGood side t region
   pub pages : (k : ℕ) → k < region .count → Insertable side t (region .vm .0) (region .page .0 + k)
-  pub unmapped : (k : ℕ) → k < region .count → Mapped side t (region .vm .0) (region .guest .0 + k) → ⊥
+  pub unmapped : (k : ℕ) → k < region .count → Mapped (route side t .map) (region .vm .0) (region .guest .0 + k) → ⊥
   pub room : region .count ≤ freeEntries (route side t .map)
 
 -- the region's page is not shared, where that matters
@@ -224,9 +198,9 @@ pub record Removes (side : Side) (t : Tables) (region : Region) : Type 0 where
   pub good : RegionGood side t region
   pub held : (k : ℕ) → k < region .count → Claims side t (region .vm .0) (region .page .0 + k)
   -- every entry of the region stands as insert put it
-  pub entries : (k : ℕ) → k < region .count → Maps side t (region .vm .0) (region .guest .0 + k) (region .page .0 + k) (region .access) 0
+  pub entries : (k : ℕ) → k < region .count → Maps (route side t .map) (region .vm .0) (region .guest .0 + k) (region .page .0 + k) (region .access) 0
   -- and is the only mapping onto its page
-  pub alone : (k vm guest access generation : ℕ) → k < region .count → Maps side t vm guest (region .page .0 + k) access generation →
+  pub alone : (k vm guest access generation : ℕ) → k < region .count → Maps (route side t .map) vm guest (region .page .0 + k) access generation →
       (vm ≡ region .vm .0) × (guest ≡ region .guest .0 + k)
   pub no-edge : (k : ℕ) → k < region .count → Unshared side t (region .page .0 + k)
 
@@ -235,7 +209,7 @@ abbrev pub TargetGood : Tables → Target → Type 0
 TargetGood t Idle = Anything {0}
 TargetGood t (Vm vm) = (vm .0 < VMS) × Knows t (vm .0)
 
-pub record SwitchesPort (t : Tables) (port : ℕ) (target : Target) : Type 0 where
+pub record GivesPort (t : Tables) (port : ℕ) (target : Target) : Type 0 where
   pub port-ok : port < PORTS
   pub target-ok : TargetGood t target
 
@@ -245,7 +219,8 @@ pub record Fills (side : Side) (t : Tables) (port guest : ℕ) : Type 0 where
   pub vm : ℕ
   pub vm-ok : vm < VMS
   pub runs : RunsOn side t port vm
-  pub mapped : Mapped side t vm guest
+  -- a slot is filled from the walker
+  pub mapped : Mapped (route side t .walker) vm guest
 
 abbrev pub EmptiesSlot : ℕ → Type 0
 EmptiesSlot slot = slot < SLOTS
@@ -261,37 +236,32 @@ pub record Accesses (side : Side) (t : Tables) (bit port guest word : ℕ) : Typ
   pub generation : ℕ
   pub vm-ok : vm < VMS
   pub runs : RunsOn side t port vm
-  pub mapped : Maps side t vm guest page access generation
+  -- an access goes through the walker: a slot holds what the walker has
+  pub mapped : Maps (route side t .walker) vm guest page access generation
   pub allowed : access / bit % 2 ≡ 1
 
 -- ---- all of them
+abbrev pub SideConditions : Side → Tables → SideOperation → Type 0
+SideConditions side t (sided.MapPage vm guest page access generation) = MapsPage side t (vm .0) (guest .0) (page .0) access generation
+SideConditions side t (sided.UnmapPage vm guest) = UnmapsPage side t (vm .0) (guest .0)
+SideConditions side t (sided.InsertRegion region) = Inserts side t region
+SideConditions side t (sided.RemoveRegion region) = Removes side t region
+SideConditions side t (sided.GivePort port target) = GivesPort t port target
+SideConditions side t (sided.FillSlot port guest) = Fills side t port (guest .0)
+SideConditions side t (sided.EmptySlot slot) = EmptiesSlot slot
+SideConditions side t (sided.ReadWord port guest word) = Accesses side t READ port (guest .0) word
+SideConditions side t (sided.WriteWord port guest word value) = Accesses side t WRITE port (guest .0) word
+
 abbrev pub Conditions : Tables → Operation → Type 0
-Conditions t (AddVm vm) = AddsVm t (vm .0)
-Conditions t (RemoveVm vm) = RemovesVm t (vm .0)
-Conditions t (AssignPage vm page) = Assigns t (vm .0) (page .0)
-Conditions t (ReclaimPage vm page) = Reclaims t (vm .0) (page .0)
-Conditions t (SharePage left right page) = Shares t (left .0) (right .0) (page .0)
-Conditions t (UnsharePage left right page) = Unshares t (left .0) (right .0) (page .0)
-Conditions t (CpuMap vm guest page access generation) = MapsPage Cpu t (vm .0) (guest .0) (page .0) access generation
-Conditions t (DmaMap vm guest page access generation) = MapsPage Dma t (vm .0) (guest .0) (page .0) access generation
-Conditions t (CpuUnmap vm guest) = UnmapsPage Cpu t (vm .0) (guest .0)
-Conditions t (DmaUnmap vm guest) = UnmapsPage Dma t (vm .0) (guest .0)
-Conditions t (InsertRegion vm guest page count access) = Inserts Cpu t (regionOf vm guest page count access)
-Conditions t (RemoveRegion vm guest page count access) = Removes Cpu t (regionOf vm guest page count access)
-Conditions t (DmaInsertRegion vm guest page count access) = Inserts Dma t (regionOf vm guest page count access)
-Conditions t (DmaRemoveRegion vm guest page count access) = Removes Dma t (regionOf vm guest page count access)
-Conditions t (SwitchCpu port target) = SwitchesPort t port target
-Conditions t (BindDevice port target) = SwitchesPort t port target
-Conditions t (CpuFill port guest) = Fills Cpu t port (guest .0)
-Conditions t (DmaFill port guest) = Fills Dma t port (guest .0)
-Conditions t (EmptyCpuSlot slot) = EmptiesSlot slot
-Conditions t (EmptyDmaSlot slot) = EmptiesSlot slot
-Conditions t (CpuRead port guest word) = Accesses Cpu t READ port (guest .0) word
-Conditions t (DmaRead port guest word) = Accesses Dma t READ port (guest .0) word
-Conditions t (CpuWrite port guest word value) = Accesses Cpu t WRITE port (guest .0) word
-Conditions t (DmaWrite port guest word value) = Accesses Dma t WRITE port (guest .0) word
-Conditions t DataBarrier = Anything {0}
-Conditions t InstructionBarrier = Anything {0}
+Conditions t (op.AddVm vm) = AddsVm t (vm .0)
+Conditions t (op.RemoveVm vm) = RemovesVm t (vm .0)
+Conditions t (op.AssignPage vm page) = Assigns t (vm .0) (page .0)
+Conditions t (op.ReclaimPage vm page) = Reclaims t (vm .0) (page .0)
+Conditions t (op.SharePage left right page) = Shares t (left .0) (right .0) (page .0)
+Conditions t (op.UnsharePage left right page) = Unshares t (left .0) (right .0) (page .0)
+Conditions t (op.On side operation) = SideConditions side t operation
+Conditions t op.DataBarrier = Anything {0}
+Conditions t op.InstructionBarrier = Anything {0}
 
 -- ---- a row: it names an operation, and the operation's conditions hold
 pub record RowConditions (t : Tables) (row : List ℕ) : Type 0 where

@@ -10,7 +10,7 @@ use Rattle.numbers.specs.Limits.{VMS, GUEST-PAGES, ACCESSES, GENERATIONS}
 use Rattle.numbers.specs.declared.Answer.{Answer}
 use Rattle.numbers.specs.declared.Answer.the-variants.{Accepted, Refused}
 use Rattle.numbers.specs.declared.Refusal.{Refusal}
-use Rattle.units.specs.declared.Region.{Region}
+use Rattle.numbers.specs.declared.Region.{Region}
 use Rattle.units.specs.Spans.{spanWithin, regionSpan}
 use Rattle.model.specs.Views.{isVm, isGuest, isPage, isAccess, isGeneration, knows}
 use Rattle.model.specs.Effect.{andThen}

@@ -8,7 +8,7 @@ use Rattle.model.specs.State.{State}
 use Rattle.model.specs.Valid.{Valid}
 use Rattle.model.specs.Effect.{refused}
 use Rattle.model.specs.Step.{Stepped}
-use Rattle.model.specs.Sequence.{Sequenced, stepRow, sequence}
+use Rattle.model.specs.Sequence.{Sequenced, beginning, stepRow, sequence}
 use Rattle.model.specs.Start.{Free, free, freeRefused}
 
 -- the one result for a valid state, the other for any other
@@ -25,7 +25,7 @@ JudgedRow s row result = Judged s (stepRow s row) (stepRefused s) result
 
 -- ---- the sequence, judged once, before its first row
 abbrev pub sequenceRefused : State → List ℕ → Sequenced
-sequenceRefused s room = record { answer = refused StateNotValid; progress = record { state = s; room = room } }
+sequenceRefused s room = record { answer = refused StateNotValid; progress = beginning s room }
 
 abbrev pub JudgedSequence : State → List ℕ → List ℕ → Sequenced → Type 0
 JudgedSequence s rows room result = Judged s (sequence s rows room) (sequenceRefused s room) result

@@ -5,17 +5,19 @@ use Prim.Native.Nat.{ℕ, _<_}
 use mathlib.Core.Bool.{Bool, true, false, _||_}
 use mathlib.Core.List.{List, [], _∷_}
 use mathlib.Core.Logic.{_⊎_}
+use mathlib.Core.Option.{Option, none, some}
 use mathlib.Core.Path.{_≡_}
-use Rattle.numbers.specs.Limits.{VMS}
-use Rattle.numbers.specs.Packing.{leftOf, rightOf, pageOf}
+use Rattle.numbers.specs.Limits.{VMS, READ, WRITE}
+use Rattle.numbers.specs.Packing.{vmOf, leftOf, rightOf, pageOf}
 use Rattle.numbers.specs.declared.Answer.{Answer}
 use Rattle.numbers.specs.declared.Operation.{Operation}
-use Rattle.numbers.specs.declared.Operation.the-variants.{SharePage}
+use Rattle.numbers.specs.declared.Operation.the-variants as op
+use Rattle.numbers.specs.declared.Side.{Side}
 use Rattle.table.specs.Table.{Has}
-use Rattle.model.specs.State.{Tables}
+use Rattle.model.specs.State.{Tables, route}
 use Rattle.model.specs.Views.{owns, holdsDma, inShared, shares}
 use Rattle.model.specs.Effect.{Place, Store, Effect, reads, writes, clears, Control, accepted}
-use Rattle.model.specs.Sequence.{vmId, physPage}
+use Rattle.model.specs.Access.{allows}
 use Rattle.model.specs.Valid.{ValidTables}
 
 -- ---- claims
@@ -47,11 +49,11 @@ Wrote (reads vm places) v page word = ⊥
 Wrote (writes vm stores) v page word = (vm ≡ v) × StoreAt page word stores
 Wrote (clears pages) v page word = ⊥
 
--- it reads or writes some word of the page
-abbrev pub Touches : Effect → ℕ → ℕ → Type 0
-Touches (reads vm places) v page = (vm ≡ v) × PlaceOn page places
-Touches (writes vm stores) v page = (vm ≡ v) × StoreOn page stores
-Touches (clears pages) v page = ⊥
+-- it reads or writes some word of the page, by the access bit that this needs
+abbrev pub Touches : ℕ → Effect → ℕ → ℕ → Type 0
+Touches bit (reads vm places) v page = (bit ≡ READ) × (vm ≡ v) × PlaceOn page places
+Touches bit (writes vm stores) v page = (bit ≡ WRITE) × (vm ≡ v) × StoreOn page stores
+Touches bit (clears pages) v page = ⊥
 
 -- the effect is a VM's access; the page is cleared
 abbrev pub IsAccess : Effect → Type 0
@@ -70,21 +72,52 @@ pub data Way (t : Tables) (vm page : ℕ) : Type 0 where
   lent : shares (t .pairs) vm page ≡ true → Way t vm page
   span : inShared (t .sets) page ≡ true → Way t vm page
 
-pub record Reaches (t : Tables) (vm page : ℕ) : Type 0 where
+pub record MayReach (t : Tables) (vm page : ℕ) : Type 0 where
   pub vm-ok : vm < VMS
   pub page-ok : page < t .setup .pages
   pub way : Way t vm page
 
--- ---- the pair was made by an accepted share of the page's owner
+-- and what it goes through: an entry of its own onto the page, in a side's walker, that has the access bit
+pub record Through (bit : ℕ) (t : Tables) (vm page : ℕ) : Type 0 where
+  pub side : Side
+  pub entry : ℕ
+  pub stored : Has (route side t .walker) entry
+  pub vm-of : vmOf entry ≡ vm
+  pub page-of : pageOf entry ≡ page
+  pub allowed : allows bit entry ≡ true
+
+-- to read it takes READ, to write it WRITE
+pub record Reaches (bit : ℕ) (t : Tables) (vm page : ℕ) : Type 0 where
+  pub may : MayReach t vm page
+  pub through : Through bit t vm page
+
+-- ---- an operation that shares: the owner, the VM that it lends to, and the page
+pub record Sharing : Type 0 where
+  pub left : ℕ
+  pub right : ℕ
+  pub page : ℕ
+
+abbrev pub sharing : Operation → Option Sharing
+sharing (op.AddVm vm) = none
+sharing (op.RemoveVm vm) = none
+sharing (op.AssignPage vm page) = none
+sharing (op.ReclaimPage vm page) = none
+sharing (op.SharePage left right page) = some (record { left = left .0; right = right .0; page = page .0 })
+sharing (op.UnsharePage left right page) = none
+sharing (op.On side operation) = none
+sharing op.DataBarrier = none
+sharing op.InstructionBarrier = none
+
+-- the pair was made by an accepted share of the page's owner
 pub record Made (t : Tables) (operation : Operation) (answer : Answer) (w : ℕ) : Type 0 where
-  pub share : operation ≡ SharePage (vmId (leftOf w)) (vmId (rightOf w)) (physPage (pageOf w))
+  pub share : sharing operation ≡ some (record { left = leftOf w; right = rightOf w; page = pageOf w })
   pub agreed : answer ≡ accepted
   pub owned : owns (t .sets) (leftOf w) (pageOf w) ≡ true
 
 -- ---- all that a step owes
 pub record Good (t : Tables) (operation : Operation) (c : Control) : Type 0 where
   pub valid : ValidTables (c .tables)
-  pub reach : (vm page : ℕ) → Touches (c .effect) vm page → Reaches t vm page
+  pub reach : (bit vm page : ℕ) → Touches bit (c .effect) vm page → Reaches bit t vm page
   -- an access changes no table
   pub still : IsAccess (c .effect) → c .tables ≡ t
   -- a page on which a VM's last claim ended is cleared

@@ -1,28 +1,39 @@
 -- The header and the lent lists together are the tables (docs/MACHINE.md, 3): each of them in its place, none twice.
 use Prim.Native.Nat.{ℕ}
 use mathlib.Core.List.{List}
-use Rattle.model.specs.State.{Tables, Setup, State}
+use Rattle.model.specs.State.{Tables, Setup, Route, State}
+use Rattle.model.specs.declared.Fixed.{Fixed}
+use Rattle.model.specs.declared.SideRegisters.{SideRegisters}
+use Rattle.model.specs.declared.Registers.{Registers}
 use Rattle.model.specs.declared.Machine.{Machine}
 
-abbrev pub setupOf : Machine → Setup
-setupOf m =
+-- what start fixed and what operations may change, together
+abbrev pub headerOf : Fixed → Registers → Machine
+headerOf fixed registers = record { fixed = fixed; registers = registers }
+
+abbrev pub setupOf : Fixed → Setup
+setupOf fixed =
     record {
-      pages = m .pages;
-      sharedBase = m .«shared_base»;
-      sharedCount = m .«shared_count»;
-      units = m .units;
-      unitCount = m .«unit_count»;
+      pages = fixed .pages;
+      sharedBase = fixed .«shared_base»;
+      sharedCount = fixed .«shared_count»;
+      units = fixed .units;
+      unitCount = fixed .«unit_count»;
     }
+
+-- a side's registers with the lists of that side
+abbrev pub routeOf : SideRegisters → List ℕ → List ℕ → List ℕ → Route
+routeOf r map walker cache = record { map = map; walker = walker; cache = cache; hand = r .hand; ports = r .ports }
 
 abbrev pub tablesOf : Machine → List ℕ → List ℕ → List ℕ → List ℕ → List ℕ → List ℕ → List ℕ → List ℕ → Tables
 tablesOf m sets pairs cpuMap cpuWalker cpuCache dmaMap dmaWalker dmaCache =
     record {
-      setup = setupOf m;
-      known = m .known;
+      setup = setupOf (m .fixed);
+      known = m .registers .known;
       sets = sets;
       pairs = pairs;
-      cpu = record { map = cpuMap; walker = cpuWalker; cache = cpuCache; hand = m .«cpu_hand»; ports = m .cpus };
-      dma = record { map = dmaMap; walker = dmaWalker; cache = dmaCache; hand = m .«dma_hand»; ports = m .devices };
+      cpu = routeOf (m .registers .cpu) cpuMap cpuWalker cpuCache;
+      dma = routeOf (m .registers .dma) dmaMap dmaWalker dmaCache;
     }
 
 abbrev pub stateOf : Machine → List ℕ → List ℕ → List ℕ → List ℕ → List ℕ → List ℕ → List ℕ → List ℕ → List ℕ → State

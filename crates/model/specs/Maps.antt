@@ -33,23 +33,31 @@ unfoldable pub withoutSlots : List ℕ → ℕ → ℕ → List ℕ
 withoutSlots cache vm guest = erase addressOf cache (key vm guest)
 
 -- ---- 7, 8: map; a present key is replaced and needs no free entry
-unfoldable pub mapAnswer : Side → ℕ → ℕ → List ℕ → List ℕ → List ℕ → List ℕ → ℕ → ℕ → ℕ → ℕ → ℕ → Answer
-mapAnswer side known pages sets pairs map cache vm guest page access generation =
+-- whether it may, and then with how many slots dropped
+unfoldable pub mapMay : Side → ℕ → ℕ → List ℕ → List ℕ → List ℕ → ℕ → ℕ → ℕ → ℕ → ℕ → Answer
+mapMay side known pages sets pairs map vm guest page access generation =
     andThen (mapEarly known pages vm guest page access generation)
     (if not (mayMap side sets pairs vm page) then refused PageNotHeld
     else if not (isFound (place keyOf map (key vm guest))) then refused NoRoom
-    else acceptedDropping (matchingSlots cache vm guest))
+    else accepted)
+
+unfoldable pub mapAnswer : Side → ℕ → ℕ → List ℕ → List ℕ → List ℕ → List ℕ → ℕ → ℕ → ℕ → ℕ → ℕ → Answer
+mapAnswer side known pages sets pairs map cache vm guest page access generation =
+    andThen (mapMay side known pages sets pairs map vm guest page access generation) (acceptedDropping (matchingSlots cache vm guest))
 
 -- the edit of the software map, and the same of the walker's
 unfoldable pub mapTable : List ℕ → ℕ → ℕ → ℕ → ℕ → ℕ → List ℕ
 mapTable table vm guest page access generation = put keyOf table (key vm guest) (mapWord vm guest (entry page access generation))
 
 -- ---- 9, 10: unmap, which ends no claim
-unfoldable pub unmapAnswer : ℕ → List ℕ → List ℕ → ℕ → ℕ → Answer
-unmapAnswer known map cache vm guest =
+unfoldable pub unmapMay : ℕ → List ℕ → ℕ → ℕ → Answer
+unmapMay known map vm guest =
     andThen (unmapEarly known vm guest)
     (if not (isFound (find keyOf map (key vm guest))) then refused MappingDiffers
-    else acceptedDropping (matchingSlots cache vm guest))
+    else accepted)
+
+unfoldable pub unmapAnswer : ℕ → List ℕ → List ℕ → ℕ → ℕ → Answer
+unmapAnswer known map cache vm guest = andThen (unmapMay known map vm guest) (acceptedDropping (matchingSlots cache vm guest))
 
 unfoldable pub unmapTable : List ℕ → ℕ → ℕ → List ℕ
 unmapTable table vm guest = erase keyOf table (key vm guest)

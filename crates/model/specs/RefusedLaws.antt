@@ -6,58 +6,10 @@ use mathlib.Core.Path.{_≡_, refl}
 use Rattle.numbers.specs.declared.Answer.{Answer}
 use Rattle.numbers.specs.declared.Answer.the-variants.{Accepted, Refused}
 use Rattle.numbers.specs.declared.Operation.{Operation}
-use Rattle.numbers.specs.declared.Operation.the-variants.{
-  AddVm,
-  RemoveVm,
-  AssignPage,
-  ReclaimPage,
-  SharePage,
-  UnsharePage,
-  CpuMap,
-  DmaMap,
-  CpuUnmap,
-  DmaUnmap,
-  InsertRegion,
-  RemoveRegion,
-  DmaInsertRegion,
-  DmaRemoveRegion,
-  SwitchCpu,
-  BindDevice,
-  CpuFill,
-  DmaFill,
-  EmptyCpuSlot,
-  EmptyDmaSlot,
-  CpuRead,
-  DmaRead,
-  CpuWrite,
-  DmaWrite,
-  DataBarrier,
-  InstructionBarrier,
-}
 use Rattle.model.specs.Effect.{Effect, Control, kept, quiet, decided, apply, clearedPages, reads, writes, clears}
-use Rattle.model.specs.Sequence.{stepKnown, stepRow, operationIn, shapeAnswer, after, rowCount, Progress, Sequenced, sequence}
+use Rattle.model.specs.Sequence.{stepKnown, stepRow, operationIn, shapeAnswer, after, rowCount, Sequenced, beginning, sequence}
 use Rattle.model.specs.State.{State, Tables}
-use Rattle.model.specs.Step.{
-  addVmControl,
-  removeVmControl,
-  assignControl,
-  reclaimControl,
-  shareControl,
-  unshareControl,
-  mapControl,
-  unmapControl,
-  insertControl,
-  removeControl,
-  portControl,
-  fillControl,
-  emptyControl,
-  readControl,
-  writeControl,
-  control,
-  Stepped,
-  carriedOut,
-  step,
-}
+use Rattle.model.specs.Step.{answerOf, nextOf, effectOf, control, Stepped, carriedOut, step}
 
 -- ---- what is decided: nothing where it is refused
 pub record Leaves (t : Tables) (c : Control) : Type 0 where
@@ -70,33 +22,8 @@ decided-leaves t (Accepted dropped word) new effect = record { tables = refl; ef
 decided-leaves t (Refused refusal index) new effect = record { tables = refl; effect = refl }
 
 control-leaves : (t : Tables) (operation : Operation) → Leaves t (control t operation)
-unfolding control addVmControl removeVmControl assignControl reclaimControl shareControl unshareControl mapControl unmapControl insertControl removeControl portControl fillControl emptyControl readControl writeControl
-control-leaves t (AddVm vm) = decided-leaves t _ _ _
-control-leaves t (RemoveVm vm) = decided-leaves t _ _ _
-control-leaves t (AssignPage vm page) = decided-leaves t _ _ _
-control-leaves t (ReclaimPage vm page) = decided-leaves t _ _ _
-control-leaves t (SharePage left right page) = decided-leaves t _ _ _
-control-leaves t (UnsharePage left right page) = decided-leaves t _ _ _
-control-leaves t (CpuMap vm guest page access generation) = decided-leaves t _ _ _
-control-leaves t (DmaMap vm guest page access generation) = decided-leaves t _ _ _
-control-leaves t (CpuUnmap vm guest) = decided-leaves t _ _ _
-control-leaves t (DmaUnmap vm guest) = decided-leaves t _ _ _
-control-leaves t (InsertRegion vm guest page count access) = decided-leaves t _ _ _
-control-leaves t (RemoveRegion vm guest page count access) = decided-leaves t _ _ _
-control-leaves t (DmaInsertRegion vm guest page count access) = decided-leaves t _ _ _
-control-leaves t (DmaRemoveRegion vm guest page count access) = decided-leaves t _ _ _
-control-leaves t (SwitchCpu port target) = decided-leaves t _ _ _
-control-leaves t (BindDevice port target) = decided-leaves t _ _ _
-control-leaves t (CpuFill port guest) = decided-leaves t _ _ _
-control-leaves t (DmaFill port guest) = decided-leaves t _ _ _
-control-leaves t (EmptyCpuSlot slot) = decided-leaves t _ _ _
-control-leaves t (EmptyDmaSlot slot) = decided-leaves t _ _ _
-control-leaves t (CpuRead port guest word) = decided-leaves t _ _ _
-control-leaves t (DmaRead port guest word) = decided-leaves t _ _ _
-control-leaves t (CpuWrite port guest word value) = decided-leaves t _ _ _
-control-leaves t (DmaWrite port guest word value) = decided-leaves t _ _ _
-control-leaves t DataBarrier = decided-leaves t _ _ _
-control-leaves t InstructionBarrier = decided-leaves t _ _ _
+unfolding control
+control-leaves t operation = decided-leaves t (answerOf t operation) (nextOf t operation) (effectOf t operation)
 
 -- ---- carried out: the state as it was where it is refused
 abbrev KeptBy : State → Stepped → Type 0
@@ -139,9 +66,6 @@ pub sequence-leaves : (s : State) (rows room : List ℕ) → SequenceLeaves s ro
 unfolding sequence
 sequence-leaves s rows room = whole (shapeAnswer rows room)
   where
-    begun : Progress
-    begun = record { state = s; room = room }
-
-    whole : (answer : Answer) → SequenceLeaves s room (record { answer = answer; progress = kept answer begun (after rows (rowCount rows) begun) })
+    whole : (answer : Answer) → SequenceLeaves s room (record { answer = answer; progress = kept answer (beginning s room) (after rows (rowCount rows) (beginning s room)) })
     whole (Accepted dropped word) = record { state = refl; room = refl }
     whole (Refused refusal index) = record { state = refl; room = refl }

@@ -17,7 +17,7 @@ use Rattle.table.specs.Table.{find, lookup, isFound, put, roomFor}
 use Rattle.pages.specs.Rows.{add, remove, dmaRow}
 use Rattle.units.specs.Spans.{regionSpan}
 use Rattle.units.specs.Units.{assignable}
-use Rattle.units.specs.declared.Region.{Region}
+use Rattle.numbers.specs.declared.Region.{Region}
 use Rattle.units.specs.declared.Unit.{Unit}
 use Rattle.model.specs.Views.{isVm, isAccess, knows, inPool, inShared, claims, otherSide, claimedElsewhere, edgeOn, targeted, butKey, isFilled}
 use Rattle.model.specs.Effect.{accepted, acceptedDropping, refused, andThen}
@@ -103,14 +103,19 @@ abbrev pub inUse : Side → List ℕ → List ℕ → Region → ℕ → Bool
 inUse Cpu pairs map region k = targeted (butKey (keyIn region k)) map (pageIn region k) || edgeOn pairs (pageIn region k)
 inUse Dma pairs map region k = targeted (butKey (keyIn region k)) map (pageIn region k)
 
-unfoldable pub removeAnswer : Side → ℕ → ℕ → List Unit → ℕ → List ℕ → List ℕ → List ℕ → List ℕ → Region → Answer
-removeAnswer side known pages units unitCount sets pairs map cache region =
+-- whether it may, and then with how many slots dropped
+unfoldable pub removeMay : Side → ℕ → ℕ → List Unit → ℕ → List ℕ → List ℕ → List ℕ → Region → Answer
+removeMay side known pages units unitCount sets pairs map region =
     andThen (regionEarly known pages region)
     (if not (assignable units unitCount side region) then refused NoSuchUnit
     else clash (notHeld side sets region) region PageNotHeld
     (clash (differs map region) region MappingDiffers
     (clash (inUse side pairs map region) region StillInUse
-    (acceptedDropping (count (inRegion region) cache)))))
+    accepted)))
+
+unfoldable pub removeAnswer : Side → ℕ → ℕ → List Unit → ℕ → List ℕ → List ℕ → List ℕ → List ℕ → Region → Answer
+removeAnswer side known pages units unitCount sets pairs map cache region =
+    andThen (removeMay side known pages units unitCount sets pairs map region) (acceptedDropping (count (inRegion region) cache))
 
 abbrev pub removePage : Side → ℕ → ℕ → List ℕ → List ℕ
 removePage Cpu vm page sets = reclaimSets sets vm page

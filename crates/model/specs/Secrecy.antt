@@ -1,24 +1,26 @@
 -- Demand 3 (docs/MACHINE.md, 12): two runs that differ only in the private words of a set of VMs stay equal everywhere else.
 -- Over any reading of "private", since one VM's and a set's are two readings of it.
-use Prim.Native.Nat.{ℕ, _≤_, _<_}
+use Prim.Native.Nat.{ℕ, zero, suc, _≤_, _<_}
 use mathlib.Core.Bool.{Bool, true, false}
 use mathlib.Core.List.{List, [], _∷_}
 use mathlib.Core.Option.{Option, none, some}
 use mathlib.Core.Path.{_≡_}
-use lib.ListN.{length}
+use lib.ListN.{length, getD}
 use Rattle.numbers.specs.Limits.{VMS, PAGE-WORDS}
 use Rattle.numbers.specs.Packing.{leftOf, rightOf, pageOf}
 use Rattle.numbers.specs.declared.Answer.{Answer}
 use Rattle.numbers.specs.declared.Answer.the-variants.{Accepted, Refused}
-use Rattle.numbers.specs.declared.GuestPage.{GuestPage}
+use Rattle.numbers.specs.declared.Refusal.the-variants.{OutOfRange}
+use Rattle.numbers.specs.declared.SideOperation.{SideOperation}
+use Rattle.numbers.specs.declared.SideOperation.the-variants as sided
 use Rattle.numbers.specs.declared.Operation.{Operation}
-use Rattle.numbers.specs.declared.Operation.the-variants.{SharePage, CpuWrite, DmaWrite}
+use Rattle.numbers.specs.declared.Operation.the-variants as op
 use Rattle.table.specs.Table.{Has}
 use Rattle.model.specs.State.{Tables, State}
-use Rattle.model.specs.Effect.{Place, Store, Effect, reads, writes, clears, quiet, wordIn, accepted}
+use Rattle.model.specs.Effect.{Place, Store, Effect, reads, writes, clears, quiet, wordIn, loaded, accepted, refused}
 use Rattle.model.specs.Step.{control}
-use Rattle.model.specs.Sequence.{vmId, physPage, operationIn, stepRow, rowAt, Progress, after}
-use Rattle.model.specs.Good.{holdsPage, PlaceOn}
+use Rattle.model.specs.Sequence.{operationIn, stepRow, rowAt, Progress, after}
+use Rattle.model.specs.Good.{holdsPage, Sharing, sharing}
 
 -- ---- private pages
 -- to one VM: it holds the page, and no edge names it
@@ -28,7 +30,7 @@ pub record PrivateTo (vm : ℕ) (t : Tables) (page : ℕ) : Type 0 where
   pub held : holdsPage (t .sets) vm page ≡ true
   pub unshared : (w : ℕ) → Has (t .pairs) w → pageOf w ≡ page → ⊥
 
--- to a set of VMs: a member holds the page, and every edge on it joins two members
+-- to a set of VMs: a member holds the page, and no edge on it leads out of the set
 pub record Private (members : ℕ → Bool) (t : Tables) (page : ℕ) : Type 0 where
   pub holder : ℕ
   pub member : members holder ≡ true
@@ -42,16 +44,63 @@ abbrev pub effectIn : Tables → Option Operation → Effect
 effectIn t none = quiet
 effectIn t (some operation) = control t operation .effect
 
--- the same operation, but for the value that it writes
-pub data SameButValue : Option Operation → Option Operation → Type 0 where
-  equal : {operation : Option Operation} → SameButValue operation operation
-  cpu-value : {port : ℕ} {guest : GuestPage} {word a b : ℕ} → SameButValue (some (CpuWrite port guest word a)) (some (CpuWrite port guest word b))
-  dma-value : {port : ℕ} {guest : GuestPage} {word a b : ℕ} → SameButValue (some (DmaWrite port guest word a)) (some (DmaWrite port guest word b))
+abbrev pub answerIn : Tables → Option Operation → Answer
+answerIn t none = refused OutOfRange
+answerIn t (some operation) = control t operation .answer
+
+-- the operation but for the value that it writes
+abbrev pub sideWithoutValue : SideOperation → SideOperation
+sideWithoutValue (sided.MapPage vm guest page access generation) = sided.MapPage vm guest page access generation
+sideWithoutValue (sided.UnmapPage vm guest) = sided.UnmapPage vm guest
+sideWithoutValue (sided.InsertRegion region) = sided.InsertRegion region
+sideWithoutValue (sided.RemoveRegion region) = sided.RemoveRegion region
+sideWithoutValue (sided.GivePort port target) = sided.GivePort port target
+sideWithoutValue (sided.FillSlot port guest) = sided.FillSlot port guest
+sideWithoutValue (sided.EmptySlot slot) = sided.EmptySlot slot
+sideWithoutValue (sided.ReadWord port guest word) = sided.ReadWord port guest word
+sideWithoutValue (sided.WriteWord port guest word value) = sided.WriteWord port guest word 0
+
+abbrev pub withoutValue : Operation → Operation
+withoutValue (op.AddVm vm) = op.AddVm vm
+withoutValue (op.RemoveVm vm) = op.RemoveVm vm
+withoutValue (op.AssignPage vm page) = op.AssignPage vm page
+withoutValue (op.ReclaimPage vm page) = op.ReclaimPage vm page
+withoutValue (op.SharePage left right page) = op.SharePage left right page
+withoutValue (op.UnsharePage left right page) = op.UnsharePage left right page
+withoutValue (op.On side operation) = op.On side (sideWithoutValue operation)
+withoutValue op.DataBarrier = op.DataBarrier
+withoutValue op.InstructionBarrier = op.InstructionBarrier
+
+abbrev pub withoutValueIn : Option Operation → Option Operation
+withoutValueIn none = none
+withoutValueIn (some operation) = some (withoutValue operation)
+
+-- what a row shares
+abbrev pub sharingIn : Option Operation → Option Sharing
+sharingIn none = none
+sharingIn (some operation) = sharing operation
 
 -- a share that the tables accept: the two VMs and the page
 pub record Shared (t : Tables) (operation : Option Operation) (left right page : ℕ) : Type 0 where
-  pub share : operation ≡ some (SharePage (vmId left) (vmId right) (physPage page))
-  pub agreed : control t (SharePage (vmId left) (vmId right) (physPage page)) .answer ≡ accepted
+  pub share : sharingIn operation ≡ some (record { left = left; right = right; page = page })
+  pub agreed : answerIn t operation ≡ accepted
+
+-- a page that a member shares with a VM outside holds equal words in both memories
+abbrev pub SharesEqual : (ℕ → Bool) → Tables → Option Operation → List ℕ → List ℕ → Type 0
+SharesEqual members t operation a b =
+    (left right page word : ℕ) → Shared t operation left right page → members left ≡ true → members right ≡ false → word < PAGE-WORDS → wordIn a page word ≡ wordIn b page word
+
+-- of what is read, place k lies in a secret page
+abbrev pub SecretAt : (ℕ → Type 0) → List Place → ℕ → Type 0
+SecretAt Secret [] k = ⊥
+SecretAt Secret (x ∷ xs) zero = Secret (x .page)
+SecretAt Secret (x ∷ xs) (suc k) = SecretAt Secret xs k
+
+-- the words that an effect reads, place by place
+abbrev pub wordsRead : Effect → List ℕ → List ℕ
+wordsRead (reads vm places) memory = loaded places memory
+wordsRead (writes vm stores) memory = []
+wordsRead (clears pages) memory = []
 
 -- the answer but for the word that was read
 abbrev pub withoutWord : Answer → Answer
@@ -73,14 +122,14 @@ module _ (members : ℕ → Bool) (Secret : Tables → ℕ → Type 0) where
 
   -- only values that a member writes to private pages differ
   pub record Differ (t : Tables) (a b : Option Operation) : Type 0 where
-    pub shape : SameButValue a b
+    pub shape : withoutValueIn a ≡ withoutValueIn b
     pub near : Near t (effectIn t a) (effectIn t b)
 
-  -- a member reads a private page
-  abbrev pub Seen : Tables → Effect → Type 0
-  Seen t (reads vm places) = (members vm ≡ true) × ((page : ℕ) × PlaceOn page places × Secret t page)
-  Seen t (writes vm xs) = ⊥
-  Seen t (clears pages) = ⊥
+  -- a member reads a private page at place k
+  abbrev pub Seen : Tables → Effect → ℕ → Type 0
+  Seen t (reads vm places) k = (members vm ≡ true) × SecretAt (Secret t) places k
+  Seen t (writes vm xs) k = ⊥
+  Seen t (clears pages) k = ⊥
 
   -- two states equal but for words in private pages
   pub record Alike (a b : State) : Type 0 where
@@ -88,17 +137,19 @@ module _ (members : ℕ → Bool) (Secret : Tables → ℕ → Type 0) where
     pub size : length (a .memory) ≡ length (b .memory)
     pub words : (page word : ℕ) → word < PAGE-WORDS → (Secret (a .tables) page → ⊥) → wordIn (a .memory) page word ≡ wordIn (b .memory) page word
 
-  -- two answers equal but for the word, and equal where no member reads a private page
+  -- what two memories give a read: equal words but at the places where a member reads a private page
+  abbrev pub SameRead : Tables → Effect → List ℕ → List ℕ → Type 0
+  SameRead t effect a b = (k : ℕ) → (Seen t effect k → ⊥) → getD (wordsRead effect a) k 0 ≡ getD (wordsRead effect b) k 0
+
+  -- two answers equal but for the word, which is that of the first place
   pub record SameAnswer (t : Tables) (operation : Option Operation) (x y : Answer) : Type 0 where
     pub but-word : withoutWord x ≡ withoutWord y
-    pub whole : (Seen t (effectIn t operation) → ⊥) → x ≡ y
+    pub whole : (Seen t (effectIn t operation) 0 → ⊥) → x ≡ y
 
   -- what is asked of two rows, in the states before them
   pub record Asked (a b : State) (row row′ : List ℕ) : Type 0 where
     pub differ : Differ (a .tables) (operationIn row) (operationIn row′)
-    -- a page that a member shares with a VM outside holds equal words in both runs
-    pub shares-equal : (left right page word : ℕ) → Shared (a .tables) (operationIn row) left right page → members left ≡ true → members right ≡ false → word < PAGE-WORDS →
-        wordIn (a .memory) page word ≡ wordIn (b .memory) page word
+    pub shares-equal : SharesEqual members (a .tables) (operationIn row) (a .memory) (b .memory)
 
   -- ---- the statement: for all rows, after every row
   abbrev pub Premise : Progress → Progress → List ℕ → List ℕ → ℕ → Type 0

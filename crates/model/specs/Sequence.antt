@@ -15,35 +15,11 @@ use Rattle.numbers.specs.declared.GuestPage.{GuestPage}
 use Rattle.numbers.specs.declared.PhysPage.{PhysPage}
 use Rattle.numbers.specs.declared.Target.{Target}
 use Rattle.numbers.specs.declared.Target.the-variants.{Idle, Vm}
+use Rattle.numbers.specs.declared.Region.{Region}
+use Rattle.numbers.specs.declared.Side.the-variants.{Cpu, Dma}
+use Rattle.numbers.specs.declared.SideOperation.the-variants as sided
 use Rattle.numbers.specs.declared.Operation.{Operation}
-use Rattle.numbers.specs.declared.Operation.the-variants.{
-  AddVm,
-  RemoveVm,
-  AssignPage,
-  ReclaimPage,
-  SharePage,
-  UnsharePage,
-  CpuMap,
-  DmaMap,
-  CpuUnmap,
-  DmaUnmap,
-  InsertRegion,
-  RemoveRegion,
-  DmaInsertRegion,
-  DmaRemoveRegion,
-  SwitchCpu,
-  BindDevice,
-  CpuFill,
-  DmaFill,
-  EmptyCpuSlot,
-  EmptyDmaSlot,
-  CpuRead,
-  DmaRead,
-  CpuWrite,
-  DmaWrite,
-  DataBarrier,
-  InstructionBarrier,
-}
+use Rattle.numbers.specs.declared.Operation.the-variants as op
 use Rattle.table.specs.Scan.{repeat}
 use Rattle.model.specs.State.{State}
 use Rattle.model.specs.Effect.{accepted, refused, kept}
@@ -63,34 +39,37 @@ physPage n = record { 0 = n }
 abbrev pub targetOf : ℕ → Target
 targetOf n = if eqb n IDLE then Idle else Vm (vmId n)
 
+abbrev pub regionOf : ℕ → ℕ → ℕ → ℕ → ℕ → Region
+regionOf vm guest page count access = record { vm = vmId vm; guest = guestPage guest; page = physPage page; count = count; access = access }
+
 abbrev pub operationOf : ℕ → ℕ → ℕ → ℕ → ℕ → ℕ → Option Operation
 operationOf number a b c d e =
-    if eqb number 1 then some (AddVm (vmId a))
-    else if eqb number 2 then some (RemoveVm (vmId a))
-    else if eqb number 3 then some (AssignPage (vmId a) (physPage b))
-    else if eqb number 4 then some (ReclaimPage (vmId a) (physPage b))
-    else if eqb number 5 then some (SharePage (vmId a) (vmId b) (physPage c))
-    else if eqb number 6 then some (UnsharePage (vmId a) (vmId b) (physPage c))
-    else if eqb number 7 then some (CpuMap (vmId a) (guestPage b) (physPage c) d e)
-    else if eqb number 8 then some (DmaMap (vmId a) (guestPage b) (physPage c) d e)
-    else if eqb number 9 then some (CpuUnmap (vmId a) (guestPage b))
-    else if eqb number 10 then some (DmaUnmap (vmId a) (guestPage b))
-    else if eqb number 11 then some (InsertRegion (vmId a) (guestPage b) (physPage c) d e)
-    else if eqb number 12 then some (RemoveRegion (vmId a) (guestPage b) (physPage c) d e)
-    else if eqb number 13 then some (DmaInsertRegion (vmId a) (guestPage b) (physPage c) d e)
-    else if eqb number 14 then some (DmaRemoveRegion (vmId a) (guestPage b) (physPage c) d e)
-    else if eqb number 15 then some (SwitchCpu a (targetOf b))
-    else if eqb number 16 then some (BindDevice a (targetOf b))
-    else if eqb number 17 then some (CpuFill a (guestPage b))
-    else if eqb number 18 then some (DmaFill a (guestPage b))
-    else if eqb number 19 then some (EmptyCpuSlot a)
-    else if eqb number 20 then some (EmptyDmaSlot a)
-    else if eqb number 21 then some (CpuRead a (guestPage b) c)
-    else if eqb number 22 then some (DmaRead a (guestPage b) c)
-    else if eqb number 23 then some (CpuWrite a (guestPage b) c d)
-    else if eqb number 24 then some (DmaWrite a (guestPage b) c d)
-    else if eqb number 25 then some DataBarrier
-    else if eqb number 26 then some InstructionBarrier
+    if eqb number 1 then some (op.AddVm (vmId a))
+    else if eqb number 2 then some (op.RemoveVm (vmId a))
+    else if eqb number 3 then some (op.AssignPage (vmId a) (physPage b))
+    else if eqb number 4 then some (op.ReclaimPage (vmId a) (physPage b))
+    else if eqb number 5 then some (op.SharePage (vmId a) (vmId b) (physPage c))
+    else if eqb number 6 then some (op.UnsharePage (vmId a) (vmId b) (physPage c))
+    else if eqb number 7 then some (op.On Cpu (sided.MapPage (vmId a) (guestPage b) (physPage c) d e))
+    else if eqb number 8 then some (op.On Dma (sided.MapPage (vmId a) (guestPage b) (physPage c) d e))
+    else if eqb number 9 then some (op.On Cpu (sided.UnmapPage (vmId a) (guestPage b)))
+    else if eqb number 10 then some (op.On Dma (sided.UnmapPage (vmId a) (guestPage b)))
+    else if eqb number 11 then some (op.On Cpu (sided.InsertRegion (regionOf a b c d e)))
+    else if eqb number 12 then some (op.On Cpu (sided.RemoveRegion (regionOf a b c d e)))
+    else if eqb number 13 then some (op.On Dma (sided.InsertRegion (regionOf a b c d e)))
+    else if eqb number 14 then some (op.On Dma (sided.RemoveRegion (regionOf a b c d e)))
+    else if eqb number 15 then some (op.On Cpu (sided.GivePort a (targetOf b)))
+    else if eqb number 16 then some (op.On Dma (sided.GivePort a (targetOf b)))
+    else if eqb number 17 then some (op.On Cpu (sided.FillSlot a (guestPage b)))
+    else if eqb number 18 then some (op.On Dma (sided.FillSlot a (guestPage b)))
+    else if eqb number 19 then some (op.On Cpu (sided.EmptySlot a))
+    else if eqb number 20 then some (op.On Dma (sided.EmptySlot a))
+    else if eqb number 21 then some (op.On Cpu (sided.ReadWord a (guestPage b) c))
+    else if eqb number 22 then some (op.On Dma (sided.ReadWord a (guestPage b) c))
+    else if eqb number 23 then some (op.On Cpu (sided.WriteWord a (guestPage b) c d))
+    else if eqb number 24 then some (op.On Dma (sided.WriteWord a (guestPage b) c d))
+    else if eqb number 25 then some op.DataBarrier
+    else if eqb number 26 then some op.InstructionBarrier
     else none
 
 unfoldable pub operationIn : List ℕ → Option Operation
@@ -118,6 +97,10 @@ pub record Progress : Type 0 where
   pub state : State
   pub room : List ℕ
 
+-- where rows begin
+abbrev pub beginning : State → List ℕ → Progress
+beginning s room = record { state = s; room = room }
+
 abbrev pub recorded : Stepped → ℕ → List ℕ → Progress
 recorded r k room = record { state = r .state; room = writeAt room (k * ANSWER-NUMBERS) (answerNumbers (r .answer)) }
 
@@ -144,5 +127,5 @@ pub record Sequenced : Type 0 where
 
 unfoldable pub sequence : State → List ℕ → List ℕ → Sequenced
 sequence s rows room =
-    let p : Progress = record { state = s; room = room } in
+    let p = beginning s room in
     record { answer = shapeAnswer rows room; progress = kept (shapeAnswer rows room) p (after rows (rowCount rows) p) }

@@ -11,35 +11,10 @@ use Rattle.numbers.specs.declared.Answer.the-variants.{Accepted, Refused}
 use Rattle.numbers.specs.declared.Side.{Side}
 use Rattle.numbers.specs.declared.Side.the-variants.{Cpu, Dma}
 use Rattle.numbers.specs.declared.Target.{Target}
+use Rattle.numbers.specs.declared.SideOperation.{SideOperation}
+use Rattle.numbers.specs.declared.SideOperation.the-variants as sided
 use Rattle.numbers.specs.declared.Operation.{Operation}
-use Rattle.numbers.specs.declared.Operation.the-variants.{
-  AddVm,
-  RemoveVm,
-  AssignPage,
-  ReclaimPage,
-  SharePage,
-  UnsharePage,
-  CpuMap,
-  DmaMap,
-  CpuUnmap,
-  DmaUnmap,
-  InsertRegion,
-  RemoveRegion,
-  DmaInsertRegion,
-  DmaRemoveRegion,
-  SwitchCpu,
-  BindDevice,
-  CpuFill,
-  DmaFill,
-  EmptyCpuSlot,
-  EmptyDmaSlot,
-  CpuRead,
-  DmaRead,
-  CpuWrite,
-  DmaWrite,
-  DataBarrier,
-  InstructionBarrier,
-}
+use Rattle.numbers.specs.declared.Operation.the-variants as op
 use Rattle.table.specs.Scan.{repeat}
 use Rattle.table.specs.ScanLaws.{length-wipe}
 use Rattle.table.specs.Table.{put, erase, setAt, hasKey, lookup}
@@ -48,8 +23,8 @@ use Rattle.table.specs.declared.Found.{Found}
 use Rattle.table.specs.declared.Found.the-variants.{At, Nothing}
 use Rattle.pages.specs.RowLaws.{length-add, length-remove}
 use Rattle.pages.specs.Rows.{remove, poolRow, cpuRow, dmaRow}
-use Rattle.units.specs.declared.Region.{Region}
-use Rattle.model.specs.State.{Tables, Route, State, route, withRoute, withKnown, withSets, withPairs, withCache, withPorts}
+use Rattle.numbers.specs.declared.Region.{Region}
+use Rattle.model.specs.State.{Tables, Route, State, route, withSide, withKnown, withSets, withPairs, withCache, withPorts}
 use Rattle.model.specs.Views.{paired}
 use Rattle.model.specs.Effect.{Effect, decided}
 use Rattle.model.specs.MemoryLaws.{length-applied}
@@ -57,31 +32,7 @@ use Rattle.model.specs.Ledger.{assignSets, reclaimSets, sharePairs, unsh
 use Rattle.model.specs.Maps.{mapTable, unmapTable, withoutSlots}
 use Rattle.model.specs.Regions.{insertPage, insertSets, insertTable, removePage, removeSets, removeTable, inRegion, keyIn, regionEntry, pageIn}
 use Rattle.model.specs.Ports.{portPorts, emptyCache, fillCache, fillPlace, vmOn}
-use Rattle.model.specs.Step.{
-  mapRoute,
-  unmapRoute,
-  insertRoute,
-  removeRoute,
-  fillRoute,
-  addVmControl,
-  removeVmControl,
-  assignControl,
-  reclaimControl,
-  shareControl,
-  unshareControl,
-  mapControl,
-  unmapControl,
-  insertControl,
-  removeControl,
-  portControl,
-  fillControl,
-  emptyControl,
-  readControl,
-  writeControl,
-  control,
-  regionOf,
-  step,
-}
+use Rattle.model.specs.Step.{mapRoute, unmapRoute, insertRoute, removeRoute, fillRoute, sideRoute, sideSets, answerOf, nextOf, effectOf, control, step}
 
 -- ---- one shape
 pub record SameRoute (r r′ : Route) : Type 0 where
@@ -113,14 +64,9 @@ sets-shape t sets e = record { setup = refl; sets = e; pairs = refl; cpu = same-
 pairs-shape : (t : Tables) (pairs : List ℕ) → length pairs ≡ length (t .pairs) → SameShape t (withPairs t pairs)
 pairs-shape t pairs e = record { setup = refl; sets = refl; pairs = e; cpu = same-route (t .cpu); dma = same-route (t .dma) }
 
-route-shape : (side : Side) (t : Tables) (r : Route) → SameRoute (route side t) r → SameShape t (withRoute side t r)
-route-shape Cpu t r s = record { setup = refl; sets = refl; pairs = refl; cpu = s; dma = same-route (t .dma) }
-route-shape Dma t r s = record { setup = refl; sets = refl; pairs = refl; cpu = same-route (t .cpu); dma = s }
-
--- a region's edit, of a route and of the sets
-both-shape : (side : Side) (t : Tables) (r : Route) (sets : List ℕ) → SameRoute (route side t) r → length sets ≡ length (t .sets) → SameShape t (withSets (withRoute side t r) sets)
-both-shape Cpu t r sets s e = record { setup = refl; sets = e; pairs = refl; cpu = s; dma = same-route (t .dma) }
-both-shape Dma t r sets s e = record { setup = refl; sets = e; pairs = refl; cpu = same-route (t .cpu); dma = s }
+side-shape : (side : Side) (t : Tables) (r : Route) (sets : List ℕ) → SameRoute (route side t) r → length sets ≡ length (t .sets) → SameShape t (withSide side t r sets)
+side-shape Cpu t r sets s e = record { setup = refl; sets = e; pairs = refl; cpu = s; dma = same-route (t .dma) }
+side-shape Dma t r sets s e = record { setup = refl; sets = e; pairs = refl; cpu = same-route (t .cpu); dma = s }
 
 decided-shape : (t : Tables) (answer : Answer) (new : Tables) (effect : Effect) → SameShape t new → SameShape t (decided t answer new effect .tables)
 unfolding decided
@@ -197,78 +143,46 @@ module _ (r : Route) where
   pub same-emptied : (slot : ℕ) → SameRoute r (withCache r (emptyCache (r .cache) slot) (r .hand))
   same-emptied slot = record { map = refl; walker = refl; cache = length-set (r .cache) slot 0; ports = refl }
 
+  pub side-route : (operation : SideOperation) → SameRoute r (sideRoute r operation)
+  side-route (sided.MapPage vm guest page access generation) = same-mapped (vm .0) (guest .0) (page .0) access generation
+  side-route (sided.UnmapPage vm guest) = same-unmapped (vm .0) (guest .0)
+  side-route (sided.InsertRegion region) = same-inserted region
+  side-route (sided.RemoveRegion region) = same-removed region
+  side-route (sided.GivePort port target) = same-switched port target
+  side-route (sided.FillSlot port guest) = same-filled port (guest .0)
+  side-route (sided.EmptySlot slot) = same-emptied slot
+  side-route (sided.ReadWord port guest word) = same-route r
+  side-route (sided.WriteWord port guest word value) = same-route r
+
+length-sideSets : (side : Side) (sets : List ℕ) (operation : SideOperation) → length (sideSets side sets operation) ≡ length sets
+unfolding insertSets removeSets
+length-sideSets side sets (sided.MapPage vm guest page access generation) = refl
+length-sideSets side sets (sided.UnmapPage vm guest) = refl
+length-sideSets side sets (sided.InsertRegion region) = length-repeat _ (λ k ws. length-insertPage side (region .vm .0) (pageIn region k) ws) 0 (region .count) sets
+length-sideSets side sets (sided.RemoveRegion region) = length-repeat _ (λ k ws. length-removePage side (region .vm .0) (pageIn region k) ws) 0 (region .count) sets
+length-sideSets side sets (sided.GivePort port target) = refl
+length-sideSets side sets (sided.FillSlot port guest) = refl
+length-sideSets side sets (sided.EmptySlot slot) = refl
+length-sideSets side sets (sided.ReadWord port guest word) = refl
+length-sideSets side sets (sided.WriteWord port guest word value) = refl
+
 -- ---- each operation
 module _ (t : Tables) where
-  port-shape : (side : Side) (port : ℕ) (target : Target) → SameShape t (portControl side t port target .tables)
-  unfolding portControl
-  port-shape side port target = decided-shape t _ _ _ (route-shape side t _ (same-switched (route side t) port target))
-
-  fill-shape : (side : Side) (port guest : ℕ) → SameShape t (fillControl side t port guest .tables)
-  unfolding fillControl
-  fill-shape side port guest = decided-shape t _ _ _ (route-shape side t _ (same-filled (route side t) port guest))
-
-  empty-shape : (side : Side) (slot : ℕ) → SameShape t (emptyControl side t slot .tables)
-  unfolding emptyControl
-  empty-shape side slot = decided-shape t _ _ _ (route-shape side t _ (same-emptied (route side t) slot))
-
-  share-shape : (left right page : ℕ) → SameShape t (shareControl t left right page .tables)
-  unfolding shareControl sharePairs
-  share-shape left right page = decided-shape t _ _ _ (pairs-shape t _ (length-share (t .pairs) left right page (paired (t .pairs) left right page)))
-
-  unshare-shape : (left right page : ℕ) → SameShape t (unshareControl t left right page .tables)
-  unfolding unshareControl unsharePairs
-  unshare-shape left right page = decided-shape t _ _ _ (pairs-shape t _ (length-erase pairKeyOf (t .pairs) _))
-
-  map-shape : (side : Side) (vm guest page access generation : ℕ) → SameShape t (mapControl side t vm guest page access generation .tables)
-  unfolding mapControl
-  map-shape side vm guest page access generation = decided-shape t _ _ _ (route-shape side t _ (same-mapped (route side t) vm guest page access generation))
-
-  unmap-shape : (side : Side) (vm guest : ℕ) → SameShape t (unmapControl side t vm guest .tables)
-  unfolding unmapControl
-  unmap-shape side vm guest = decided-shape t _ _ _ (route-shape side t _ (same-unmapped (route side t) vm guest))
-
-  insert-shape : (side : Side) (region : Region) → SameShape t (insertControl side t region .tables)
-  unfolding insertControl insertSets
-  insert-shape side region =
-      decided-shape t _ _ _
-      (both-shape side t _ _ (same-inserted (route side t) region)
-      (length-repeat _ (λ k ws. length-insertPage side (region .vm .0) (pageIn region k) ws) 0 (region .count) (t .sets)))
-
-  remove-shape : (side : Side) (region : Region) → SameShape t (removeControl side t region .tables)
-  unfolding removeControl removeSets
-  remove-shape side region =
-      decided-shape t _ _ _
-      (both-shape side t _ _ (same-removed (route side t) region)
-      (length-repeat _ (λ k ws. length-removePage side (region .vm .0) (pageIn region k) ws) 0 (region .count) (t .sets)))
+  next-shape : (operation : Operation) → SameShape t (nextOf t operation)
+  unfolding sharePairs unsharePairs
+  next-shape (op.AddVm vm) = known-shape t _
+  next-shape (op.RemoveVm vm) = known-shape t _
+  next-shape (op.AssignPage vm page) = sets-shape t _ (length-assign (t .sets) (vm .0) (page .0))
+  next-shape (op.ReclaimPage vm page) = sets-shape t _ (length-reclaim (t .sets) (vm .0) (page .0))
+  next-shape (op.SharePage left right page) = pairs-shape t _ (length-share (t .pairs) (left .0) (right .0) (page .0) (paired (t .pairs) (left .0) (right .0) (page .0)))
+  next-shape (op.UnsharePage left right page) = pairs-shape t _ (length-erase pairKeyOf (t .pairs) _)
+  next-shape (op.On side operation) = side-shape side t _ _ (side-route (route side t) operation) (length-sideSets side (t .sets) operation)
+  next-shape op.DataBarrier = same-shape t
+  next-shape op.InstructionBarrier = same-shape t
 
   pub control-shape : (operation : Operation) → SameShape t (control t operation .tables)
-  unfolding control addVmControl removeVmControl assignControl reclaimControl readControl writeControl
-  control-shape (AddVm vm) = decided-shape t _ _ _ (known-shape t _)
-  control-shape (RemoveVm vm) = decided-shape t _ _ _ (known-shape t _)
-  control-shape (AssignPage vm page) = decided-shape t _ _ _ (sets-shape t _ (length-assign (t .sets) (vm .0) (page .0)))
-  control-shape (ReclaimPage vm page) = decided-shape t _ _ _ (sets-shape t _ (length-reclaim (t .sets) (vm .0) (page .0)))
-  control-shape (SharePage left right page) = share-shape (left .0) (right .0) (page .0)
-  control-shape (UnsharePage left right page) = unshare-shape (left .0) (right .0) (page .0)
-  control-shape (CpuMap vm guest page access generation) = map-shape Cpu (vm .0) (guest .0) (page .0) access generation
-  control-shape (DmaMap vm guest page access generation) = map-shape Dma (vm .0) (guest .0) (page .0) access generation
-  control-shape (CpuUnmap vm guest) = unmap-shape Cpu (vm .0) (guest .0)
-  control-shape (DmaUnmap vm guest) = unmap-shape Dma (vm .0) (guest .0)
-  control-shape (InsertRegion vm guest page count access) = insert-shape Cpu (regionOf vm guest page count access)
-  control-shape (RemoveRegion vm guest page count access) = remove-shape Cpu (regionOf vm guest page count access)
-  control-shape (DmaInsertRegion vm guest page count access) = insert-shape Dma (regionOf vm guest page count access)
-  control-shape (DmaRemoveRegion vm guest page count access) = remove-shape Dma (regionOf vm guest page count access)
-  control-shape (SwitchCpu port target) = port-shape Cpu port target
-  control-shape (BindDevice port target) = port-shape Dma port target
-  control-shape (CpuFill port guest) = fill-shape Cpu port (guest .0)
-  control-shape (DmaFill port guest) = fill-shape Dma port (guest .0)
-  control-shape (EmptyCpuSlot slot) = empty-shape Cpu slot
-  control-shape (EmptyDmaSlot slot) = empty-shape Dma slot
-  control-shape (CpuRead port guest word) = decided-shape t _ _ _ (same-shape t)
-  control-shape (DmaRead port guest word) = decided-shape t _ _ _ (same-shape t)
-  control-shape (CpuWrite port guest word value) = decided-shape t _ _ _ (same-shape t)
-  control-shape (DmaWrite port guest word value) = decided-shape t _ _ _ (same-shape t)
-  control-shape DataBarrier = decided-shape t _ _ _ (same-shape t)
-  control-shape InstructionBarrier = decided-shape t _ _ _ (same-shape t)
+  unfolding control
+  control-shape operation = decided-shape t (answerOf t operation) (nextOf t operation) (effectOf t operation) (next-shape operation)
 
 -- ---- one step of the whole machine
 pub record SameSizes (s s′ : State) : Type 0 where

@@ -15,7 +15,7 @@ use Rattle.pages.specs.Rows.{add, poolRow, sharedRow, freeCount, lowestFree}
 use Rattle.units.specs.Spans.{spanWithin, regionSpan}
 use Rattle.units.specs.Units.{isMark, markOf, noUnit}
 use Rattle.units.specs.declared.Unit.{Unit}
-use Rattle.units.specs.declared.Region.{Region}
+use Rattle.numbers.specs.declared.Region.{Region}
 use Rattle.model.specs.State.{Tables, Route, Setup, State}
 use Rattle.model.specs.Views.{isVm, isAccess}
 use Rattle.model.specs.Effect.{accepted, refused, kept}

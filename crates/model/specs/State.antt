@@ -46,6 +46,11 @@ abbrev pub withRoute : Side → Tables → Route → Tables
 withRoute Cpu t r = record { setup = t .setup; known = t .known; sets = t .sets; pairs = t .pairs; cpu = r; dma = t .dma }
 withRoute Dma t r = record { setup = t .setup; known = t .known; sets = t .sets; pairs = t .pairs; cpu = t .cpu; dma = r }
 
+-- what an operation of one side replaces: the side's route and the page sets
+abbrev pub withSide : Side → Tables → Route → List ℕ → Tables
+withSide Cpu t r sets = record { setup = t .setup; known = t .known; sets = sets; pairs = t .pairs; cpu = r; dma = t .dma }
+withSide Dma t r sets = record { setup = t .setup; known = t .known; sets = sets; pairs = t .pairs; cpu = t .cpu; dma = r }
+
 abbrev pub withKnown : Tables → ℕ → Tables
 withKnown t known = record { setup = t .setup; known = known; sets = t .sets; pairs = t .pairs; cpu = t .cpu; dma = t .dma }
 

@@ -13,7 +13,7 @@ use Rattle.numbers.specs.Choice.{if_then_else_}
 use Rattle.numbers.specs.Limits.{VMS, PAGES, GUEST-PAGES, PORTS, READ, WRITE, EXECUTE}
 use Rattle.numbers.specs.Packing.{key, slotKey, keyOf, pageOf, accessOf, generationOf}
 use Rattle.table.specs.Table.{lookup}
-use Rattle.units.specs.declared.Region.{Region}
+use Rattle.numbers.specs.declared.Region.{Region}
 use Rattle.model.specs.State.{Tables, State}
 use Rattle.model.specs.Views.{isIdle, knows, inPool, inShared, owns, holdsDma, paired}
 use Rattle.model.specs.Start.{inSpan}

@@ -14,45 +14,20 @@ use Rattle.numbers.specs.declared.Side.{Side}
 use Rattle.numbers.specs.declared.Side.the-variants.{Cpu, Dma}
 use Rattle.numbers.specs.declared.Target.{Target}
 use Rattle.numbers.specs.declared.Target.the-variants.{Idle, Vm}
+use Rattle.numbers.specs.declared.SideOperation.{SideOperation}
+use Rattle.numbers.specs.declared.SideOperation.the-variants as sided
 use Rattle.numbers.specs.declared.Operation.{Operation}
-use Rattle.numbers.specs.declared.Operation.the-variants.{
-  AddVm,
-  RemoveVm,
-  AssignPage,
-  ReclaimPage,
-  SharePage,
-  UnsharePage,
-  CpuMap,
-  DmaMap,
-  CpuUnmap,
-  DmaUnmap,
-  InsertRegion,
-  RemoveRegion,
-  DmaInsertRegion,
-  DmaRemoveRegion,
-  SwitchCpu,
-  BindDevice,
-  CpuFill,
-  DmaFill,
-  EmptyCpuSlot,
-  EmptyDmaSlot,
-  CpuRead,
-  DmaRead,
-  CpuWrite,
-  DmaWrite,
-  DataBarrier,
-  InstructionBarrier,
-}
+use Rattle.numbers.specs.declared.Operation.the-variants as op
 use Rattle.table.specs.Table.{find, place, isFound}
 use Rattle.units.specs.Units.{assignable}
-use Rattle.units.specs.declared.Region.{Region}
-use Rattle.model.specs.State.{Tables, Route, Setup, State}
+use Rattle.numbers.specs.declared.Region.{Region}
+use Rattle.model.specs.State.{Tables, Route, Setup, State, route}
 use Rattle.model.specs.Effect.{memoryIndex, kept, Control}
 use Rattle.model.specs.Ledger.{reclaimClears}
 use Rattle.model.specs.Regions.{guestIn, pageIn, removeClears}
 use Rattle.model.specs.Ports.{vmOn}
 use Rattle.model.specs.Access.{accessPlace}
-use Rattle.model.specs.Step.{control, carriedOut, regionOf, step}
+use Rattle.model.specs.Step.{control, carriedOut, step}
 use Rattle.model.specs.Upstream.{S2Entry, permsOf, isSome, tlbAt, SoftwareView, HardwareView, softwareView, hardwareView, SameSoftware, SameHardware}
 use Rattle.model.specs.UpstreamStep.{
   MapStep,
@@ -174,33 +149,28 @@ pub data HardwareRun : List HardwareCall → HardwareView → HardwareView → T
 abbrev pub entryOf : ℕ → ℕ → ℕ → S2Entry
 entryOf page access generation = record { page = page; access = permsOf access; generation = generation }
 
-abbrev pub softwareCalls : Operation → List SoftwareCall
-softwareCalls (AddVm vm) = add-vm (vm .0) ∷ []
-softwareCalls (RemoveVm vm) = remove-vm (vm .0) ∷ []
-softwareCalls (AssignPage vm page) = assign-page (vm .0) (page .0) ∷ []
-softwareCalls (ReclaimPage vm page) = reclaim-page (vm .0) (page .0) ∷ []
-softwareCalls (SharePage left right page) = share-page (left .0) (right .0) (page .0) ∷ []
-softwareCalls (UnsharePage left right page) = unshare-page (left .0) (right .0) (page .0) ∷ []
-softwareCalls (CpuMap vm guest page access generation) = map Cpu (vm .0) (guest .0) (entryOf (page .0) access generation) ∷ []
-softwareCalls (DmaMap vm guest page access generation) = map Dma (vm .0) (guest .0) (entryOf (page .0) access generation) ∷ []
-softwareCalls (CpuUnmap vm guest) = unmap Cpu (vm .0) (guest .0) ∷ []
-softwareCalls (DmaUnmap vm guest) = unmap Dma (vm .0) (guest .0) ∷ []
-softwareCalls (InsertRegion vm guest page count access) = insert-region Cpu (regionOf vm guest page count access) ∷ []
-softwareCalls (RemoveRegion vm guest page count access) = remove-region Cpu (regionOf vm guest page count access) ∷ []
-softwareCalls (DmaInsertRegion vm guest page count access) = insert-region Dma (regionOf vm guest page count access) ∷ []
-softwareCalls (DmaRemoveRegion vm guest page count access) = remove-region Dma (regionOf vm guest page count access) ∷ []
-softwareCalls (SwitchCpu port target) = []
-softwareCalls (BindDevice port target) = []
-softwareCalls (CpuFill port guest) = []
-softwareCalls (DmaFill port guest) = []
-softwareCalls (EmptyCpuSlot slot) = []
-softwareCalls (EmptyDmaSlot slot) = []
-softwareCalls (CpuRead port guest word) = []
-softwareCalls (DmaRead port guest word) = []
-softwareCalls (CpuWrite port guest word value) = []
-softwareCalls (DmaWrite port guest word value) = []
-softwareCalls DataBarrier = []
-softwareCalls InstructionBarrier = []
+abbrev pub sideSoftwareCalls : Side → Tables → SideOperation → List SoftwareCall
+sideSoftwareCalls side t (sided.MapPage vm guest page access generation) = map side (vm .0) (guest .0) (entryOf (page .0) access generation) ∷ []
+sideSoftwareCalls side t (sided.UnmapPage vm guest) = unmap side (vm .0) (guest .0) ∷ []
+sideSoftwareCalls side t (sided.InsertRegion region) = insert-region side region ∷ []
+sideSoftwareCalls side t (sided.RemoveRegion region) = remove-region side region ∷ []
+sideSoftwareCalls side t (sided.GivePort port target) = []
+sideSoftwareCalls side t (sided.FillSlot port guest) = []
+sideSoftwareCalls side t (sided.EmptySlot slot) = []
+sideSoftwareCalls side t (sided.ReadWord port guest word) = []
+sideSoftwareCalls side t (sided.WriteWord port guest word value) = []
+
+-- over the tables too, as the hardware's are: how many steps an operation is may depend on them
+abbrev pub softwareCalls : Tables → Operation → List SoftwareCall
+softwareCalls t (op.AddVm vm) = add-vm (vm .0) ∷ []
+softwareCalls t (op.RemoveVm vm) = remove-vm (vm .0) ∷ []
+softwareCalls t (op.AssignPage vm page) = assign-page (vm .0) (page .0) ∷ []
+softwareCalls t (op.ReclaimPage vm page) = reclaim-page (vm .0) (page .0) ∷ []
+softwareCalls t (op.SharePage left right page) = share-page (left .0) (right .0) (page .0) ∷ []
+softwareCalls t (op.UnsharePage left right page) = unshare-page (left .0) (right .0) (page .0) ∷ []
+softwareCalls t (op.On side operation) = sideSoftwareCalls side t operation
+softwareCalls t op.DataBarrier = []
+softwareCalls t op.InstructionBarrier = []
 
 -- a present key is unmapped and invalidated first
 abbrev pub mapCalls : Side → Route → ℕ → ℕ → S2Entry → List HardwareCall
@@ -248,35 +218,27 @@ emptyCalls side r slot = let w = getD (r .cache) slot 0 in if eqb w 0 then [] el
 abbrev pub addressIn : Route → ℕ → ℕ → ℕ → ℕ
 addressIn r port guest word = let place = accessPlace (r .ports) (r .cache) (r .walker) port guest word in memoryIndex (place .page) (place .word)
 
+abbrev pub sideHardwareCalls : Side → Tables → SideOperation → List HardwareCall
+sideHardwareCalls side t (sided.MapPage vm guest page access generation) = mapCalls side (route side t) (vm .0) (guest .0) (entryOf (page .0) access generation)
+sideHardwareCalls side t (sided.UnmapPage vm guest) = unmap-invalidate side (vm .0) (guest .0) ∷ []
+sideHardwareCalls side t (sided.InsertRegion region) = insertCalls side region 0 (region .count)
+sideHardwareCalls side t (sided.RemoveRegion region) = removeCalls side region 0 (region .count) ++ clearCalls (removeClears side (t .sets) region)
+sideHardwareCalls side t (sided.GivePort port target) = portCalls side port target
+sideHardwareCalls side t (sided.FillSlot port guest) = fillCalls side (route side t) port (guest .0)
+sideHardwareCalls side t (sided.EmptySlot slot) = emptyCalls side (route side t) slot
+sideHardwareCalls side t (sided.ReadWord port guest word) = mem-read (addressIn (route side t) port (guest .0) word) ∷ []
+sideHardwareCalls side t (sided.WriteWord port guest word value) = mem-write (addressIn (route side t) port (guest .0) word) value ∷ []
+
 abbrev pub hardwareCalls : Tables → Operation → List HardwareCall
-hardwareCalls t (AddVm vm) = []
-hardwareCalls t (RemoveVm vm) = []
-hardwareCalls t (AssignPage vm page) = []
-hardwareCalls t (ReclaimPage vm page) = clearCalls (reclaimClears (t .sets) (vm .0) (page .0))
-hardwareCalls t (SharePage left right page) = []
-hardwareCalls t (UnsharePage left right page) = []
-hardwareCalls t (CpuMap vm guest page access generation) = mapCalls Cpu (t .cpu) (vm .0) (guest .0) (entryOf (page .0) access generation)
-hardwareCalls t (DmaMap vm guest page access generation) = mapCalls Dma (t .dma) (vm .0) (guest .0) (entryOf (page .0) access generation)
-hardwareCalls t (CpuUnmap vm guest) = unmap-invalidate Cpu (vm .0) (guest .0) ∷ []
-hardwareCalls t (DmaUnmap vm guest) = unmap-invalidate Dma (vm .0) (guest .0) ∷ []
-hardwareCalls t (InsertRegion vm guest page count access) = insertCalls Cpu (regionOf vm guest page count access) 0 count
-hardwareCalls t (RemoveRegion vm guest page count access) =
-    removeCalls Cpu (regionOf vm guest page count access) 0 count ++ clearCalls (removeClears Cpu (t .sets) (regionOf vm guest page count access))
-hardwareCalls t (DmaInsertRegion vm guest page count access) = insertCalls Dma (regionOf vm guest page count access) 0 count
-hardwareCalls t (DmaRemoveRegion vm guest page count access) =
-    removeCalls Dma (regionOf vm guest page count access) 0 count ++ clearCalls (removeClears Dma (t .sets) (regionOf vm guest page count access))
-hardwareCalls t (SwitchCpu port target) = portCalls Cpu port target
-hardwareCalls t (BindDevice port target) = portCalls Dma port target
-hardwareCalls t (CpuFill port guest) = fillCalls Cpu (t .cpu) port (guest .0)
-hardwareCalls t (DmaFill port guest) = fillCalls Dma (t .dma) port (guest .0)
-hardwareCalls t (EmptyCpuSlot slot) = emptyCalls Cpu (t .cpu) slot
-hardwareCalls t (EmptyDmaSlot slot) = emptyCalls Dma (t .dma) slot
-hardwareCalls t (CpuRead port guest word) = mem-read (addressIn (t .cpu) port (guest .0) word) ∷ []
-hardwareCalls t (DmaRead port guest word) = mem-read (addressIn (t .dma) port (guest .0) word) ∷ []
-hardwareCalls t (CpuWrite port guest word value) = mem-write (addressIn (t .cpu) port (guest .0) word) value ∷ []
-hardwareCalls t (DmaWrite port guest word value) = mem-write (addressIn (t .dma) port (guest .0) word) value ∷ []
-hardwareCalls t DataBarrier = dsb ∷ []
-hardwareCalls t InstructionBarrier = isb ∷ []
+hardwareCalls t (op.AddVm vm) = []
+hardwareCalls t (op.RemoveVm vm) = []
+hardwareCalls t (op.AssignPage vm page) = []
+hardwareCalls t (op.ReclaimPage vm page) = clearCalls (reclaimClears (t .sets) (vm .0) (page .0))
+hardwareCalls t (op.SharePage left right page) = []
+hardwareCalls t (op.UnsharePage left right page) = []
+hardwareCalls t (op.On side operation) = sideHardwareCalls side t operation
+hardwareCalls t op.DataBarrier = dsb ∷ []
+hardwareCalls t op.InstructionBarrier = isb ∷ []
 
 -- ---- the operation is a run of its steps, and of none where it is refused
 pub record Follows (s s′ : State) (calls : List SoftwareCall) (calls′ : List HardwareCall) : Type 0 where
@@ -290,4 +252,4 @@ FollowsControl s c calls calls′ = Follows s (carriedOut c (s .memory) .state) 
 abbrev pub FollowsUpstream : State → Operation → Type 0
 FollowsUpstream s operation =
     let answer = control (s .tables) operation .answer in
-    Follows s (step s operation .state) (kept answer [] (softwareCalls operation)) (kept answer [] (hardwareCalls (s .tables) operation))
+    Follows s (step s operation .state) (kept answer [] (softwareCalls (s .tables) operation)) (kept answer [] (hardwareCalls (s .tables) operation))

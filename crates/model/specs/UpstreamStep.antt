@@ -9,7 +9,7 @@ use Rattle.numbers.specs.Choice.{if_then_else_}
 use Rattle.numbers.specs.Limits.{VMS, PAGES, GUEST-PAGES}
 use Rattle.numbers.specs.declared.Side.{Side}
 use Rattle.numbers.specs.declared.Side.the-variants.{Cpu, Dma}
-use Rattle.units.specs.declared.Region.{Region}
+use Rattle.numbers.specs.declared.Region.{Region}
 use Rattle.model.specs.Upstream.{
   S2Entry,
   S2Map,

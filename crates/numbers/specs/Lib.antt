@@ -5,5 +5,6 @@ pub mod Decides
 pub mod DecidesLaws
 pub mod Limits
 pub mod Meaning
+pub mod MeaningLaws
 pub mod Packing
 pub mod PackingLaws

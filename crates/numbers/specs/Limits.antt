@@ -1,5 +1,5 @@
 -- Every limit of the machine, under the name that the code has for it, written with hyphens (docs/MACHINE.md, 1).
-use Prim.Native.Nat.{ℕ}
+use Prim.Native.Nat.{ℕ, _+_, _*_, _/_}
 
 -- a page is this many 64-bit words
 abbrev pub PAGE-WORDS : ℕ
@@ -56,11 +56,11 @@ GENERATIONS = 65536
 
 -- words of one page set: a bit for each of PAGES
 abbrev pub SET-WORDS : ℕ
-SET-WORDS = 16
+SET-WORDS = PAGES / 64
 
 -- page sets: the pool, the shared span, and two for each VM
 abbrev pub SETS : ℕ
-SETS = 34
+SETS = 2 + 2 * VMS
 
 -- numbers in a row of the sequence, and in its answer
 abbrev pub ROW-NUMBERS : ℕ

@@ -31,35 +31,13 @@ use Rattle.numbers.specs.declared.Lowest.{Lowest}
 use Rattle.numbers.specs.declared.Lowest.the-variants.{Page, Nothing}
 use Rattle.numbers.specs.declared.Target.{Target}
 use Rattle.numbers.specs.declared.Target.the-variants.{Idle, Vm}
+use Rattle.numbers.specs.declared.Side.{Side}
+use Rattle.numbers.specs.declared.Side.the-variants.{Cpu, Dma}
+use Rattle.numbers.specs.declared.Region.{Region}
+use Rattle.numbers.specs.declared.SideOperation.{SideOperation}
+use Rattle.numbers.specs.declared.SideOperation.the-variants as sided
 use Rattle.numbers.specs.declared.Operation.{Operation}
-use Rattle.numbers.specs.declared.Operation.the-variants.{
-  AddVm,
-  RemoveVm,
-  AssignPage,
-  ReclaimPage,
-  SharePage,
-  UnsharePage,
-  CpuMap,
-  DmaMap,
-  CpuUnmap,
-  DmaUnmap,
-  InsertRegion,
-  RemoveRegion,
-  DmaInsertRegion,
-  DmaRemoveRegion,
-  SwitchCpu,
-  BindDevice,
-  CpuFill,
-  DmaFill,
-  EmptyCpuSlot,
-  EmptyDmaSlot,
-  CpuRead,
-  DmaRead,
-  CpuWrite,
-  DmaWrite,
-  DataBarrier,
-  InstructionBarrier,
-}
+use Rattle.numbers.specs.declared.Operation.the-variants as op
 
 abbrev pub refusalNumber : Refusal → ℕ
 refusalNumber StateNotValid = 1
@@ -97,59 +75,55 @@ abbrev pub targetNumber : Target → ℕ
 targetNumber Idle = IDLE
 targetNumber (Vm vm) = vm .0
 
+-- an operation of a side has a number for the CPU and one for DMA
+abbrev bySide : Side → ℕ → ℕ → ℕ
+bySide Cpu cpu dma = cpu
+bySide Dma cpu dma = dma
+
+abbrev pub sideNumber : Side → SideOperation → ℕ
+sideNumber side (sided.MapPage vm guest page access generation) = bySide side 7 8
+sideNumber side (sided.UnmapPage vm guest) = bySide side 9 10
+sideNumber side (sided.InsertRegion region) = bySide side 11 13
+sideNumber side (sided.RemoveRegion region) = bySide side 12 14
+sideNumber side (sided.GivePort port target) = bySide side 15 16
+sideNumber side (sided.FillSlot port guest) = bySide side 17 18
+sideNumber side (sided.EmptySlot slot) = bySide side 19 20
+sideNumber side (sided.ReadWord port guest word) = bySide side 21 22
+sideNumber side (sided.WriteWord port guest word value) = bySide side 23 24
+
 abbrev pub operationNumber : Operation → ℕ
-operationNumber (AddVm vm) = 1
-operationNumber (RemoveVm vm) = 2
-operationNumber (AssignPage vm page) = 3
-operationNumber (ReclaimPage vm page) = 4
-operationNumber (SharePage left right page) = 5
-operationNumber (UnsharePage left right page) = 6
-operationNumber (CpuMap vm guest page access generation) = 7
-operationNumber (DmaMap vm guest page access generation) = 8
-operationNumber (CpuUnmap vm guest) = 9
-operationNumber (DmaUnmap vm guest) = 10
-operationNumber (InsertRegion vm guest page count access) = 11
-operationNumber (RemoveRegion vm guest page count access) = 12
-operationNumber (DmaInsertRegion vm guest page count access) = 13
-operationNumber (DmaRemoveRegion vm guest page count access) = 14
-operationNumber (SwitchCpu port target) = 15
-operationNumber (BindDevice port target) = 16
-operationNumber (CpuFill port guest) = 17
-operationNumber (DmaFill port guest) = 18
-operationNumber (EmptyCpuSlot slot) = 19
-operationNumber (EmptyDmaSlot slot) = 20
-operationNumber (CpuRead port guest word) = 21
-operationNumber (DmaRead port guest word) = 22
-operationNumber (CpuWrite port guest word value) = 23
-operationNumber (DmaWrite port guest word value) = 24
-operationNumber DataBarrier = 25
-operationNumber InstructionBarrier = 26
+operationNumber (op.AddVm vm) = 1
+operationNumber (op.RemoveVm vm) = 2
+operationNumber (op.AssignPage vm page) = 3
+operationNumber (op.ReclaimPage vm page) = 4
+operationNumber (op.SharePage left right page) = 5
+operationNumber (op.UnsharePage left right page) = 6
+operationNumber (op.On side operation) = sideNumber side operation
+operationNumber op.DataBarrier = 25
+operationNumber op.InstructionBarrier = 26
 
 -- the arguments, in the paper's order
+abbrev pub regionNumbers : Region → List ℕ
+regionNumbers region = region .vm .0 ∷ region .guest .0 ∷ region .page .0 ∷ region .count ∷ region .access ∷ []
+
+abbrev pub sideArguments : SideOperation → List ℕ
+sideArguments (sided.MapPage vm guest page access generation) = vm .0 ∷ guest .0 ∷ page .0 ∷ access ∷ generation ∷ []
+sideArguments (sided.UnmapPage vm guest) = vm .0 ∷ guest .0 ∷ []
+sideArguments (sided.InsertRegion region) = regionNumbers region
+sideArguments (sided.RemoveRegion region) = regionNumbers region
+sideArguments (sided.GivePort port target) = port ∷ targetNumber target ∷ []
+sideArguments (sided.FillSlot port guest) = port ∷ guest .0 ∷ []
+sideArguments (sided.EmptySlot slot) = slot ∷ []
+sideArguments (sided.ReadWord port guest word) = port ∷ guest .0 ∷ word ∷ []
+sideArguments (sided.WriteWord port guest word value) = port ∷ guest .0 ∷ word ∷ value ∷ []
+
 abbrev pub operationArguments : Operation → List ℕ
-operationArguments (AddVm vm) = vm .0 ∷ []
-operationArguments (RemoveVm vm) = vm .0 ∷ []
-operationArguments (AssignPage vm page) = vm .0 ∷ page .0 ∷ []
-operationArguments (ReclaimPage vm page) = vm .0 ∷ page .0 ∷ []
-operationArguments (SharePage left right page) = left .0 ∷ right .0 ∷ page .0 ∷ []
-operationArguments (UnsharePage left right page) = left .0 ∷ right .0 ∷ page .0 ∷ []
-operationArguments (CpuMap vm guest page access generation) = vm .0 ∷ guest .0 ∷ page .0 ∷ access ∷ generation ∷ []
-operationArguments (DmaMap vm guest page access generation) = vm .0 ∷ guest .0 ∷ page .0 ∷ access ∷ generation ∷ []
-operationArguments (CpuUnmap vm guest) = vm .0 ∷ guest .0 ∷ []
-operationArguments (DmaUnmap vm guest) = vm .0 ∷ guest .0 ∷ []
-operationArguments (InsertRegion vm guest page count access) = vm .0 ∷ guest .0 ∷ page .0 ∷ count ∷ access ∷ []
-operationArguments (RemoveRegion vm guest page count access) = vm .0 ∷ guest .0 ∷ page .0 ∷ count ∷ access ∷ []
-operationArguments (DmaInsertRegion vm guest page count access) = vm .0 ∷ guest .0 ∷ page .0 ∷ count ∷ access ∷ []
-operationArguments (DmaRemoveRegion vm guest page count access) = vm .0 ∷ guest .0 ∷ page .0 ∷ count ∷ access ∷ []
-operationArguments (SwitchCpu port target) = port ∷ targetNumber target ∷ []
-operationArguments (BindDevice port target) = port ∷ targetNumber target ∷ []
-operationArguments (CpuFill port guest) = port ∷ guest .0 ∷ []
-operationArguments (DmaFill port guest) = port ∷ guest .0 ∷ []
-operationArguments (EmptyCpuSlot slot) = slot ∷ []
-operationArguments (EmptyDmaSlot slot) = slot ∷ []
-operationArguments (CpuRead port guest word) = port ∷ guest .0 ∷ word ∷ []
-operationArguments (DmaRead port guest word) = port ∷ guest .0 ∷ word ∷ []
-operationArguments (CpuWrite port guest word value) = port ∷ guest .0 ∷ word ∷ value ∷ []
-operationArguments (DmaWrite port guest word value) = port ∷ guest .0 ∷ word ∷ value ∷ []
-operationArguments DataBarrier = []
-operationArguments InstructionBarrier = []
+operationArguments (op.AddVm vm) = vm .0 ∷ []
+operationArguments (op.RemoveVm vm) = vm .0 ∷ []
+operationArguments (op.AssignPage vm page) = vm .0 ∷ page .0 ∷ []
+operationArguments (op.ReclaimPage vm page) = vm .0 ∷ page .0 ∷ []
+operationArguments (op.SharePage left right page) = left .0 ∷ right .0 ∷ page .0 ∷ []
+operationArguments (op.UnsharePage left right page) = left .0 ∷ right .0 ∷ page .0 ∷ []
+operationArguments (op.On side operation) = sideArguments operation
+operationArguments op.DataBarrier = []
+operationArguments op.InstructionBarrier = []

@@ -4,6 +4,17 @@ use Prim.Native.Nat.{ℕ, _+_, _*_, _/_, _%_, _<_, _≤_, min, max}
 use mathlib.Core.Path.{_≡_, refl, sym, ap, _∙_}
 use native.Mathlib.Omega.{arith}
 use Rattle.numbers.specs.Packing.{
+  GENERATION-FIELD,
+  ACCESS-BIT,
+  ACCESS-FIELD,
+  PAGE-BIT,
+  PAGE-FIELD,
+  FILLED-BIT,
+  GUEST-BIT,
+  GUEST-FIELD,
+  VM-FIELD,
+  PORT-BIT,
+  ADDRESS-FIELD,
   entry,
   slotWord,
   mapWord,
@@ -24,11 +35,14 @@ use Rattle.numbers.specs.Packing.{
   leftOf,
   rightOf,
   pairKeyOf,
+  EntryFits,
+  WordFits,
+  PairFits,
 }
 
 -- ---- an entry
-module _ (page access generation : ℕ) (p : page < 4096) (a : access < 8) (g : generation < 65536) where
-  pub entry-fits : entry page access generation < 4294967296
+module _ {page access generation : ℕ} (f : EntryFits page access generation) where
+  pub entry-fits : entry page access generation < GUEST-BIT
   entry-fits = omega arith
 
   pub entry-filled : filledOf (entry page access generation) ≡ 1
@@ -44,7 +58,7 @@ module _ (page access generation : ℕ) (p : page < 4096) (a : access < 8) (g : 
   entry-generation = omega arith
 
 -- ---- a word over any low half
-module _ (port vm guest low : ℕ) (v : vm < 256) (g : guest < 65536) (l : low < 4294967296) where
+module _ (port : ℕ) {vm guest low : ℕ} (f : WordFits vm guest low) where
   pub word-port : portOf (slotWord port vm guest low) ≡ port
   word-port = omega arith
 
@@ -72,10 +86,10 @@ module _ (port vm guest low : ℕ) (v : vm < 256) (g : guest < 65536) (l : low <
 
   -- the keys of a filled word
   pub word-key : filledOf low ≡ 1 → keyOf (slotWord port vm guest low) ≡ slotKey port vm guest
-  word-key f = omega arith
+  word-key filled = omega arith
 
   pub word-address : filledOf low ≡ 1 → addressOf (slotWord port vm guest low) ≡ key vm guest
-  word-address f = omega arith
+  word-address filled = omega arith
 
 -- ---- any word is the packing of its four parts
 pub word-whole : (w : ℕ) → slotWord (portOf w) (vmOf w) (guestOf w) (entryOf w) ≡ w
@@ -84,9 +98,9 @@ word-whole w = omega arith
 -- a filled word's low half is the packing of its three
 pub entry-whole : (w : ℕ) → filledOf w ≡ 1 → entry (pageOf w) (accessOf w) (generationOf w) ≡ entryOf w
 entry-whole w f =
-    let a : w / 65536 / 8 ≡ w / 524288 = omega arith in
-    let b : w / 524288 / 4096 ≡ w / 2147483648 = omega arith in
-    let c : w / 2147483648 / 2 ≡ w / 4294967296 = omega arith in
+    let a : w / ACCESS-BIT / ACCESS-FIELD ≡ w / PAGE-BIT = omega arith in
+    let b : w / PAGE-BIT / PAGE-FIELD ≡ w / FILLED-BIT = omega arith in
+    let c : w / FILLED-BIT / 2 ≡ w / GUEST-BIT = omega arith in
     omega arith
 
 -- ---- the map's word that a slot's stands for: all of it but the port
@@ -94,11 +108,15 @@ abbrev pub unported : ℕ → ℕ
 unported w = mapWord (vmOf w) (guestOf w) (entryOf w)
 
 module _ (w : ℕ) where
+  -- what is unpacked fits
+  pub parts-fit : WordFits (vmOf w) (guestOf w) (entryOf w)
+  parts-fit = record { vm-fits = omega arith; guest-fits = omega arith; low-fits = omega arith }
+
   pub unported-vm : vmOf (unported w) ≡ vmOf w
-  unported-vm = word-vm 0 (vmOf w) (guestOf w) (entryOf w) (omega arith) (omega arith) (omega arith)
+  unported-vm = word-vm 0 parts-fit
 
   pub unported-guest : guestOf (unported w) ≡ guestOf w
-  unported-guest = word-guest 0 (vmOf w) (guestOf w) (entryOf w) (omega arith) (omega arith) (omega arith)
+  unported-guest = word-guest 0 parts-fit
 
   pub unported-filled : filledOf (unported w) ≡ filledOf w
   unported-filled = omega arith
@@ -111,17 +129,17 @@ module _ (w : ℕ) where
 
   pub unported-key : keyOf (unported w) ≡ addressOf w
   unported-key =
-      let a : w / 2147483648 / 33554432 ≡ portOf w = omega arith in
-      let b : unported w + portOf w * 72057594037927936 ≡ w = omega arith in
+      let a : w / FILLED-BIT / ADDRESS-FIELD ≡ portOf w = omega arith in
+      let b : unported w + portOf w * PORT-BIT ≡ w = omega arith in
       omega arith
 
 -- ---- keys
 -- a map's key says its VM and guest page
-pub key-same : (vm guest vm′ guest′ : ℕ) → guest < 65536 → guest′ < 65536 → key vm guest ≡ key vm′ guest′ → (vm ≡ vm′) × (guest ≡ guest′)
+pub key-same : (vm guest vm′ guest′ : ℕ) → guest < GUEST-FIELD → guest′ < GUEST-FIELD → key vm guest ≡ key vm′ guest′ → (vm ≡ vm′) × (guest ≡ guest′)
 key-same vm guest vm′ guest′ h h′ e =
-    let a : vm * 65536 + guest ≡ vm′ * 65536 + guest′ = omega arith in
-    let b : (vm * 65536 + guest) / 65536 ≡ vm = omega arith in
-    let c : (vm′ * 65536 + guest′) / 65536 ≡ vm′ = omega arith in
+    let a : vm * GUEST-FIELD + guest ≡ vm′ * GUEST-FIELD + guest′ = omega arith in
+    let b : (vm * GUEST-FIELD + guest) / GUEST-FIELD ≡ vm = omega arith in
+    let c : (vm′ * GUEST-FIELD + guest′) / GUEST-FIELD ≡ vm′ = omega arith in
     let d : vm ≡ vm′ = sym b ∙ rw a c in
     (d, omega arith)
 
@@ -129,11 +147,11 @@ key-same vm guest vm′ guest′ h h′ e =
 pub key-whole : (port vm guest w : ℕ) → keyOf w ≡ slotKey port vm guest → slotWord port vm guest (entryOf w) ≡ w
 key-whole port vm guest w e = omega arith
 
-pub key-vm : (port vm guest w : ℕ) → vm < 256 → guest < 65536 → keyOf w ≡ slotKey port vm guest → vmOf w ≡ vm
-key-vm port vm guest w v g e = ap vmOf (sym (key-whole port vm guest w e)) ∙ word-vm port vm guest (entryOf w) v g (omega arith)
+pub key-vm : (port vm guest w : ℕ) → vm < VM-FIELD → guest < GUEST-FIELD → keyOf w ≡ slotKey port vm guest → vmOf w ≡ vm
+key-vm port vm guest w v g e = ap vmOf (sym (key-whole port vm guest w e)) ∙ word-vm port (record { vm-fits = v; guest-fits = g; low-fits = omega arith })
 
-pub key-guest : (port vm guest w : ℕ) → vm < 256 → guest < 65536 → keyOf w ≡ slotKey port vm guest → guestOf w ≡ guest
-key-guest port vm guest w v g e = ap guestOf (sym (key-whole port vm guest w e)) ∙ word-guest port vm guest (entryOf w) v g (omega arith)
+pub key-guest : (port vm guest w : ℕ) → vm < VM-FIELD → guest < GUEST-FIELD → keyOf w ≡ slotKey port vm guest → guestOf w ≡ guest
+key-guest port vm guest w v g e = ap guestOf (sym (key-whole port vm guest w e)) ∙ word-guest port (record { vm-fits = v; guest-fits = g; low-fits = omega arith })
 
 -- a filled word's key is never that of an empty one
 pub key-filled : (w : ℕ) → filledOf w ≡ 1 → 0 < keyOf w
@@ -143,7 +161,7 @@ pub address-filled : (w : ℕ) → filledOf w ≡ 1 → 0 < addressOf w
 address-filled w f = omega arith
 
 -- a slot's key says its address
-pub slot-address : (port vm guest w : ℕ) → vm < 256 → guest < 65536 → keyOf w ≡ slotKey port vm guest → addressOf w ≡ key vm guest
+pub slot-address : (port vm guest w : ℕ) → vm < VM-FIELD → guest < GUEST-FIELD → keyOf w ≡ slotKey port vm guest → addressOf w ≡ key vm guest
 slot-address port vm guest w v g e = omega arith
 
 -- of a map's word, which has no port, the two keys are one
@@ -151,7 +169,7 @@ pub address-key : (w : ℕ) → portOf w ≡ 0 → addressOf w ≡ keyOf w
 address-key w p = omega arith
 
 -- ---- pairs
-module _ (left right page : ℕ) (l : left < 256) (r : right < 65536) (p : page < 4096) where
+module _ {left right page : ℕ} (f : PairFits left right page) where
   pub pair-left : leftOf (pairWord left right page) ≡ left
   pair-left = omega arith
 
@@ -182,7 +200,8 @@ pub pair-either : (left right page : ℕ) → pairKey left right page ≡ pairKe
 pair-either left right page = omega arith
 
 -- a pair's key says its page, and its ends but for their order
-pub pair-same : (left right page left′ right′ page′ : ℕ) → left < 65536 → right < 65536 → page < 4096 → left′ < 65536 → right′ < 65536 → page′ < 4096 → pairKey left right page ≡ pairKey left′ right′ page′ → (page ≡ page′) × (min left right ≡ min left′ right′) × (max left right ≡ max left′ right′)
+pub pair-same : (left right page left′ right′ page′ : ℕ) → left < GUEST-FIELD → right < GUEST-FIELD → page < PAGE-FIELD → left′ < GUEST-FIELD → right′ < GUEST-FIELD →
+    page′ < PAGE-FIELD → pairKey left right page ≡ pairKey left′ right′ page′ → (page ≡ page′) × (min left right ≡ min left′ right′) × (max left right ≡ max left′ right′)
 pair-same left right page left′ right′ page′ l r p l′ r′ p′ e =
-    let a : (min left right * 65536 + max left right) * 4096 + page ≡ (min left′ right′ * 65536 + max left′ right′) * 4096 + page′ = omega arith in
+    let a : (min left right * GUEST-FIELD + max left right) * PAGE-FIELD + page ≡ (min left′ right′ * GUEST-FIELD + max left′ right′) * PAGE-FIELD + page′ = omega arith in
     (omega arith, omega arith, omega arith)

@@ -3,7 +3,7 @@
 ghost use mathlib.Core.Path.{_≡_};
 ghost use Prim.Native.Nat.{_<_};
 ghost use Rattle.numbers.specs.Meaning.{refusalNumber, answerNumbers, targetNumber};
-ghost use Rattle.numbers.specs.Packing.{entry, slotWord, mapWord, pairWord, slotKey, key, portOf, vmOf, guestOf, entryOf, pageOf, accessOf, generationOf, keyOf, addressOf, leftOf, rightOf, filledOf, pairKey, pairKeyOf};
+ghost use Rattle.numbers.specs.Packing.{GENERATION-FIELD, ACCESS-FIELD, PAGE-FIELD, GUEST-BIT, GUEST-FIELD, VM-FIELD, PORT-FIELD, entry, slotWord, mapWord, pairWord, slotKey, key, portOf, vmOf, guestOf, entryOf, pageOf, accessOf, generationOf, keyOf, addressOf, leftOf, rightOf, filledOf, pairKey, pairKeyOf};
 
 // ---- Limits. Each has this one name in code and the same name in specs/Limits.antt.
 
@@ -30,15 +30,47 @@ pub const ACCESSES: u64 = 8;
 // Generations of an entry.
 pub const GENERATIONS: u64 = 65536;
 // Words of one page set: a bit for each of PAGES.
-pub const SET_WORDS: usize = 16;
+pub const SET_WORDS: usize = (PAGES / 64) as usize;
 // Page sets: the pool, the shared span, and two for each VM.
-pub const SETS: usize = 34;
+pub const SETS: usize = 2 + 2 * VMS as usize;
 // How rows and the header write that a port is idle.
 pub const IDLE: u64 = 4294967295;
 // Numbers in a row of the sequence, and in its answer.
 pub const ROW_NUMBERS: usize = 8;
 
 pub const ANSWER_NUMBERS: usize = 4;
+
+// ---- Fields of a packed word (docs/MACHINE.md, 3): how many numbers each can hold, and its lowest bit, which stands right
+// above the field below it. Each has the same name in specs/Packing.antt.
+
+// Generation, the lowest field.
+pub const GENERATION_BIT: u64 = 1;
+
+pub const GENERATION_FIELD: u64 = 65536;
+
+pub const ACCESS_BIT: u64 = GENERATION_BIT * GENERATION_FIELD;
+
+pub const ACCESS_FIELD: u64 = 8;
+
+pub const PAGE_BIT: u64 = ACCESS_BIT * ACCESS_FIELD;
+
+pub const PAGE_FIELD: u64 = 4096;
+// The one bit that says filled.
+pub const FILLED_BIT: u64 = PAGE_BIT * PAGE_FIELD;
+// Below it stands the entry.
+pub const GUEST_BIT: u64 = FILLED_BIT * 2;
+
+pub const GUEST_FIELD: u64 = 65536;
+
+pub const VM_BIT: u64 = GUEST_BIT * GUEST_FIELD;
+
+pub const VM_FIELD: u64 = 256;
+
+pub const PORT_BIT: u64 = VM_BIT * VM_FIELD;
+// The highest field, up to bit 63.
+pub const PORT_FIELD: u64 = 256;
+// What VM, guest page and the bit that says filled can be together.
+pub const ADDRESS_FIELD: u64 = VM_FIELD * GUEST_FIELD * 2;
 
 // ---- Kinds of number, kept apart.
 
@@ -92,7 +124,44 @@ pub enum Target {
     Vm(VmId),
 }
 
-// ---- The twenty-six operations, in the order of their numbers.
+// ---- A region as a caller names it: the five fields that a unit must equal.
+pub struct Region {
+    pub vm: VmId,
+    pub guest: GuestPage,
+    pub page: PhysPage,
+    pub count: u64,
+    pub access: u64,
+}
+
+// ---- What each side has of its own: an operation on the CPU's tables or the same on the devices'.
+pub enum SideOperation {
+    MapPage {
+        vm: VmId,
+        guest: GuestPage,
+        page: PhysPage,
+        access: u64,
+        generation: u64,
+    },
+    UnmapPage(VmId, GuestPage),
+    InsertRegion(Region),
+    RemoveRegion(Region),
+    GivePort(u64, Target),
+    FillSlot(u64, GuestPage),
+    EmptySlot(u64),
+    ReadWord {
+        port: u64,
+        guest: GuestPage,
+        word: u64,
+    },
+    WriteWord {
+        port: u64,
+        guest: GuestPage,
+        word: u64,
+        value: u64,
+    },
+}
+
+// ---- The operations, seventeen for the twenty-six numbers: an operation of a side names the side once.
 pub enum Operation {
     AddVm(VmId),
     RemoveVm(VmId),
@@ -100,78 +169,7 @@ pub enum Operation {
     ReclaimPage(VmId, PhysPage),
     SharePage(VmId, VmId, PhysPage),
     UnsharePage(VmId, VmId, PhysPage),
-    CpuMap {
-        vm: VmId,
-        guest: GuestPage,
-        page: PhysPage,
-        access: u64,
-        generation: u64,
-    },
-    DmaMap {
-        vm: VmId,
-        guest: GuestPage,
-        page: PhysPage,
-        access: u64,
-        generation: u64,
-    },
-    CpuUnmap(VmId, GuestPage),
-    DmaUnmap(VmId, GuestPage),
-    InsertRegion {
-        vm: VmId,
-        guest: GuestPage,
-        page: PhysPage,
-        count: u64,
-        access: u64,
-    },
-    RemoveRegion {
-        vm: VmId,
-        guest: GuestPage,
-        page: PhysPage,
-        count: u64,
-        access: u64,
-    },
-    DmaInsertRegion {
-        vm: VmId,
-        guest: GuestPage,
-        page: PhysPage,
-        count: u64,
-        access: u64,
-    },
-    DmaRemoveRegion {
-        vm: VmId,
-        guest: GuestPage,
-        page: PhysPage,
-        count: u64,
-        access: u64,
-    },
-    SwitchCpu(u64, Target),
-    BindDevice(u64, Target),
-    CpuFill(u64, GuestPage),
-    DmaFill(u64, GuestPage),
-    EmptyCpuSlot(u64),
-    EmptyDmaSlot(u64),
-    CpuRead {
-        port: u64,
-        guest: GuestPage,
-        word: u64,
-    },
-    DmaRead {
-        port: u64,
-        guest: GuestPage,
-        word: u64,
-    },
-    CpuWrite {
-        port: u64,
-        guest: GuestPage,
-        word: u64,
-        value: u64,
-    },
-    DmaWrite {
-        port: u64,
-        guest: GuestPage,
-        word: u64,
-        value: u64,
-    },
+    On(Side, SideOperation),
     DataBarrier,
     InstructionBarrier,
 }
@@ -238,56 +236,56 @@ pub fn target_number(target: Target) -> u64
 
 // The low half of a word: what a translation gives.
 pub fn entry(page: PhysPage, access: u64, generation: u64) -> u64
-    requires { ⌜ (page .0 < 4096) × (access < 8) × (generation < 65536) ⌝ }
+    requires { ⌜ (page .0 < PAGE-FIELD) × (access < ACCESS-FIELD) × (generation < GENERATION-FIELD) ⌝ }
     ensures { λ r. ⌜ r ≡ entry (page .0) access generation ⌝ }
 {
-    2147483648 + page.0 * 524288 + access * 65536 + generation
+    FILLED_BIT + page.0 * PAGE_BIT + access * ACCESS_BIT + generation
 }
 
 pub fn slot_word(port: u64, vm: VmId, guest: GuestPage, low: u64) -> u64
-    requires { ⌜ (port < 256) × (vm .0 < 256) × (guest .0 < 65536) × (low < 4294967296) ⌝ }
+    requires { ⌜ (port < PORT-FIELD) × (vm .0 < VM-FIELD) × (guest .0 < GUEST-FIELD) × (low < GUEST-BIT) ⌝ }
     ensures { λ r. ⌜ r ≡ slotWord port (vm .0) (guest .0) low ⌝ }
 {
-    ((port * 256 + vm.0) * 65536 + guest.0) * 4294967296 + low
+    ((port * VM_FIELD + vm.0) * GUEST_FIELD + guest.0) * GUEST_BIT + low
 }
 
 pub fn map_word(vm: VmId, guest: GuestPage, low: u64) -> u64
-    requires { ⌜ (vm .0 < 256) × (guest .0 < 65536) × (low < 4294967296) ⌝ }
+    requires { ⌜ (vm .0 < VM-FIELD) × (guest .0 < GUEST-FIELD) × (low < GUEST-BIT) ⌝ }
     ensures { λ r. ⌜ r ≡ mapWord (vm .0) (guest .0) low ⌝ }
 {
     slot_word(0, vm, guest, low)
 }
 
 pub fn pair_word(left: VmId, right: VmId, page: PhysPage) -> u64
-    requires { ⌜ (left .0 < 256) × (right .0 < 65536) × (page .0 < 4096) ⌝ }
+    requires { ⌜ (left .0 < VM-FIELD) × (right .0 < GUEST-FIELD) × (page .0 < PAGE-FIELD) ⌝ }
     ensures { λ r. ⌜ r ≡ pairWord (left .0) (right .0) (page .0) ⌝ }
 {
     slot_word(0, left, GuestPage(right.0), entry(page, 0, 0))
 }
 
 pub fn slot_key(port: u64, vm: VmId, guest: GuestPage) -> u64
-    requires { ⌜ (port < 256) × (vm .0 < 256) × (guest .0 < 65536) ⌝ }
+    requires { ⌜ (port < PORT-FIELD) × (vm .0 < VM-FIELD) × (guest .0 < GUEST-FIELD) ⌝ }
     ensures { λ r. ⌜ r ≡ slotKey port (vm .0) (guest .0) ⌝ }
 {
-    ((port * 256 + vm.0) * 65536 + guest.0) * 2 + 1
+    ((port * VM_FIELD + vm.0) * GUEST_FIELD + guest.0) * 2 + 1
 }
 
 pub fn key(vm: VmId, guest: GuestPage) -> u64
-    requires { ⌜ (vm .0 < 256) × (guest .0 < 65536) ⌝ }
+    requires { ⌜ (vm .0 < VM-FIELD) × (guest .0 < GUEST-FIELD) ⌝ }
     ensures { λ r. ⌜ r ≡ key (vm .0) (guest .0) ⌝ }
 {
-    (vm.0 * 65536 + guest.0) * 2 + 1
+    (vm.0 * GUEST_FIELD + guest.0) * 2 + 1
 }
 
 // The key of a pair, the same for either order of its ends.
 pub fn pair_key(left: VmId, right: VmId, page: PhysPage) -> u64
-    requires { ⌜ (left .0 < 65536) × (right .0 < 65536) × (page .0 < 4096) ⌝ }
+    requires { ⌜ (left .0 < GUEST-FIELD) × (right .0 < GUEST-FIELD) × (page .0 < PAGE-FIELD) ⌝ }
     ensures { λ r. ⌜ r ≡ pairKey (left .0) (right .0) (page .0) ⌝ }
 {
     if left.0 < right.0 {
-        return ((left.0 * 65536 + right.0) * 4096 + page.0) * 2 + 1;
+        return ((left.0 * GUEST_FIELD + right.0) * PAGE_FIELD + page.0) * 2 + 1;
     }
-    ((right.0 * 65536 + left.0) * 4096 + page.0) * 2 + 1
+    ((right.0 * GUEST_FIELD + left.0) * PAGE_FIELD + page.0) * 2 + 1
 }
 
 // ---- Unpacking, of any word at all.
@@ -295,62 +293,62 @@ pub fn pair_key(left: VmId, right: VmId, page: PhysPage) -> u64
 pub fn port_of(w: u64) -> u64
     ensures { λ r. ⌜ r ≡ portOf w ⌝ }
 {
-    w / 72057594037927936
+    w / PORT_BIT
 }
 
 pub fn vm_of(w: u64) -> VmId
     ensures { λ r. ⌜ r .0 ≡ vmOf w ⌝ }
 {
-    VmId(w / 281474976710656 % 256)
+    VmId(w / VM_BIT % VM_FIELD)
 }
 
 pub fn guest_of(w: u64) -> GuestPage
     ensures { λ r. ⌜ r .0 ≡ guestOf w ⌝ }
 {
-    GuestPage(w / 4294967296 % 65536)
+    GuestPage(w / GUEST_BIT % GUEST_FIELD)
 }
 
 pub fn entry_of(w: u64) -> u64
     ensures { λ r. ⌜ r ≡ entryOf w ⌝ }
 {
-    w % 4294967296
+    w % GUEST_BIT
 }
 
 // 1 where the word is filled, 0 where it is empty.
 pub fn filled_of(w: u64) -> u64
     ensures { λ r. ⌜ r ≡ filledOf w ⌝ }
 {
-    w / 2147483648 % 2
+    w / FILLED_BIT % 2
 }
 
 pub fn page_of(w: u64) -> PhysPage
     ensures { λ r. ⌜ r .0 ≡ pageOf w ⌝ }
 {
-    PhysPage(w / 524288 % 4096)
+    PhysPage(w / PAGE_BIT % PAGE_FIELD)
 }
 
 pub fn access_of(w: u64) -> u64
     ensures { λ r. ⌜ r ≡ accessOf w ⌝ }
 {
-    w / 65536 % 8
+    w / ACCESS_BIT % ACCESS_FIELD
 }
 
 pub fn generation_of(w: u64) -> u64
     ensures { λ r. ⌜ r ≡ generationOf w ⌝ }
 {
-    w % 65536
+    w % GENERATION_FIELD
 }
 
 pub fn key_of(w: u64) -> u64
     ensures { λ r. ⌜ r ≡ keyOf w ⌝ }
 {
-    w / 2147483648
+    w / FILLED_BIT
 }
 
 pub fn address_of(w: u64) -> u64
     ensures { λ r. ⌜ r ≡ addressOf w ⌝ }
 {
-    w / 2147483648 % 33554432
+    w / FILLED_BIT % ADDRESS_FIELD
 }
 
 // The ends of a pair, in the order in which they were given.
@@ -374,7 +372,7 @@ pub fn pair_key_of(w: u64) -> u64
     let right = right_of(w);
     let page = page_of(w);
     if left.0 < right.0 {
-        return ((left.0 * 65536 + right.0) * 4096 + page.0) * 2 + filled_of(w);
+        return ((left.0 * GUEST_FIELD + right.0) * PAGE_FIELD + page.0) * 2 + filled_of(w);
     }
-    ((right.0 * 65536 + left.0) * 4096 + page.0) * 2 + filled_of(w)
+    ((right.0 * GUEST_FIELD + left.0) * PAGE_FIELD + page.0) * 2 + filled_of(w)
 }

@@ -1,6 +1,8 @@
 -- Sets of pages as bits of words: definitions, then laws.
 pub mod Bits
 pub mod Rows
+pub mod Columns
 pub mod BitLaws
 pub mod RowLaws
 pub mod WordLaws
+pub mod ColumnLaws

@@ -1,23 +1,20 @@
--- Laws of whole words: words with the same bits are the same, and a row has a page exactly where a word of it is not 0.
-use Prim.Native.Nat.{ℕ, zero, suc, _+_, _*_, _/_, _%_, _^_, _<_}
-use mathlib.Core.Bool.{Bool, true, false, true≢false, not}
-use mathlib.Core.List.{List}
-use mathlib.Core.Logic.{⊎-elim}
-use mathlib.Core.Path.{_≡_, sym, _∙_}
+-- Laws of whole words: words with the same bits are the same, a word is 0 exactly where it has no bit, and the bits of `&`, `|` and `^`.
+use Prim.Native.Nat.{ℕ, zero, suc, _+_, _*_, _/_, _%_, _^_, _<_, min, max}
+use mathlib.Core.Bool.{Bool, true, false, true≢false, _&&_, _||_, xor, or-true}
+use mathlib.Core.Logic.{_⊎_, ⊎-elim}
+use mathlib.Core.Path.{_≡_, refl, sym, _∙_}
 use native.Mathlib.Nat.{div-eq-of-lt, pow-suc}
 use native.Mathlib.Omega.{arith}
-use borrow.Author.Tests.{eqb-true, eqb-false, ne-eqb, not-true}
+use borrow.Author.Tests.{eqb-true, eqb-false}
+use lib.Bits.{bitAnd, bitOr, bitXor, differ, and-step, or-step, xor-step, and-shr, or-shr, xor-shr}
 use lib.Dec.{eqb}
-use lib.ListN.{getD}
 use lib.Pow.{pow-pos, shr-shr}
 use Rattle.numbers.specs.CaseLaws.{cases}
-use Rattle.numbers.specs.DecidesLaws.{same-answer}
-use Rattle.numbers.specs.Limits.{PAGES, SET-WORDS}
+use Rattle.numbers.specs.DecidesLaws.{decides-itself, decides-and, decides-or}
 use Rattle.table.specs.Scan.{anyBelow}
-use Rattle.table.specs.ScanLaws.{below-any, any-below-true, any-below-false}
-use Rattle.pages.specs.Bits.{bit, hasBit, contains}
+use Rattle.table.specs.ScanLaws.{any-below-true, any-below-false}
+use Rattle.pages.specs.Bits.{bit, hasBit}
 use Rattle.pages.specs.BitLaws.{bit-lt}
-use Rattle.pages.specs.Rows.{holds}
 
 -- ---- the bits say which word it is
 pub hasBit-zero : (j : ℕ) → hasBit 0 j ≡ false
@@ -50,41 +47,55 @@ zero-none w j e t = true≢false (sym t ∙ rw e (hasBit-zero j))
 pub none-zero : (w : ℕ) → w < 2 ^ 64 → ((j : ℕ) → j < 64 → hasBit w j ≡ true → ⊥) → w ≡ 0
 none-zero w a h = same-bits w 0 a (pow-pos 64) (λ j l. ⊎-elim (λ t. absurd (h j l t)) (λ f. f ∙ sym (hasBit-zero j)) (cases (hasBit w j)))
 
-some-bit : (w : ℕ) → w < 2 ^ 64 → (w ≡ 0 → ⊥) → (j : ℕ) × (j < 64) × (hasBit w j ≡ true)
+pub some-bit : (w : ℕ) → w < 2 ^ 64 → (w ≡ 0 → ⊥) → (j : ℕ) × (j < 64) × (hasBit w j ≡ true)
 some-bit w a n =
     ⊎-elim (any-below-true (hasBit w) 64)
     (λ f. absurd (n (none-zero w a (λ j l t. true≢false (sym t ∙ any-below-false (hasBit w) 64 j f l)))))
     (cases (anyBelow (hasBit w) 64))
 
--- ---- word k of a row has the 64 pages from k * 64 on
-abbrev pub rowWord : List ℕ → ℕ → ℕ → ℕ
-rowWord sets row k = getD sets (row * SET-WORDS + k) 0
+-- ---- the bits of `&`, `|` and `^`
+-- what holds of any two binary digits
+digits : (P : ℕ → ℕ → Type 0) → P 0 0 → P 0 1 → P 1 0 → P 1 1 → (x y : ℕ) → x < 2 → y < 2 → P x y
+digits P a b c d zero zero h g = a
+digits P a b c d zero (suc zero) h g = b
+digits P a b c d zero (suc (suc y)) h g = absurd (omega arith)
+digits P a b c d (suc zero) zero h g = c
+digits P a b c d (suc zero) (suc zero) h g = d
+digits P a b c d (suc zero) (suc (suc y)) h g = absurd (omega arith)
+digits P a b c d (suc (suc x)) y h g = absurd (omega arith)
 
-pub holds-word : (sets : List ℕ) (k j : ℕ) → j < 64 → (row : ℕ) → holds sets row (k * 64 + j) ≡ hasBit (rowWord sets row k) j
-unfolding contains
-holds-word sets k j l row =
-    let d : (row * PAGES + (k * 64 + j)) / 64 ≡ row * SET-WORDS + k = omega arith in
-    let m : (row * PAGES + (k * 64 + j)) % 64 ≡ j = omega arith in
-    rw (d, m)
+module _ (w v j : ℕ) where
+  -- what holds of any two digits holds of bit j of the two words
+  bits : (P : ℕ → ℕ → Type 0) → P 0 0 → P 0 1 → P 1 0 → P 1 1 → P (bit w j) (bit v j)
+  bits P a b c d = digits P a b c d (bit w j) (bit v j) (bit-lt w j) (bit-lt v j)
 
--- ---- a row has a page exactly where a word of it is not 0
-abbrev pub notEmpty : List ℕ → ℕ → ℕ → Bool
-notEmpty sets row k = not (eqb (rowWord sets row k) 0)
+  pub hasBit-and : hasBit (bitAnd w v) j ≡ (hasBit w j && hasBit v j)
+  hasBit-and =
+      let e : bitAnd (w / 2 ^ j) (v / 2 ^ j) % 2 ≡ min (bit w j) (bit v j) = omega (arith, and-step (w / 2 ^ j) (v / 2 ^ j)) in
+      rw (and-shr w v j, e) (bits (λ x y. eqb (min x y) 1 ≡ (eqb x 1 && eqb y 1)) refl refl refl refl)
 
-module _ (sets : List ℕ) (row : ℕ) (fit : (i : ℕ) → getD sets i 0 < 2 ^ 64) where
-  word-page : anyBelow (notEmpty sets row) SET-WORDS ≡ true → anyBelow (holds sets row) PAGES ≡ true
-  word-page t =
-      let (k, h, x) = any-below-true (notEmpty sets row) SET-WORDS t in
-      let (j, l, y) = some-bit (rowWord sets row k) (fit _) (eqb-false _ 0 (not-true _ x)) in
-      below-any (holds sets row) PAGES (k * 64 + j) (omega arith) (holds-word sets k j l row ∙ y)
+  pub hasBit-or : hasBit (bitOr w v) j ≡ (hasBit w j || hasBit v j)
+  hasBit-or =
+      let e : bitOr (w / 2 ^ j) (v / 2 ^ j) % 2 ≡ max (bit w j) (bit v j) = omega (arith, or-step (w / 2 ^ j) (v / 2 ^ j)) in
+      rw (or-shr w v j, e) (bits (λ x y. eqb (max x y) 1 ≡ (eqb x 1 || eqb y 1)) refl refl refl refl)
 
-  page-word : anyBelow (holds sets row) PAGES ≡ true → anyBelow (notEmpty sets row) SET-WORDS ≡ true
-  page-word t =
-      let (page, h, x) = any-below-true (holds sets row) PAGES t in
-      let e : page / 64 * 64 + page % 64 ≡ page = omega arith in
-      let y : hasBit (rowWord sets row (page / 64)) (page % 64) ≡ true = sym (rw e at (holds-word sets (page / 64) (page % 64) (omega arith) row)) ∙ x in
-      let n : eqb (rowWord sets row (page / 64)) 0 ≡ false = ne-eqb _ 0 (λ z. zero-none _ (page % 64) z y) in
-      below-any (notEmpty sets row) SET-WORDS (page / 64) (omega arith) (rw n)
+  pub hasBit-xor : hasBit (bitXor w v) j ≡ xor (hasBit w j) (hasBit v j)
+  unfolding xor
+  hasBit-xor =
+      let small = bits (λ x y. differ x y < 2) (omega arith) (omega arith) (omega arith) (omega arith) in
+      let e : bitXor (w / 2 ^ j) (v / 2 ^ j) % 2 ≡ differ (bit w j) (bit v j) = omega (arith, xor-step (w / 2 ^ j) (v / 2 ^ j)) in
+      rw (xor-shr w v j, e) (bits (λ x y. eqb (differ x y) 1 ≡ xor (eqb x 1) (eqb y 1)) refl refl refl refl)
 
-  pub holds-any : anyBelow (notEmpty sets row) SET-WORDS ≡ anyBelow (holds sets row) PAGES
-  holds-any = same-answer word-page page-word
+-- ---- a bit in both words, in either
+module _ (w v j : ℕ) where
+  pub and-both : hasBit (bitAnd w v) j ≡ true → (hasBit w j ≡ true) × (hasBit v j ≡ true)
+  and-both t = decides-and (decides-itself (hasBit w j)) (decides-itself (hasBit v j)) .sound (sym (hasBit-and w v j) ∙ t)
+
+  pub both-and : hasBit w j ≡ true → hasBit v j ≡ true → hasBit (bitAnd w v) j ≡ true
+  both-and a b = hasBit-and w v j ∙ rw (a, b)
+
+  pub or-either : hasBit (bitOr w v) j ≡ true → (hasBit w j ≡ true) ⊎ (hasBit v j ≡ true)
+  or-either t = decides-or (decides-itself (hasBit w j)) (decides-itself (hasBit v j)) .sound (sym (hasBit-or w v j) ∙ t)
+
+  pub either-or : (hasBit w j ≡ true) ⊎ (hasBit v j ≡ true) → hasBit (bitOr w v) j ≡ true
+  either-or s = hasBit-or w v j ∙ ⊎-elim (λ t. rw t) (λ t. rw t (or-true (hasBit w j))) s

@@ -3,6 +3,7 @@ ghost use mathlib.Core.Path.{_≡_};
 ghost use Prim.Native.Nat.{_+_, _*_, _/_, _<_, _≤_};
 ghost use lib.ListN.{length};
 ghost use Rattle.numbers.specs.Limits.{PAGES, SET-WORDS};
+ghost use Rattle.numbers.specs.Packing.{VM-FIELD};
 ghost use Rattle.table.specs.Scan.{anyBelow};
 ghost use Rattle.pages.specs.Bits.{hasBit, withBit, withoutBit};
 ghost use Rattle.pages.specs.Rows.{cpuRow, dmaRow, holds, add, remove, freeCount, lowestFree};
@@ -17,14 +18,14 @@ pub const POOL: u64 = 0;
 pub const SHARED: u64 = 1;
 
 pub fn cpu_row(vm: VmId) -> u64
-    requires { ⌜ vm .0 < 256 ⌝ }
+    requires { ⌜ vm .0 < VM-FIELD ⌝ }
     ensures { λ r. ⌜ r ≡ cpuRow (vm .0) ⌝ }
 {
     2 + 2 * vm.0
 }
 
 pub fn dma_row(vm: VmId) -> u64
-    requires { ⌜ vm .0 < 256 ⌝ }
+    requires { ⌜ vm .0 < VM-FIELD ⌝ }
     ensures { λ r. ⌜ r ≡ dmaRow (vm .0) ⌝ }
 {
     3 + 2 * vm.0

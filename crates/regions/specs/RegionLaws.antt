@@ -1,4 +1,4 @@
--- What the region operations ask of a region that passed the early checks, and laws of their searches.
+-- What an accepted region operation tells of its region, and laws of the searches and of clearing.
 use Prim.Native.Nat.{ℕ, zero, suc, _+_, _-_, _≤_, _<_}
 use mathlib.Core.Bool.{Bool, true, false, _||_}
 use mathlib.Core.List.{List, []}
@@ -7,26 +7,40 @@ use native.Mathlib.Numerals.{add-one}
 use native.Mathlib.Omega.{arith}
 use lib.ListN.{length, getD, take}
 use lib.Seq.{getD-take, length-take-le}
-use Rattle.numbers.specs.Limits.{VMS, ACCESSES, GUEST-PAGES, PAGES}
+use Rattle.numbers.specs.Limits.{PAGES}
+use Rattle.numbers.specs.declared.Answer.{Answer}
+use Rattle.numbers.specs.declared.Answer.the-variants.{Accepted}
+use Rattle.numbers.specs.declared.Region.{Region}
 use Rattle.numbers.specs.declared.Side.{Side}
 use Rattle.numbers.specs.declared.Side.the-variants.{Cpu, Dma}
 use Rattle.table.specs.Scan.{any, lowest, lowestFrom}
 use Rattle.table.specs.Loops.{Asking, ask-next, ask-yes, ask-no}
-use Rattle.units.specs.declared.Region.{Region}
+use Rattle.units.specs.declared.Unit.{Unit}
 use Rattle.model.specs.Views.{edgeOn, claims, otherSide}
 use Rattle.model.specs.Effect.{clearPage, clearedPages}
-use Rattle.model.specs.Regions.{inUse, pageIn, removeClears, removeClearsFrom}
-use Rattle.model.specs.EarlyLaws.{RegionPassed}
+use Rattle.model.specs.Regions.{regionEarly, insertAnswer, removeMay, inUse, pageIn, removeClears, removeClearsFrom}
+use Rattle.model.specs.EarlyLaws.{RegionPassed, region-passed, then-passed}
+use Rattle.regions.specs.Parts.{Placed, Sized, InsertReady, RemoveSized, RemoveReady}
 
--- every number of the region is in range
-pub record Placed (region : Region) : Type 0 where
-  pub vm-ok : region .vm .0 < VMS
-  pub access-ok : region .access < ACCESSES
-  pub guest-ok : region .guest .0 + region .count ≤ GUEST-PAGES
-  pub page-ok : region .page .0 + region .count ≤ PAGES
-
+-- ---- where the answer accepts, the deed is ready
 pub region-placed : {known pages : ℕ} {region : Region} → pages ≤ PAGES → RegionPassed known pages region → Placed region
 region-placed h r = record { vm-ok = r .vm-ok; access-ok = r .access-ok; guest-ok = r .guest-ok; page-ok = omega arith }
+
+module _ (side : Side) (known pages : ℕ) (units : List Unit) (unitCount : ℕ) where
+  pub insert-ready : (sets map : List ℕ) (region : Region) {told : Answer} {dropped word : ℕ} → Sized pages unitCount sets →
+      told ≡ insertAnswer side known pages units unitCount sets map region → told ≡ Accepted dropped word → InsertReady sets region
+  unfolding insertAnswer
+  insert-ready sets map region s e a =
+      let (d, w, early, rest) = then-passed (regionEarly known pages region) _ (sym e ∙ a) in
+      record { placed = region-placed (s .few-pages) (region-passed known pages region early); sets-length = s .sets-length }
+
+  pub remove-ready : (sets pairs map memory : List ℕ) (region : Region) {told : Answer} {dropped word : ℕ} → RemoveSized pages unitCount sets memory →
+      told ≡ removeMay side known pages units unitCount sets pairs map region → told ≡ Accepted dropped word → RemoveReady sets memory region
+  unfolding removeMay
+  remove-ready sets pairs map memory region s e a =
+      let (d, w, early, rest) = then-passed (regionEarly known pages region) _ (sym e ∙ a) in
+      let r = region-passed known pages region early in
+      record { placed = region-placed (s .sized .few-pages) r; sets-length = s .sized .sets-length; memory-holds = omega arith }
 
 -- ---- edges
 -- the pairs whose edges hold a page back: for DMA none do

@@ -3,18 +3,17 @@ ghost use mathlib.Core.Path.{_≡_};
 ghost use Prim.Native.Nat.{_+_, _*_, _<_, _≤_};
 ghost use lib.ListN.{length};
 ghost use Rattle.numbers.specs.Limits.{PAGES, VMS, SETS, SET-WORDS, PAGE-WORDS};
-ghost use Rattle.table.specs.Scan.{count};
 ghost use Rattle.model.specs.Views.{otherSide};
 ghost use Rattle.model.specs.Effect.{clearedPages};
-ghost use Rattle.model.specs.Regions.{insertPage, insertSets, insertTable, removePage, removeSets, removeTable, removeClears, inRegion};
-ghost use Rattle.regions.specs.RegionLaws.{Placed};
+ghost use Rattle.model.specs.Regions.{insertPage, insertSets, insertTable, removePage, removeSets, removeClears, inRegion};
+ghost use Rattle.regions.specs.Parts.{Placed, Swept};
 use crate::searches::entry_in;
 use crate::searches::key_in;
 use crate::searches::page_in;
 use numbers::PhysPage;
+use numbers::Region;
 use numbers::Side;
 use numbers::VmId;
-use units::Region;
 
 // ---- Insertion.
 
@@ -96,7 +95,7 @@ fn in_region(w: u64, region: Region) -> bool
 // Empties every word of the region, in a map or a cache, and answers how many there were.
 pub fn sweep(words: &mut [u64], region: Region) -> u64
     requires { ⌜ Placed region ⌝ }
-    ensures { λ r. ⌜ (r ≡ count (inRegion region) (now (words .entry))) × (now (words .exit) ≡ removeTable (now (words .entry)) region) ⌝ }
+    ensures { λ r. ⌜ Swept (now (words .entry)) region r (now (words .exit)) ⌝ }
 {
     let mut swept = 0;
     let mut i = 0;

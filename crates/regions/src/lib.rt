@@ -1,22 +1,20 @@
-// Operations 11 to 14: a unit's pages go to its VM with their entries, and come back, for CPU or DMA.
-// Every check searches the whole region before the next begins, and nothing is written before the last has passed.
+// Operations 11 to 14: a unit's pages go to its VM with their entries, and come back, for CPU or DMA. Each is an answer,
+// of which every check searches the whole region before the next begins, and a deed, done where the answer accepts.
 ghost use mathlib.Core.Path.{_≡_};
-ghost use Prim.Native.Nat.{_*_, _≤_};
-ghost use lib.ListN.{length};
-ghost use Rattle.numbers.specs.Limits.{PAGES, SETS, SET-WORDS, PAGE-WORDS};
-ghost use Rattle.model.specs.Effect.{kept, apply, clears, quiet};
-ghost use Rattle.model.specs.Regions.{regionEarly, insertAnswer, insertSets, insertTable, removeAnswer, removeSets, removeTable, removeClears};
+ghost use Rattle.model.specs.Regions.{regionEarly, insertAnswer, removeMay, removeAnswer};
+ghost use Rattle.regions.specs.Parts.{Sized, InsertReady, InsertDone, InsertLeft, RemoveSized, RemoveReady, RemoveDone, RemoveLeft};
 use numbers::ACCESSES;
 use numbers::Answer;
 use numbers::Refusal;
+use numbers::Region;
 use numbers::Side;
+use numbers::UNITS;
 use numbers::VMS;
 use numbers::accept;
 use numbers::refuse;
-use units::Region;
 use units::Unit;
 
-mod edits; // edits.rt: what an accepted operation changes
+mod edits; // edits.rt: what the deeds change
 mod searches; // searches.rt: the lowest page of a region that fails a check
 
 // Early checks, of numbers alone. Spans are judged by refusal 3 and never by 2.
@@ -35,23 +33,21 @@ pub fn region_early(known: u64, pages: u64, region: Region) -> Answer
     accept(0)
 }
 
-// Operations 11 and 13: the region's pages go to the VM's pages of the side, and their entries into its map and its walker's.
-pub fn insert_region(
+// ---- Operations 11 and 13: insert.
+
+// Whether a region may be inserted.
+pub fn insert_answer(
     side: Side,
     known: u64,
     pages: u64,
-    units: [Unit; 32],
+    units: [Unit; UNITS],
     unit_count: u64,
-    sets: &mut [u64],
-    map: &mut [u64],
-    walker: &mut [u64],
+    sets: &[u64],
+    map: &[u64],
     region: Region,
 ) -> Answer
-    requires { ⌜ (pages ≤ PAGES) × («unit_count» ≤ 32) × (length (now sets) ≡ SETS * SET-WORDS) ⌝ }
-    ensures { λ r. ⌜ (r ≡ insertAnswer side known pages units «unit_count» (now (sets .entry)) (now (map .entry)) region)
-        × (now (sets .exit) ≡ kept (insertAnswer side known pages units «unit_count» (now (sets .entry)) (now (map .entry)) region) (now (sets .entry)) (insertSets side (now (sets .entry)) region))
-        × (now (map .exit) ≡ kept (insertAnswer side known pages units «unit_count» (now (sets .entry)) (now (map .entry)) region) (now (map .entry)) (insertTable (now (map .entry)) region))
-        × (now (walker .exit) ≡ kept (insertAnswer side known pages units «unit_count» (now (sets .entry)) (now (map .entry)) region) (now (walker .entry)) (insertTable (now (walker .entry)) region)) ⌝ }
+    requires { ⌜ Sized pages «unit_count» (now sets) ⌝ }
+    ensures { λ r. ⌜ r ≡ insertAnswer side known pages units «unit_count» (now (sets .entry)) (now (map .entry)) region ⌝ }
 {
     let early = region_early(known, pages, region);
     if let Answer::Refused { refusal, index } = early {
@@ -75,35 +71,58 @@ pub fn insert_region(
     if table::free_entries(map) < region.count {
         return refuse(Refusal::NoRoom, 0);
     }
-    edits::take_pages(side, sets, region);
-    edits::install(map, region);
-    edits::install(walker, region);
     accept(0)
 }
 
-// Operations 12 and 14: the region's pages leave the VM's pages of the side, their entries both maps and their slots the cache.
-// A page on which the VM has no claim left is cleared.
-pub fn remove_region(
+// The region's pages go to the VM's pages of the side, and their entries into its map and its walker's.
+pub fn insert_do(side: Side, sets: &mut [u64], map: &mut [u64], walker: &mut [u64], region: Region)
+    requires { ⌜ InsertReady (now sets) region ⌝ }
+    ensures { λ _. ⌜ InsertDone (now (sets .entry)) (now (map .entry)) (now (walker .entry)) side region (now (sets .exit)) (now (map .exit)) (now (walker .exit)) ⌝ }
+{
+    edits::take_pages(side, sets, region);
+    edits::install(map, region);
+    edits::install(walker, region);
+}
+
+pub fn insert_region(
     side: Side,
     known: u64,
     pages: u64,
-    units: [Unit; 32],
+    units: [Unit; UNITS],
     unit_count: u64,
     sets: &mut [u64],
-    pairs: &[u64],
     map: &mut [u64],
     walker: &mut [u64],
-    cache: &mut [u64],
-    memory: &mut [u64],
     region: Region,
 ) -> Answer
-    requires { ⌜ (pages ≤ PAGES) × («unit_count» ≤ 32) × (length (now sets) ≡ SETS * SET-WORDS) × (length (now memory) ≡ PAGE-WORDS * pages) ⌝ }
-    ensures { λ r. ⌜ (r ≡ removeAnswer side known pages units «unit_count» (now (sets .entry)) (now (pairs .entry)) (now (map .entry)) (now (cache .entry)) region)
-        × (now (sets .exit) ≡ kept (removeAnswer side known pages units «unit_count» (now (sets .entry)) (now (pairs .entry)) (now (map .entry)) (now (cache .entry)) region) (now (sets .entry)) (removeSets side (now (sets .entry)) region))
-        × (now (map .exit) ≡ kept (removeAnswer side known pages units «unit_count» (now (sets .entry)) (now (pairs .entry)) (now (map .entry)) (now (cache .entry)) region) (now (map .entry)) (removeTable (now (map .entry)) region))
-        × (now (walker .exit) ≡ kept (removeAnswer side known pages units «unit_count» (now (sets .entry)) (now (pairs .entry)) (now (map .entry)) (now (cache .entry)) region) (now (walker .entry)) (removeTable (now (walker .entry)) region))
-        × (now (cache .exit) ≡ kept (removeAnswer side known pages units «unit_count» (now (sets .entry)) (now (pairs .entry)) (now (map .entry)) (now (cache .entry)) region) (now (cache .entry)) (removeTable (now (cache .entry)) region))
-        × (now (memory .exit) ≡ apply (kept (removeAnswer side known pages units «unit_count» (now (sets .entry)) (now (pairs .entry)) (now (map .entry)) (now (cache .entry)) region) quiet (clears (removeClears side (now (sets .entry)) region))) (now (memory .entry))) ⌝ }
+    requires { ⌜ Sized pages «unit_count» (now sets) ⌝ }
+    ensures { λ r. ⌜ InsertLeft (insertAnswer side known pages units «unit_count» (now (sets .entry)) (now (map .entry)) region)
+        (now (sets .entry)) (now (map .entry)) (now (walker .entry)) side region r (now (sets .exit)) (now (map .exit)) (now (walker .exit)) ⌝ }
+{
+    let answer = insert_answer(side, known, pages, units, unit_count, sets, map, region);
+    if let Answer::Refused { refusal, index } = answer {
+        return Answer::Refused { refusal, index };
+    }
+    insert_do(side, sets, map, walker, region);
+    answer
+}
+
+// ---- Operations 12 and 14: remove.
+
+// Whether a region may be removed.
+pub fn remove_may(
+    side: Side,
+    known: u64,
+    pages: u64,
+    units: [Unit; UNITS],
+    unit_count: u64,
+    sets: &[u64],
+    pairs: &[u64],
+    map: &[u64],
+    region: Region,
+) -> Answer
+    requires { ⌜ Sized pages «unit_count» (now sets) ⌝ }
+    ensures { λ r. ⌜ r ≡ removeMay side known pages units «unit_count» (now (sets .entry)) (now (pairs .entry)) (now (map .entry)) region ⌝ }
 {
     let early = region_early(known, pages, region);
     if let Answer::Refused { refusal, index } = early {
@@ -124,9 +143,64 @@ pub fn remove_region(
     if used < region.count {
         return refuse(Refusal::StillInUse, used);
     }
+    accept(0)
+}
+
+// The region's pages leave the VM's pages of the side, their entries both maps and their slots the cache; answers how many
+// slots there were. A page on which the VM has no claim left is cleared.
+pub fn remove_do(
+    side: Side,
+    sets: &mut [u64],
+    map: &mut [u64],
+    walker: &mut [u64],
+    cache: &mut [u64],
+    memory: &mut [u64],
+    region: Region,
+) -> u64
+    requires { ⌜ RemoveReady (now sets) (now memory) region ⌝ }
+    ensures { λ r. ⌜ RemoveDone (now (sets .entry)) (now (map .entry)) (now (walker .entry)) (now (cache .entry)) (now (memory .entry)) side region r
+        (now (sets .exit)) (now (map .exit)) (now (walker .exit)) (now (cache .exit)) (now (memory .exit)) ⌝ }
+{
     edits::clear_pages(side, sets, memory, region);
     edits::return_pages(side, sets, region);
     edits::sweep(map, region);
     edits::sweep(walker, region);
-    accept(edits::sweep(cache, region))
+    edits::sweep(cache, region)
+}
+
+pub fn remove_region(
+    side: Side,
+    known: u64,
+    pages: u64,
+    units: [Unit; UNITS],
+    unit_count: u64,
+    sets: &mut [u64],
+    pairs: &[u64],
+    map: &mut [u64],
+    walker: &mut [u64],
+    cache: &mut [u64],
+    memory: &mut [u64],
+    region: Region,
+) -> Answer
+    requires { ⌜ RemoveSized pages «unit_count» (now sets) (now memory) ⌝ }
+    ensures { λ r. ⌜ RemoveLeft (removeAnswer side known pages units «unit_count» (now (sets .entry)) (now (pairs .entry)) (now (map .entry)) (now (cache .entry)) region)
+        (now (sets .entry)) (now (map .entry)) (now (walker .entry)) (now (cache .entry)) (now (memory .entry)) side region r
+        (now (sets .exit)) (now (map .exit)) (now (walker .exit)) (now (cache .exit)) (now (memory .exit)) ⌝ }
+{
+    let may = remove_may(
+        side,
+        known,
+        pages,
+        units,
+        unit_count,
+        sets,
+        pairs,
+        map,
+        region,
+    );
+    if let Answer::Refused { refusal, index } = may {
+        return Answer::Refused { refusal, index };
+    }
+    let dropped = remove_do(side, sets, map, walker, cache, memory, region);
+    accept(dropped)
 }

@@ -6,11 +6,12 @@ ghost use lib.ListN.{length};
 ghost use Rattle.numbers.specs.Limits.{SETS, SET-WORDS};
 ghost use Rattle.table.specs.Scan.{lowest};
 ghost use Rattle.model.specs.Regions.{pageIn, keyIn, regionEntry, notFree, present, claimed, notHeld, differs, inUse};
-ghost use Rattle.regions.specs.RegionLaws.{Placed, Binding};
+ghost use Rattle.regions.specs.Parts.{Placed};
+ghost use Rattle.regions.specs.RegionLaws.{Binding};
 use numbers::GuestPage;
 use numbers::PhysPage;
+use numbers::Region;
 use numbers::Side;
-use units::Region;
 
 // ---- The k-th page of a region, its key in a map, and the entry that a map has for it.
 

@@ -3,13 +3,16 @@ ghost use mathlib.Core.Path.{_≡_};
 ghost use Prim.Native.Nat.{_+_, _*_, _≤_};
 ghost use lib.ListN.{length};
 ghost use Rattle.numbers.specs.Limits.{ROW-NUMBERS};
-ghost use Rattle.model.specs.Sequence.{targetOf, operationOf, operationIn, rowAt};
+ghost use Rattle.model.specs.Sequence.{targetOf, regionOf, operationOf, operationIn, rowAt};
 ghost use Rattle.rows.specs.Decoded.{known};
 use numbers::GuestPage;
 use numbers::IDLE;
 use numbers::Operation;
 use numbers::PhysPage;
 use numbers::ROW_NUMBERS;
+use numbers::Region;
+use numbers::Side;
+use numbers::SideOperation;
 use numbers::Target;
 use numbers::VmId;
 
@@ -27,6 +30,19 @@ pub fn target_of(number: u64) -> Target
     Target::Vm(VmId(number))
 }
 
+// The region of five arguments in order.
+pub fn region_of(vm: u64, guest: u64, page: u64, count: u64, access: u64) -> Region
+    ensures { λ r. ⌜ r ≡ regionOf vm guest page count access ⌝ }
+{
+    Region {
+        vm: VmId(vm),
+        guest: GuestPage(guest),
+        page: PhysPage(page),
+        count,
+        access,
+    }
+}
+
 // The operation of a number and its arguments in order.
 pub fn operation_of(number: u64, a: u64, b: u64, c: u64, d: u64, e: u64) -> Decoded
     ensures { λ r. ⌜ known r ≡ operationOf number a b c d e ⌝ }
@@ -38,78 +54,90 @@ pub fn operation_of(number: u64, a: u64, b: u64, c: u64, d: u64, e: u64) -> Deco
         4 => Decoded::Known(Operation::ReclaimPage(VmId(a), PhysPage(b))),
         5 => Decoded::Known(Operation::SharePage(VmId(a), VmId(b), PhysPage(c))),
         6 => Decoded::Known(Operation::UnsharePage(VmId(a), VmId(b), PhysPage(c))),
-        7 => Decoded::Known(Operation::CpuMap {
-            vm: VmId(a),
-            guest: GuestPage(b),
-            page: PhysPage(c),
-            access: d,
-            generation: e,
-        }),
-        8 => Decoded::Known(Operation::DmaMap {
-            vm: VmId(a),
-            guest: GuestPage(b),
-            page: PhysPage(c),
-            access: d,
-            generation: e,
-        }),
-        9 => Decoded::Known(Operation::CpuUnmap(VmId(a), GuestPage(b))),
-        10 => Decoded::Known(Operation::DmaUnmap(VmId(a), GuestPage(b))),
-        11 => Decoded::Known(Operation::InsertRegion {
-            vm: VmId(a),
-            guest: GuestPage(b),
-            page: PhysPage(c),
-            count: d,
-            access: e,
-        }),
-        12 => Decoded::Known(Operation::RemoveRegion {
-            vm: VmId(a),
-            guest: GuestPage(b),
-            page: PhysPage(c),
-            count: d,
-            access: e,
-        }),
-        13 => Decoded::Known(Operation::DmaInsertRegion {
-            vm: VmId(a),
-            guest: GuestPage(b),
-            page: PhysPage(c),
-            count: d,
-            access: e,
-        }),
-        14 => Decoded::Known(Operation::DmaRemoveRegion {
-            vm: VmId(a),
-            guest: GuestPage(b),
-            page: PhysPage(c),
-            count: d,
-            access: e,
-        }),
-        15 => Decoded::Known(Operation::SwitchCpu(a, target_of(b))),
-        16 => Decoded::Known(Operation::BindDevice(a, target_of(b))),
-        17 => Decoded::Known(Operation::CpuFill(a, GuestPage(b))),
-        18 => Decoded::Known(Operation::DmaFill(a, GuestPage(b))),
-        19 => Decoded::Known(Operation::EmptyCpuSlot(a)),
-        20 => Decoded::Known(Operation::EmptyDmaSlot(a)),
-        21 => Decoded::Known(Operation::CpuRead {
-            port: a,
-            guest: GuestPage(b),
-            word: c,
-        }),
-        22 => Decoded::Known(Operation::DmaRead {
-            port: a,
-            guest: GuestPage(b),
-            word: c,
-        }),
-        23 => Decoded::Known(Operation::CpuWrite {
-            port: a,
-            guest: GuestPage(b),
-            word: c,
-            value: d,
-        }),
-        24 => Decoded::Known(Operation::DmaWrite {
-            port: a,
-            guest: GuestPage(b),
-            word: c,
-            value: d,
-        }),
+        7 => Decoded::Known(Operation::On(
+            Side::Cpu,
+            SideOperation::MapPage {
+                vm: VmId(a),
+                guest: GuestPage(b),
+                page: PhysPage(c),
+                access: d,
+                generation: e,
+            },
+        )),
+        8 => Decoded::Known(Operation::On(
+            Side::Dma,
+            SideOperation::MapPage {
+                vm: VmId(a),
+                guest: GuestPage(b),
+                page: PhysPage(c),
+                access: d,
+                generation: e,
+            },
+        )),
+        9 => Decoded::Known(Operation::On(
+            Side::Cpu,
+            SideOperation::UnmapPage(VmId(a), GuestPage(b)),
+        )),
+        10 => Decoded::Known(Operation::On(
+            Side::Dma,
+            SideOperation::UnmapPage(VmId(a), GuestPage(b)),
+        )),
+        11 => Decoded::Known(Operation::On(
+            Side::Cpu,
+            SideOperation::InsertRegion(region_of(a, b, c, d, e)),
+        )),
+        12 => Decoded::Known(Operation::On(
+            Side::Cpu,
+            SideOperation::RemoveRegion(region_of(a, b, c, d, e)),
+        )),
+        13 => Decoded::Known(Operation::On(
+            Side::Dma,
+            SideOperation::InsertRegion(region_of(a, b, c, d, e)),
+        )),
+        14 => Decoded::Known(Operation::On(
+            Side::Dma,
+            SideOperation::RemoveRegion(region_of(a, b, c, d, e)),
+        )),
+        15 => Decoded::Known(Operation::On(Side::Cpu, SideOperation::GivePort(a, target_of(b)))),
+        16 => Decoded::Known(Operation::On(Side::Dma, SideOperation::GivePort(a, target_of(b)))),
+        17 => Decoded::Known(Operation::On(Side::Cpu, SideOperation::FillSlot(a, GuestPage(b)))),
+        18 => Decoded::Known(Operation::On(Side::Dma, SideOperation::FillSlot(a, GuestPage(b)))),
+        19 => Decoded::Known(Operation::On(Side::Cpu, SideOperation::EmptySlot(a))),
+        20 => Decoded::Known(Operation::On(Side::Dma, SideOperation::EmptySlot(a))),
+        21 => Decoded::Known(Operation::On(
+            Side::Cpu,
+            SideOperation::ReadWord {
+                port: a,
+                guest: GuestPage(b),
+                word: c,
+            },
+        )),
+        22 => Decoded::Known(Operation::On(
+            Side::Dma,
+            SideOperation::ReadWord {
+                port: a,
+                guest: GuestPage(b),
+                word: c,
+            },
+        )),
+        23 => Decoded::Known(Operation::On(
+            Side::Cpu,
+            SideOperation::WriteWord {
+                port: a,
+                guest: GuestPage(b),
+                word: c,
+                value: d,
+            },
+        )),
+        24 => Decoded::Known(Operation::On(
+            Side::Dma,
+            SideOperation::WriteWord {
+                port: a,
+                guest: GuestPage(b),
+                word: c,
+                value: d,
+            },
+        )),
         25 => Decoded::Known(Operation::DataBarrier),
         26 => Decoded::Known(Operation::InstructionBarrier),
         _ => Decoded::Unknown,

@@ -91,7 +91,7 @@ pub enum Kind {
 pub struct Words {
     pub kind: Kind,
     pub count: usize,
-    pub numbers: [u64; 8],
+    pub numbers: [u64; ROW_NUMBERS],
 }
 
 // The text so far: its whole words, and the word under way.
@@ -488,7 +488,7 @@ pub fn line_start() -> Reader
             words: Words {
                 kind: Kind::NoWords,
                 count: 0,
-                numbers: [0; 8],
+                numbers: [0; ROW_NUMBERS],
             },
             part: Part::Nothing,
             comment: false,

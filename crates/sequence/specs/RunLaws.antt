@@ -12,8 +12,8 @@ use Rattle.numbers.specs.Meaning.{answerNumbers}
 use Rattle.numbers.specs.declared.Operation.{Operation}
 use Rattle.table.specs.Loops.{Repeating, repeat-start, repeat-next, repeat-end}
 use Rattle.model.specs.State.{State, Tables, Route}
-use Rattle.model.specs.declared.Machine.{Machine}
-use Rattle.operate.specs.Outcome.{Fit}
+use Rattle.model.specs.declared.Fixed.{Fixed}
+use Rattle.sides.specs.Sides.{Fit}
 use Rattle.numbers.specs.declared.Answer.{Answer}
 use Rattle.numbers.specs.declared.Answer.the-variants.{Accepted, Refused}
 use Rattle.numbers.specs.declared.Refusal.{Refusal}
@@ -107,7 +107,7 @@ turn-unknown rows k p d e f = ap (λ (x : Stepped). recorded x k (p .room)) (row
 
 -- ---- what the joined operation asks for still holds
 pub fit-kept :
-    (fixed : Machine) (sets memory sets′ memory′ : List ℕ) →
+    (fixed : Fixed) (sets memory sets′ memory′ : List ℕ) →
     Fit fixed sets memory → length sets′ ≡ length sets → length memory′ ≡ length memory → Fit fixed sets′ memory′
 fit-kept fixed sets memory sets′ memory′ f l n =
     record { few-pages = f .few-pages; few-units = f .few-units; sets-length = l ∙ f .sets-length; memory-length = n ∙ f .memory-length }

@@ -4,16 +4,17 @@ ghost use Prim.Native.Nat.{_+_, _*_, _≤_};
 ghost use lib.ListN.{length};
 ghost use Rattle.numbers.specs.Limits.{ROW-NUMBERS, ANSWER-NUMBERS};
 ghost use Rattle.numbers.specs.Meaning.{answerNumbers};
-ghost use Rattle.model.specs.Header.{stateOf};
+ghost use Rattle.model.specs.Header.{headerOf, stateOf};
 ghost use Rattle.model.specs.Sequence.{writeAt, turn, after, sequence};
-ghost use Rattle.operate.specs.Outcome.{Fit, withRegisters};
+ghost use Rattle.sides.specs.Sides.{Fit};
 ghost use Rattle.sequence.specs.Run.{progress, ran, shapeOf};
+use model::Fixed;
 use model::Machine;
+use model::Registers;
 use numbers::ANSWER_NUMBERS;
 use numbers::Answer;
 use numbers::ROW_NUMBERS;
 use numbers::Refusal;
-use operate::Registers;
 use rows::Decoded;
 
 // Answer k's four numbers, in their place of the answer room.
@@ -34,7 +35,7 @@ fn write_answer(room: &mut [u64], k: usize, answer: Answer)
 
 // Row k carried out and answered; an unknown operation is refused. From row to row only the registers are handed on.
 fn turn(
-    fixed: Machine,
+    fixed: Fixed,
     registers: Registers,
     sets: &mut [u64],
     pairs: &mut [u64],
@@ -51,8 +52,9 @@ fn turn(
 ) -> Registers
     requires { ⌜ Fit fixed (now sets) (now memory) ⌝ }
     requires { ⌜ ((k + 1) * ROW-NUMBERS ≤ length (now rows)) × ((k + 1) * ANSWER-NUMBERS ≤ length (now room)) ⌝ }
-    ensures { λ r. ⌜ progress (withRegisters fixed r) (now (sets .exit)) (now (pairs .exit)) (now («cpu_map» .exit)) (now («cpu_walker» .exit)) (now («cpu_cache» .exit)) (now («dma_map» .exit)) (now («dma_walker» .exit)) (now («dma_cache» .exit)) (now (memory .exit)) (now (room .exit))
-        ≡ turn (now (rows .entry)) k (progress (withRegisters fixed registers) (now (sets .entry)) (now (pairs .entry)) (now («cpu_map» .entry)) (now («cpu_walker» .entry)) (now («cpu_cache» .entry)) (now («dma_map» .entry)) (now («dma_walker» .entry)) (now («dma_cache» .entry)) (now (memory .entry)) (now (room .entry))) ⌝ }
+    ensures { λ r. ⌜ progress (headerOf fixed r) (now (sets .exit)) (now (pairs .exit)) (now («cpu_map» .exit)) (now («cpu_walker» .exit)) (now («cpu_cache» .exit)) (now («dma_map» .exit)) (now («dma_walker» .exit)) (now («dma_cache» .exit)) (now (memory .exit)) (now (room .exit))
+        ≡ turn (now (rows .entry)) k (progress (headerOf fixed registers) (now (sets .entry)) (now (pairs .entry)) (now («cpu_map» .entry)) (now («cpu_walker» .entry))
+        (now («cpu_cache» .entry)) (now («dma_map» .entry)) (now («dma_walker» .entry)) (now («dma_cache» .entry)) (now (memory .entry)) (now (room .entry))) ⌝ }
 {
     let decoded = rows::operation_at(rows, k);
     match decoded {
@@ -92,7 +94,7 @@ fn turn(
 
 // The first `count` rows, one after the other, a refused row too.
 fn run(
-    fixed: Machine,
+    fixed: Fixed,
     registers: Registers,
     sets: &mut [u64],
     pairs: &mut [u64],
@@ -109,8 +111,9 @@ fn run(
 ) -> Registers
     requires { ⌜ Fit fixed (now sets) (now memory) ⌝ }
     requires { ⌜ (count * ROW-NUMBERS ≤ length (now rows)) × (count * ANSWER-NUMBERS ≤ length (now room)) ⌝ }
-    ensures { λ r. ⌜ progress (withRegisters fixed r) (now (sets .exit)) (now (pairs .exit)) (now («cpu_map» .exit)) (now («cpu_walker» .exit)) (now («cpu_cache» .exit)) (now («dma_map» .exit)) (now («dma_walker» .exit)) (now («dma_cache» .exit)) (now (memory .exit)) (now (room .exit))
-        ≡ after (now (rows .entry)) count (progress (withRegisters fixed registers) (now (sets .entry)) (now (pairs .entry)) (now («cpu_map» .entry)) (now («cpu_walker» .entry)) (now («cpu_cache» .entry)) (now («dma_map» .entry)) (now («dma_walker» .entry)) (now («dma_cache» .entry)) (now (memory .entry)) (now (room .entry))) ⌝ }
+    ensures { λ r. ⌜ progress (headerOf fixed r) (now (sets .exit)) (now (pairs .exit)) (now («cpu_map» .exit)) (now («cpu_walker» .exit)) (now («cpu_cache» .exit)) (now («dma_map» .exit)) (now («dma_walker» .exit)) (now («dma_cache» .exit)) (now (memory .exit)) (now (room .exit))
+        ≡ after (now (rows .entry)) count (progress (headerOf fixed registers) (now (sets .entry)) (now (pairs .entry)) (now («cpu_map» .entry)) (now («cpu_walker» .entry))
+        (now («cpu_cache» .entry)) (now («dma_map» .entry)) (now («dma_walker» .entry)) (now («dma_cache» .entry)) (now (memory .entry)) (now (room .entry))) ⌝ }
 {
     let mut next = registers;
     let mut k = 0;
@@ -178,7 +181,7 @@ pub fn carry_out(
     rows: &[u64],
     room: &mut [u64],
 ) -> Ran
-    requires { ⌜ Fit m (now sets) (now memory) ⌝ }
+    requires { ⌜ Fit (m .fixed) (now sets) (now memory) ⌝ }
     ensures { λ r. ⌜ ran (r .answer) (progress (r .machine) (now (sets .exit)) (now (pairs .exit)) (now («cpu_map» .exit)) (now («cpu_walker» .exit)) (now («cpu_cache» .exit)) (now («dma_map» .exit)) (now («dma_walker» .exit)) (now («dma_cache» .exit)) (now (memory .exit)) (now (room .exit)))
         ≡ sequence (stateOf m (now (sets .entry)) (now (pairs .entry)) (now («cpu_map» .entry)) (now («cpu_walker» .entry)) (now («cpu_cache» .entry)) (now («dma_map» .entry)) (now («dma_walker» .entry)) (now («dma_cache» .entry)) (now (memory .entry))) (now (rows .entry)) (now (room .entry)) ⌝ }
 {
@@ -190,9 +193,10 @@ pub fn carry_out(
         };
     }
     let count = rows.len() / ROW_NUMBERS;
-    let registers = operate::registers_of(m);
+    let fixed = m.fixed;
+    let registers = m.registers;
     let next = run(
-        m,
+        fixed,
         registers,
         sets,
         pairs,
@@ -209,6 +213,9 @@ pub fn carry_out(
     );
     Ran {
         answer: answer,
-        machine: operate::with_registers(m, next),
+        machine: Machine {
+            fixed: fixed,
+            registers: next,
+        },
     }
 }

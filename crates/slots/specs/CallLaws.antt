@@ -13,8 +13,8 @@ use Rattle.numbers.specs.Decides.{Decides}
 use Rattle.numbers.specs.DecidesLaws.{decides-as, decides-and, decides-equal, decides-less, refutes}
 use Rattle.numbers.specs.Limits.{SLOTS, PORTS, VMS, GUEST-PAGES, PAGES, ACCESSES, GENERATIONS}
 use Rattle.numbers.specs.Meaning.{refusalNumber}
-use Rattle.numbers.specs.Packing.{entry, slotWord, slotKey, portOf, vmOf, guestOf, entryOf, filledOf, keyOf}
-use Rattle.numbers.specs.PackingLaws.{word-port, word-filled, word-key, word-whole, key-whole, key-vm, key-guest}
+use Rattle.numbers.specs.Packing.{PORT-FIELD, VM-FIELD, GUEST-FIELD, GUEST-BIT, entry, slotWord, slotKey, portOf, vmOf, guestOf, entryOf, filledOf, keyOf, WordFits}
+use Rattle.numbers.specs.PackingLaws.{word-port, word-filled, word-key, word-whole, key-whole, key-vm, key-guest, parts-fit}
 use Rattle.numbers.specs.declared.Refusal.the-variants.{StateNotValid, OutOfRange}
 use Rattle.table.specs.Scan.{lowest, lowestFrom}
 use Rattle.numbers.specs.CaseLaws.{cases, equal}
@@ -95,11 +95,11 @@ module _ (slots : List Slot) (port vm guest : ℕ) where
 -- ---- the search over words, by their keys
 -- numbers that fit the fields of a slot
 abbrev pub InFields : ℕ → ℕ → ℕ → Type 0
-InFields port vm guest = (port < 256) × (vm < 256) × (guest < 65536)
+InFields port vm guest = (port < PORT-FIELD) × (vm < VM-FIELD) × (guest < GUEST-FIELD)
 
-pub fields-decides : (port vm guest : ℕ) → Decides (ltb port 256 && ltb vm 256 && ltb guest 65536) (InFields port vm guest)
+pub fields-decides : (port vm guest : ℕ) → Decides (ltb port PORT-FIELD && ltb vm VM-FIELD && ltb guest GUEST-FIELD) (InFields port vm guest)
 fields-decides port vm guest =
-    decides-as (decides-and (decides-and (decides-less port 256) (decides-less vm 256)) (decides-less guest 65536)) (λ h. (h .0 .0, h .0 .1, h .1)) (λ h. ((h .0, h .1), h .2))
+    decides-as (decides-and (decides-and (decides-less port PORT-FIELD) (decides-less vm VM-FIELD)) (decides-less guest GUEST-FIELD)) (λ h. (h .0 .0, h .0 .1, h .1)) (λ h. ((h .0, h .1), h .2))
 
 module _ (ws : List ℕ) (port vm guest : ℕ) where
   slot-at : (i : ℕ) → getD (map slotOf ws) i empty ≡ slotOf (getD ws i 0)
@@ -126,7 +126,7 @@ module _ (ws : List ℕ) (port vm guest : ℕ) where
       let w = getD ws i 0 in
       let (l, f, p, v, g) = of-word i h in
       let e : keyOf (slotWord (portOf w) (vmOf w) (guestOf w) (entryOf w)) ≡ slotKey (portOf w) (vmOf w) (guestOf w) =
-      word-key (portOf w) (vmOf w) (guestOf w) (entryOf w) (omega arith) (omega arith) (omega arith) f in
+      word-key (portOf w) (parts-fit w) f in
       ap keyOf (sym (word-whole w)) ∙ e ∙ (λ j. slotKey (p j) (v j) (g j))
 
   module _ (fit : InFields port vm guest) where
@@ -134,12 +134,12 @@ module _ (ws : List ℕ) (port vm guest : ℕ) where
     key-holds i l e =
         let w = getD ws i 0 in
         let (p, v, g) = fit in
-        let low : entryOf w < 4294967296 = omega arith in
+        let f : WordFits vm guest (entryOf w) = record { vm-fits = v; guest-fits = g; low-fits = omega arith } in
         let whole : slotWord port vm guest (entryOf w) ≡ w = key-whole port vm guest w e in
         record {
           there = rw length-map l;
-          filled = rw (slot-at i) (sym (word-filled port vm guest (entryOf w) v g low) ∙ ap filledOf whole ∙ omega arith);
-          same-port = rw (slot-at i) (ap portOf (sym whole) ∙ word-port port vm guest (entryOf w) v g low);
+          filled = rw (slot-at i) (sym (word-filled port f) ∙ ap filledOf whole ∙ omega arith);
+          same-port = rw (slot-at i) (ap portOf (sym whole) ∙ word-port port f);
           same-vm = rw (slot-at i) (key-vm port vm guest w v g e);
           same-guest = rw (slot-at i) (key-guest port vm guest w v g e);
         }

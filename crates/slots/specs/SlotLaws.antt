@@ -7,6 +7,7 @@ use native.Mathlib.Omega.{arith}
 use lib.ListN.{length, getD, set, replicate, length-set, length-replicate, length-map, List·getD-map}
 use lib.Seq.{getD-set-same, getD-set-other, set-getD, ext-getD}
 use Rattle.numbers.specs.Limits.{SLOTS}
+use Rattle.numbers.specs.Packing.{WordFits}
 use Rattle.numbers.specs.PackingLaws.{word-port, word-vm, word-guest, word-entry}
 use Rattle.pages.specs.BitLaws.{below-or}
 use Rattle.slots.specs.Slots.{wordOf, slotOf, empty, Fits, AllFit, words, slotsOf, laid, loaded, slotAt, over, stored}
@@ -18,12 +19,8 @@ word-of-slot w = omega arith
 
 pub slot-of-word : (s : Slot) → Fits s → slotOf (wordOf s) ≡ s
 slot-of-word s (p, v, g, e) =
-    λ i. record {
-      port = word-port (s .port) (s .vm) (s .guest) (s .entry) v g e i;
-      vm = word-vm (s .port) (s .vm) (s .guest) (s .entry) v g e i;
-      guest = word-guest (s .port) (s .vm) (s .guest) (s .entry) v g e i;
-      entry = word-entry (s .port) (s .vm) (s .guest) (s .entry) v g e i;
-    }
+    let f : WordFits (s .vm) (s .guest) (s .entry) = record { vm-fits = v; guest-fits = g; low-fits = e } in
+    λ i. record { port = word-port (s .port) f i; vm = word-vm (s .port) f i; guest = word-guest (s .port) f i; entry = word-entry (s .port) f i }
 
 -- slots that fit, and one more
 pub fit-next : (slots : List Slot) (k : ℕ) → ((i : ℕ) → i < k → Fits (getD slots i empty)) → Fits (getD slots k empty) → (i : ℕ) → i < k + 1 → Fits (getD slots i empty)

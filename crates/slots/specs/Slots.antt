@@ -3,7 +3,7 @@ use Prim.Native.Nat.{ℕ, zero, suc, _<_}
 use mathlib.Core.List.{List, map}
 use lib.ListN.{length, getD, set, replicate}
 use Rattle.numbers.specs.Limits.{SLOTS}
-use Rattle.numbers.specs.Packing.{slotWord, portOf, vmOf, guestOf, entryOf}
+use Rattle.numbers.specs.Packing.{PORT-FIELD, VM-FIELD, GUEST-FIELD, GUEST-BIT, slotWord, portOf, vmOf, guestOf, entryOf}
 use Rattle.slots.specs.declared.Slot.{Slot}
 
 -- ---- one slot
@@ -18,7 +18,7 @@ empty = record { port = 0; vm = 0; guest = 0; entry = 0 }
 
 -- every number within its field, as in any record that a machine holds
 abbrev pub Fits : Slot → Type 0
-Fits s = (s .port < 256) × (s .vm < 256) × (s .guest < 65536) × (s .entry < 4294967296)
+Fits s = (s .port < PORT-FIELD) × (s .vm < VM-FIELD) × (s .guest < GUEST-FIELD) × (s .entry < GUEST-BIT)
 
 -- ---- a cache of slots
 abbrev pub words : List Slot → List ℕ
@@ -30,7 +30,7 @@ slotsOf = map slotOf
 abbrev pub AllFit : List Slot → Type 0
 AllFit slots = (i : ℕ) → i < length slots → Fits (getD slots i empty)
 
--- the words of the first k slots, laid over 64 empty words
+-- the words of the first k slots, laid over SLOTS empty words
 abbrev pub laid : List Slot → ℕ → List ℕ
 laid slots zero = replicate SLOTS 0
 laid slots (suc k) = set (laid slots k) k (wordOf (getD slots k empty))

@@ -8,13 +8,16 @@ ghost use Rattle.slots.specs.Calls.{findSlot, change, fillWord, emptyWor
 ghost use Rattle.slots.specs.Slots.{wordOf, slotOf, slotAt, loaded, stored, AllFit};
 use numbers::ACCESSES;
 use numbers::GENERATIONS;
+use numbers::GUEST_FIELD;
 use numbers::GUEST_PAGES;
 use numbers::GuestPage;
 use numbers::PAGES;
+use numbers::PORT_FIELD;
 use numbers::PORTS;
 use numbers::PhysPage;
 use numbers::Refusal;
 use numbers::SLOTS;
+use numbers::VM_FIELD;
 use numbers::VMS;
 use numbers::VmId;
 use table::Found;
@@ -27,13 +30,6 @@ pub struct Slot {
     pub guest: u16,
     pub entry: u32,
 }
-
-// What a slot's field of 8 bits for the port can hold.
-const PORT_FIELD: u64 = 256;
-// Its field of 8 bits for the VM.
-const VM_FIELD: u64 = 256;
-// Its field of 16 bits for the guest page.
-const GUEST_FIELD: u64 = 65536;
 
 pub fn word_of(slot: Slot) -> u64
     ensures { λ r. ⌜ r ≡ wordOf slot ⌝ }
@@ -58,14 +54,14 @@ pub fn slot_of(word: u64) -> Slot
 
 // ---- A cache as the words of the core, by value.
 
-fn no_words() -> [u64; 64]
+fn no_words() -> [u64; SLOTS as usize]
     ensures { λ r. ⌜ r ≡ replicate SLOTS 0 ⌝ }
 {
-    [0; 64]
+    [0; SLOTS as usize]
 }
 
 // The slot's word goes to place i, where there is one.
-fn put_word(words: [u64; 64], i: usize, slot: Slot) -> [u64; 64]
+fn put_word(words: [u64; SLOTS as usize], i: usize, slot: Slot) -> [u64; SLOTS as usize]
     ensures { λ r. ⌜ r ≡ set words i (wordOf slot) ⌝ }
 {
     let mut all = words;
@@ -76,7 +72,7 @@ fn put_word(words: [u64; 64], i: usize, slot: Slot) -> [u64; 64]
 }
 
 // The slot of word i, or the one given where there is no such word.
-fn slot_at(words: [u64; 64], i: usize, slot: Slot) -> Slot
+fn slot_at(words: [u64; SLOTS as usize], i: usize, slot: Slot) -> Slot
     ensures { λ r. ⌜ r ≡ slotAt words i slot ⌝ }
 {
     if i < SLOTS as usize {
@@ -87,7 +83,7 @@ fn slot_at(words: [u64; 64], i: usize, slot: Slot) -> Slot
 }
 
 // The words of the first 64 slots, 0 where there are fewer. It tells as well that every number of a slot is within its field.
-pub fn load(slots: &[Slot]) -> [u64; 64]
+pub fn load(slots: &[Slot]) -> [u64; SLOTS as usize]
     ensures { λ r. ⌜ (r ≡ loaded (now (slots .entry))) × AllFit (now (slots .entry)) ⌝ }
 {
     let mut words = no_words();
@@ -100,7 +96,7 @@ pub fn load(slots: &[Slot]) -> [u64; 64]
 }
 
 // The slots of the words; a slot past the last word stays as it is.
-pub fn store(slots: &mut [Slot], words: [u64; 64])
+pub fn store(slots: &mut [Slot], words: [u64; SLOTS as usize])
     ensures { λ _. ⌜ now (slots .exit) ≡ stored words (now (slots .entry)) ⌝ }
 {
     let mut i = 0;
@@ -111,7 +107,7 @@ pub fn store(slots: &mut [Slot], words: [u64; 64])
 }
 
 // ---- The search. No slot holds a number that is too large for its field.
-pub fn find(words: [u64; 64], port: u64, vm: u64, guest: u64) -> usize
+pub fn find(words: [u64; SLOTS as usize], port: u64, vm: u64, guest: u64) -> usize
     ensures { λ r. ⌜ r ≡ findSlot (map slotOf words) port vm guest ⌝ }
 {
     if !((port < PORT_FIELD) & (vm < VM_FIELD) & (guest < GUEST_FIELD)) {
@@ -127,11 +123,11 @@ pub fn find(words: [u64; 64], port: u64, vm: u64, guest: u64) -> usize
 
 // ---- A change of one slot: the words as it leaves them, and its number, 0 or a refusal's.
 pub struct Changed {
-    pub words: [u64; 64],
+    pub words: [u64; SLOTS as usize],
     pub number: u64,
 }
 
-fn refused(words: [u64; 64], refusal: Refusal) -> Changed
+fn refused(words: [u64; SLOTS as usize], refusal: Refusal) -> Changed
     ensures { λ r. ⌜ (r .words ≡ words) × (r .number ≡ refusalNumber refusal) ⌝ }
 {
     let number = numbers::refusal_number(refusal);
@@ -141,7 +137,7 @@ fn refused(words: [u64; 64], refusal: Refusal) -> Changed
 // Fills slot `place` of a cache that has `count` slots, or says why not.
 pub fn fill(
     count: usize,
-    words: [u64; 64],
+    words: [u64; SLOTS as usize],
     place: u64,
     port: u64,
     vm: u64,
@@ -174,7 +170,7 @@ pub fn fill(
 }
 
 // Empties slot `place` of a cache that has `count` slots, or says why not.
-pub fn empty(count: usize, words: [u64; 64], place: u64) -> Changed
+pub fn empty(count: usize, words: [u64; SLOTS as usize], place: u64) -> Changed
     ensures { λ r. ⌜ change (r .number) (r .words) ≡ emptyWord count words place ⌝ }
 {
     if count != SLOTS as usize {

@@ -7,6 +7,8 @@ use Rattle.numbers.specs.declared.Answer.{Answer}
 use Rattle.units.specs.Units.{noUnit}
 use Rattle.model.specs.Header.{stateOf}
 use Rattle.model.specs.Start.{Told, Lent, Started, countTold, unitsTold}
+use Rattle.model.specs.declared.SideRegisters.{SideRegisters}
+use Rattle.model.specs.declared.Registers.{Registers}
 use Rattle.model.specs.declared.Machine.{Machine}
 
 abbrev pub told : ℕ → ℕ → ℕ → List ℕ → Told
@@ -35,34 +37,31 @@ began answer m sets pairs cpuMap cpuWalker cpuCache dmaMap dmaWalker dmaCache me
 abbrev pub zeros : List ℕ → List ℕ
 zeros ws = replicate (length ws) 0
 
+-- no VM is known, every port is idle, and replacement begins at the first slot
+abbrev pub freshSide : SideRegisters
+freshSide = record { ports = replicate PORTS IDLE; hand = 0 }
+
+abbrev pub freshRegisters : Registers
+freshRegisters = record { known = 0; cpu = freshSide; dma = freshSide }
+
 -- the header of the machine that is told
 abbrev pub freshHeader : Told → Machine
 freshHeader t =
     record {
-      pages = t .pages;
-      «shared_base» = t .sharedBase;
-      «shared_count» = t .sharedCount;
-      units = unitsTold (t .units);
-      «unit_count» = countTold (t .units);
-      known = 0;
-      cpus = replicate PORTS IDLE;
-      devices = replicate PORTS IDLE;
-      «cpu_hand» = 0;
-      «dma_hand» = 0;
+      fixed = record {
+        pages = t .pages;
+        «shared_base» = t .sharedBase;
+        «shared_count» = t .sharedCount;
+        units = unitsTold (t .units);
+        «unit_count» = countTold (t .units);
+      };
+      registers = freshRegisters;
     }
 
 -- the header of the empty machine
 abbrev pub emptyHeader : Machine
 emptyHeader =
     record {
-      pages = 0;
-      «shared_base» = 0;
-      «shared_count» = 0;
-      units = replicate UNITS noUnit;
-      «unit_count» = 0;
-      known = 0;
-      cpus = replicate PORTS IDLE;
-      devices = replicate PORTS IDLE;
-      «cpu_hand» = 0;
-      «dma_hand» = 0;
+      fixed = record { pages = 0; «shared_base» = 0; «shared_count» = 0; units = replicate UNITS noUnit; «unit_count» = 0 };
+      registers = freshRegisters;
     }

@@ -91,7 +91,9 @@ unfolding freshState
 anew-fresh t l answer p =
     let k = p .lengths in
     λ i.
-    began answer (freshHeader t) (repeat (firstHome (t .sharedBase) (t .sharedCount)) 0 (t .pages) (replicate (k .sets i) 0)) (replicate (k .pairs i) 0) (replicate (k .cpu-map i) 0) (replicate (k .cpu-walker i) 0) (replicate (k .cpu-cache i) 0) (replicate (k .dma-map i) 0) (replicate (k .dma-walker i) 0) (replicate (k .dma-cache i) 0) (replicate (k .memory i) 0)
+    began answer (freshHeader t) (repeat (firstHome (t .sharedBase) (t .sharedCount)) 0 (t .pages) (replicate (k .sets i) 0)) (replicate (k .pairs i) 0)
+    (replicate (k .cpu-map i) 0) (replicate (k .cpu-walker i) 0) (replicate (k .cpu-cache i) 0) (replicate (k .dma-map i) 0) (replicate (k .dma-walker i) 0)
+    (replicate (k .dma-cache i) 0) (replicate (k .memory i) 0)
 
 module _ (t : Told) (l : Lent) (answer : Answer) (m : Machine) (e : answer ≡ startAnswer t l) where
   -- refused, with what was lent as it was

@@ -8,8 +8,11 @@ ghost use Rattle.numbers.specs.Limits.{PAGES, SETS, SET-WORDS, UNITS};
 ghost use Rattle.table.specs.Scan.{anyBelow, repeat};
 ghost use Rattle.units.specs.Units.{noUnit};
 ghost use Rattle.model.specs.Start.{UNIT-NUMBERS, countTold, numberTold, unitTold, unitsTold, badField, badSpan, lengthsGood, startAnswer, firstHome, start};
-ghost use Rattle.start.specs.Begun.{told, lent, began, zeros, freshHeader, emptyHeader};
+ghost use Rattle.start.specs.Begun.{told, lent, began, zeros, freshRegisters, freshHeader, emptyHeader};
+use model::Fixed;
 use model::Machine;
+use model::Registers;
+use model::SideRegisters;
 use numbers::ACCESSES;
 use numbers::Answer;
 use numbers::ENTRIES;
@@ -18,8 +21,10 @@ use numbers::IDLE;
 use numbers::PAGE_WORDS;
 use numbers::PAGES;
 use numbers::PAIRS;
+use numbers::PORTS;
 use numbers::PhysPage;
 use numbers::Refusal;
+use numbers::Region;
 use numbers::SET_WORDS;
 use numbers::SETS;
 use numbers::SLOTS;
@@ -27,7 +32,6 @@ use numbers::UNITS;
 use numbers::VMS;
 use numbers::VmId;
 use units::Mark;
-use units::Region;
 use units::Unit;
 
 // ---- The units that start is told.
@@ -63,7 +67,7 @@ fn unit_told(units: &[u64], k: usize) -> Unit
     }
 }
 
-fn no_units() -> [Unit; 32]
+fn no_units() -> [Unit; UNITS]
     ensures { λ r. ⌜ r ≡ replicate UNITS noUnit ⌝ }
 {
     let unit = Unit {
@@ -74,11 +78,11 @@ fn no_units() -> [Unit; 32]
         access: 0,
         mark: Mark::Cpu,
     };
-    [unit; 32]
+    [unit; UNITS]
 }
 
 // The units that are told, and no unit past them.
-pub fn units_told(units: &[u64]) -> [Unit; 32]
+pub fn units_told(units: &[u64]) -> [Unit; UNITS]
     requires { ⌜ countTold (now units) ≤ UNITS ⌝ }
     ensures { λ r. ⌜ r ≡ unitsTold (now (units .entry)) ⌝ }
 {
@@ -272,7 +276,7 @@ fn fresh_sets(sets: &mut [u64], pages: u64, shared_base: u64, shared_count: u64)
     requires { ⌜ (pages ≤ PAGES) × («shared_base» + «shared_count» ≤ pages) × (length (now sets) ≡ SETS * SET-WORDS) ⌝ }
     ensures { λ _. ⌜ now (sets .exit) ≡ repeat (firstHome «shared_base» «shared_count») 0 pages (zeros (now (sets .entry))) ⌝ }
 {
-    access::clear_words(sets);
+    table::clear_words(sets);
     let mut page = 0;
     while page < pages {
         first_home(sets, shared_base, shared_count, PhysPage(page));
@@ -284,32 +288,42 @@ fn fresh_sets(sets: &mut [u64], pages: u64, shared_base: u64, shared_count: u64)
 fn clear_route(map: &mut [u64], walker: &mut [u64], cache: &mut [u64])
     ensures { λ _. ⌜ (now (map .exit) ≡ zeros (now (map .entry))) × (now (walker .exit) ≡ zeros (now (walker .entry))) × (now (cache .exit) ≡ zeros (now (cache .entry))) ⌝ }
 {
-    access::clear_words(map);
-    access::clear_words(walker);
-    access::clear_words(cache);
+    table::clear_words(map);
+    table::clear_words(walker);
+    table::clear_words(cache);
 }
 
 // ---- The two headers that start gives. Crate `header` reads one from numbers, and `changes` has its own to be damaged.
+
+// No VM is known, every port is idle, and replacement begins at the first slot.
+fn fresh_registers() -> Registers
+    ensures { λ r. ⌜ r ≡ freshRegisters ⌝ }
+{
+    let side = SideRegisters {
+        ports: [IDLE; PORTS as usize],
+        hand: 0,
+    };
+    Registers {
+        known: 0,
+        cpu: side,
+        dma: side,
+    }
+}
 
 fn fresh_machine(pages: u64, shared_base: u64, shared_count: u64, units: &[u64]) -> Machine
     requires { ⌜ countTold (now units) ≤ UNITS ⌝ }
     ensures { λ r. ⌜ r ≡ freshHeader (told pages «shared_base» «shared_count» (now (units .entry))) ⌝ }
 {
     let all = units_told(units);
-    // Replacement begins at the first slot.
-    let hand = 0;
-    Machine {
+    let registers = fresh_registers();
+    let fixed = Fixed {
         pages,
         shared_base,
         shared_count,
         units: all,
         unit_count: (units.len() / UNIT_NUMBERS) as u64,
-        known: 0,
-        cpus: [IDLE; 8],
-        devices: [IDLE; 8],
-        cpu_hand: hand,
-        dma_hand: hand,
-    }
+    };
+    Machine { fixed, registers }
 }
 
 // The machine of no pages, which is never valid.
@@ -317,18 +331,15 @@ pub fn empty_machine() -> Machine
     ensures { λ r. ⌜ r ≡ emptyHeader ⌝ }
 {
     let none = no_units();
-    Machine {
+    let registers = fresh_registers();
+    let fixed = Fixed {
         pages: 0,
         shared_base: 0,
         shared_count: 0,
         units: none,
         unit_count: 0,
-        known: 0,
-        cpus: [IDLE; 8],
-        devices: [IDLE; 8],
-        cpu_hand: 0,
-        dma_hand: 0,
-    }
+    };
+    Machine { fixed, registers }
 }
 
 // ---- Start.
@@ -381,10 +392,10 @@ pub fn start(
         };
     }
     fresh_sets(sets, pages, shared_base, shared_count);
-    access::clear_words(pairs);
+    table::clear_words(pairs);
     clear_route(cpu_map, cpu_walker, cpu_cache);
     clear_route(dma_map, dma_walker, dma_cache);
-    access::clear_words(memory);
+    table::clear_words(memory);
     let machine = fresh_machine(pages, shared_base, shared_count, units);
     Started { answer, machine }
 }

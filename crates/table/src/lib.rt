@@ -1,6 +1,7 @@
 // Bounded tables of packed words over lent slices: a word is 0, an empty place, or is filed under its key.
 // Table code goes by the slice's length and knows no capacity.
 ghost use mathlib.Core.Path.{_≡_};
+ghost use lib.ListN.{length, replicate};
 ghost use Rattle.numbers.specs.Packing.{keyOf, addressOf};
 ghost use Rattle.table.specs.Loops.{Seeking};
 ghost use Rattle.table.specs.Scan.{count};
@@ -151,4 +152,15 @@ pub fn drop_slots(cache: &mut [u64], address: u64) -> u64
         i += 1;
     }
     dropped
+}
+
+// Every word becomes 0.
+pub fn clear_words(words: &mut [u64])
+    ensures { λ _. ⌜ now (words .exit) ≡ replicate (length (now (words .entry))) 0 ⌝ }
+{
+    let mut i = 0;
+    while i < words.len() {
+        words[i] = 0;
+        i += 1;
+    }
 }

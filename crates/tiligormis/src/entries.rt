@@ -21,7 +21,8 @@ pub extern "C" fn tiligormis_valid(
     dma_cache: &[Slot],
     memory: &[u64],
 ) -> bool
-    ensures { λ r. ⌜ Decides r (BoxValid words (box (now (machine .entry)) (now (sets .entry)) (now (pairs .entry)) (now («cpu_map» .entry)) (now («cpu_walker» .entry)) (now («cpu_cache» .entry)) (now («dma_map» .entry)) (now («dma_walker» .entry)) (now («dma_cache» .entry)) (now (memory .entry)))) ⌝ }
+    ensures { λ r. ⌜ Decides r (BoxValid words (box (now (machine .entry)) (now (sets .entry)) (now (pairs .entry)) (now («cpu_map» .entry)) (now («cpu_walker» .entry))
+        (now («cpu_cache» .entry)) (now («dma_map» .entry)) (now («dma_walker» .entry)) (now («dma_cache» .entry)) (now (memory .entry)))) ⌝ }
 {
     let cpu_slots = cpu_cache.len();
     let dma_slots = dma_cache.len();
@@ -59,8 +60,10 @@ pub extern "C" fn tiligormis_operation(
     row: &[u64],
     answer: &mut [u64],
 ) -> u64
-    ensures { λ r. ⌜ Judgement (OperationAsked words (box (now (machine .entry)) (now (sets .entry)) (now (pairs .entry)) (now («cpu_map» .entry)) (now («cpu_walker» .entry)) (now («cpu_cache» .entry)) (now («dma_map» .entry)) (now («dma_walker» .entry)) (now («dma_cache» .entry)) (now (memory .entry))) (now (row .entry)) (now (answer .entry)))
-        (operationGives words slotsOf (box (now (machine .entry)) (now (sets .entry)) (now (pairs .entry)) (now («cpu_map» .entry)) (now («cpu_walker» .entry)) (now («cpu_cache» .entry)) (now («dma_map» .entry)) (now («dma_walker» .entry)) (now («dma_cache» .entry)) (now (memory .entry))) (now (row .entry)) (now (answer .entry)))
+    ensures { λ r. ⌜ Judgement (OperationAsked words (box (now (machine .entry)) (now (sets .entry)) (now (pairs .entry)) (now («cpu_map» .entry)) (now («cpu_walker» .entry))
+        (now («cpu_cache» .entry)) (now («dma_map» .entry)) (now («dma_walker» .entry)) (now («dma_cache» .entry)) (now (memory .entry))) (now (row .entry)) (now (answer .entry)))
+        (operationGives words slotsOf (box (now (machine .entry)) (now (sets .entry)) (now (pairs .entry)) (now («cpu_map» .entry)) (now («cpu_walker» .entry)) (now («cpu_cache» .entry))
+        (now («dma_map» .entry)) (now («dma_walker» .entry)) (now («dma_cache» .entry)) (now (memory .entry))) (now (row .entry)) (now (answer .entry)))
         (operationRefused (box (now (machine .entry)) (now (sets .entry)) (now (pairs .entry)) (now («cpu_map» .entry)) (now («cpu_walker» .entry)) (now («cpu_cache» .entry)) (now («dma_map» .entry)) (now («dma_walker» .entry)) (now («dma_cache» .entry)) (now (memory .entry))) (now (answer .entry)))
         (given r (now (answer .exit)) (box (now (machine .exit)) (now (sets .exit)) (now (pairs .exit)) (now («cpu_map» .exit)) (now («cpu_walker» .exit)) (now («cpu_cache» .exit)) (now («dma_map» .exit)) (now («dma_walker» .exit)) (now («dma_cache» .exit)) (now (memory .exit)))) ⌝ }
 {
@@ -106,7 +109,8 @@ pub extern "C" fn tiligormis_sequence(
     answers: &mut [u64],
 ) -> u64
     ensures { λ r. ⌜ Judgement (BoxValid words (box (now (machine .entry)) (now (sets .entry)) (now (pairs .entry)) (now («cpu_map» .entry)) (now («cpu_walker» .entry)) (now («cpu_cache» .entry)) (now («dma_map» .entry)) (now («dma_walker» .entry)) (now («dma_cache» .entry)) (now (memory .entry))))
-        (sequenceGives words slotsOf (box (now (machine .entry)) (now (sets .entry)) (now (pairs .entry)) (now («cpu_map» .entry)) (now («cpu_walker» .entry)) (now («cpu_cache» .entry)) (now («dma_map» .entry)) (now («dma_walker» .entry)) (now («dma_cache» .entry)) (now (memory .entry))) (now (rows .entry)) (now (answers .entry)))
+        (sequenceGives words slotsOf (box (now (machine .entry)) (now (sets .entry)) (now (pairs .entry)) (now («cpu_map» .entry)) (now («cpu_walker» .entry)) (now («cpu_cache» .entry))
+        (now («dma_map» .entry)) (now («dma_walker» .entry)) (now («dma_cache» .entry)) (now (memory .entry))) (now (rows .entry)) (now (answers .entry)))
         (refusedWhole (box (now (machine .entry)) (now (sets .entry)) (now (pairs .entry)) (now («cpu_map» .entry)) (now («cpu_walker» .entry)) (now («cpu_cache» .entry)) (now («dma_map» .entry)) (now («dma_walker» .entry)) (now («dma_cache» .entry)) (now (memory .entry))) (now (answers .entry)))
         (given r (now (answers .exit)) (box (now (machine .exit)) (now (sets .exit)) (now (pairs .exit)) (now («cpu_map» .exit)) (now («cpu_walker» .exit)) (now («cpu_cache» .exit)) (now («dma_map» .exit)) (now («dma_walker» .exit)) (now («dma_cache» .exit)) (now (memory .exit)))) ⌝ }
 {
@@ -150,8 +154,10 @@ pub extern "C" fn tiligormis_free(
     memory: &[u64],
     free_pages: &mut [u64],
 ) -> u64
-    ensures { λ r. ⌜ Judgement (FreeAsked words (box (now (machine .entry)) (now (sets .entry)) (now (pairs .entry)) (now («cpu_map» .entry)) (now («cpu_walker» .entry)) (now («cpu_cache» .entry)) (now («dma_map» .entry)) (now («dma_walker» .entry)) (now («dma_cache» .entry)) (now (memory .entry))) (now («free_pages» .entry)))
-        (freeGives words (box (now (machine .entry)) (now (sets .entry)) (now (pairs .entry)) (now («cpu_map» .entry)) (now («cpu_walker» .entry)) (now («cpu_cache» .entry)) (now («dma_map» .entry)) (now («dma_walker» .entry)) (now («dma_cache» .entry)) (now (memory .entry))) (now («free_pages» .entry)))
+    ensures { λ r. ⌜ Judgement (FreeAsked words (box (now (machine .entry)) (now (sets .entry)) (now (pairs .entry)) (now («cpu_map» .entry)) (now («cpu_walker» .entry))
+        (now («cpu_cache» .entry)) (now («dma_map» .entry)) (now («dma_walker» .entry)) (now («dma_cache» .entry)) (now (memory .entry))) (now («free_pages» .entry)))
+        (freeGives words (box (now (machine .entry)) (now (sets .entry)) (now (pairs .entry)) (now («cpu_map» .entry)) (now («cpu_walker» .entry)) (now («cpu_cache» .entry))
+        (now («dma_map» .entry)) (now («dma_walker» .entry)) (now («dma_cache» .entry)) (now (memory .entry))) (now («free_pages» .entry)))
         (freeTold (now («free_pages» .entry)) freeRefused)
         (freeGiven r (now («free_pages» .exit))) ⌝ }
 {

@@ -3,7 +3,7 @@ use Prim.Native.Nat.{ℕ, _+_}
 use mathlib.Core.Bool.{Bool, _&&_}
 use lib.Dec.{ltb, leb}
 use Rattle.numbers.specs.Limits.{GUEST-PAGES}
-use Rattle.units.specs.declared.Region.{Region}
+use Rattle.numbers.specs.declared.Region.{Region}
 
 -- the count places from base on end at the limit or before
 abbrev pub spanWithin : ℕ → ℕ → ℕ → Bool

@@ -11,7 +11,7 @@ use Rattle.table.specs.Scan.{anyBelow}
 use Rattle.units.specs.declared.Mark.{Mark}
 use Rattle.units.specs.declared.Mark.the-variants.{Cpu, Dma, Both}
 use Rattle.units.specs.declared.Unit.{Unit}
-use Rattle.units.specs.declared.Region.{Region}
+use Rattle.numbers.specs.declared.Region.{Region}
 
 -- the paper's numbers of a mark
 abbrev pub markNumber : Mark → ℕ

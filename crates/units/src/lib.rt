@@ -1,12 +1,15 @@
 // Units: the regions that start allows to be assigned, each marked for a side or for both.
 ghost use mathlib.Core.Path.{_≡_};
 ghost use Prim.Native.Nat.{_≤_, _<_};
+ghost use Rattle.numbers.specs.Limits.{UNITS};
 ghost use Rattle.units.specs.Units.{markNumber, isMark, markOf, suits, isUnit, assignable};
 ghost use Rattle.units.specs.Spans.{spanWithin, regionSpan};
 use numbers::GUEST_PAGES;
 use numbers::GuestPage;
 use numbers::PhysPage;
+use numbers::Region;
 use numbers::Side;
+use numbers::UNITS;
 use numbers::VmId;
 
 pub enum Mark {
@@ -22,15 +25,6 @@ pub struct Unit {
     pub count: u64,
     pub access: u64,
     pub mark: Mark,
-}
-
-// A region as a caller names it: the five fields that a unit must equal.
-pub struct Region {
-    pub vm: VmId,
-    pub guest: GuestPage,
-    pub page: PhysPage,
-    pub count: u64,
-    pub access: u64,
 }
 
 // ---- Marks and their numbers.
@@ -115,8 +109,8 @@ pub fn is_unit(unit: Unit, side: Side, region: Region) -> bool
         & (unit.access == region.access)
 }
 
-pub fn assignable(units: [Unit; 32], count: u64, side: Side, region: Region) -> bool
-    requires { ⌜ count ≤ 32 ⌝ }
+pub fn assignable(units: [Unit; UNITS], count: u64, side: Side, region: Region) -> bool
+    requires { ⌜ count ≤ UNITS ⌝ }
     ensures { λ r. ⌜ r ≡ assignable units count side region ⌝ }
 {
     let mut k = 0;

@@ -50,7 +50,7 @@ fn unit_counts_above_the_most_are_refused() {
     owned.machine.units = [UNITS_TOLD[0]; UNITS];
     owned.machine.unit_count = UNITS as u64;
     assert!(owned.shared().valid());
-    for count in [33, 1 << 32, u64::MAX] {
+    for count in [UNITS as u64 + 1, 1 << 32, u64::MAX] {
         owned.machine.unit_count = count;
         entries_refuse(&mut owned);
     }

@@ -70,7 +70,10 @@ fn parts_of_longer_slices_are_a_box() {
     cut(&mut lent.dma_cache);
     cut(&mut lent.memory);
     assert!(lent.valid());
-    assert_eq!(lent.operation(row([CPU_WRITE, 0, 18, 511, 2222])), Answer::default());
+    assert_eq!(
+        lent.operation(row([CPU_WRITE, 0, 18, PAGE_WORDS as u64 - 1, 2222])),
+        Answer::default()
+    );
     let mut expected = before;
     expected.memory[3 * PAGE_WORDS - 1] = 2222;
     assert!(owned == expected);

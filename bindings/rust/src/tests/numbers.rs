@@ -25,7 +25,7 @@ fn numbers_are_the_headers() {
 
 #[test]
 fn rows_are_filled_up() {
-    assert_eq!(row([]), [0; 8]);
+    assert_eq!(row([]), [0; ROW_NUMBERS]);
     assert_eq!(row([SHARE_PAGE, 1, 2, 3]), [5, 1, 2, 3, 0, 0, 0, 0]);
-    assert_eq!(row([9; 8]), [9; 8]);
+    assert_eq!(row([9; ROW_NUMBERS]), [9; ROW_NUMBERS]);
 }

@@ -9,30 +9,6 @@ use Rattle.model.specs.MemoryLaws.{part-zeroed}
 use Rattle.access.proofs.clear_page.Statement.{statement}
 use Rattle.access.proofs.clear_page.Tie as tie
 
-mul-start : tie.Need-mul-start
-mul-start c = search needs
-
-add-clear-words : tie.Need-add-clear-words
-add-clear-words c = search needs
-
-mul-clear-words : tie.Need-mul-clear-words
-mul-clear-words c = search needs
-
-sub-clear-words : tie.Need-sub-clear-words
-sub-clear-words c = search needs
-
-part-clear-words-start : tie.Need-part-clear-words-start
-part-clear-words-start c = search needs
-
-part-clear-words-end : tie.Need-part-clear-words-end
-part-clear-words-end c = search needs
-
-clear-words-requires : tie.Need-clear-words-requires
-clear-words-requires c κs = search needs
-
-same-length : tie.Need-same-length
-same-length c = search needs
-
 returns : tie.Need-returns
 unfolding clearPage
 returns c =
@@ -44,12 +20,12 @@ pub clear-page-spec : {M : Type 1} → statement M
 clear-page-spec =
     tie.close
     (tie.spec
-    mul-start
-    add-clear-words
-    mul-clear-words
-    sub-clear-words
-    part-clear-words-start
-    part-clear-words-end
-    clear-words-requires
-    same-length
+    (λ c. search needs)
+    (λ c. search needs)
+    (λ c. search needs)
+    (λ c. search needs)
+    (λ c. search needs)
+    (λ c. search needs)
+    (λ c κs. search needs)
+    (λ c. search needs)
     returns)

@@ -24,9 +24,6 @@ returns : tie.Need-returns
 unfolding accessAnswer
 returns c = rw (c .if1 .taken) (refl, refl)
 
-vm-on-requires : tie.Need-vm-on-requires
-vm-on-requires c κs = search needs
-
 returns-2 : tie.Need-returns-2
 unfolding accessAnswer
 returns-2 c = rw (c .before .before .if1 .left, ← c .before .vm-on .ensures, c .if2 .taken) (refl, refl)
@@ -41,38 +38,37 @@ returns-3 : tie.Need-returns-3
 unfolding accessAnswer
 returns-3 c = rw (c .before .before .before .before .if1 .left, ← c .before .before .before .vm-on .ensures, c .before .before .if2 .left, ← c .before .translate .ensures, c .if3 .taken) (refl, refl)
 
-allows-requires : tie.Need-allows-requires
-allows-requires c κs = search needs
-
 returns-4 : tie.Need-returns-4
 unfolding accessAnswer
-returns-4 c = rw (c .before .before .before .before .before .before .if1 .left, ← c .before .before .before .before .before .vm-on .ensures, c .before .before .before .before .if2 .left, ← c .before .before .before .translate .ensures, ne-eqb _ _ (c .before .before .if3 .left), ← c .before .allows .ensures, c .if4 .taken) (refl, refl)
-
-page-of-requires : tie.Need-page-of-requires
-page-of-requires c κs = search needs
-
-mul-t22 : tie.Need-mul-t22
-mul-t22 c = search needs
+returns-4 c =
+    let c1 = c .before in
+    let c3 = c1 .before .before in
+    rw (c3 .before .before .before .if1 .left, ← c3 .before .before .vm-on .ensures, c3 .before .if2 .left, ← c3 .translate .ensures, ne-eqb _ _ (c1 .before .if3 .left), ← c1 .allows .ensures, c .if4 .taken) (refl, refl)
 
 add-t23 : tie.Need-add-t23
 add-t23 c = omega (arith, ranged (c .before .before .before .before .before .before .before .before))
 
 returns-5 : tie.Need-returns-5
 unfolding accessAnswer
-returns-5 c = rw (c .before .before .before .before .before .before .before .before .if1 .left, ← c .before .before .before .before .before .before .before .vm-on .ensures, c .before .before .before .before .before .before .if2 .left, ← c .before .before .before .before .before .translate .ensures, ne-eqb _ _ (c .before .before .before .before .if3 .left), ← c .before .before .before .allows .ensures, c .before .before .if4 .left, ← c .before .page-of .ensures) (refl, refl)
+returns-5 c =
+    let c1 = c .before in
+    let c2 = c1 .before in
+    let c3 = c2 .before in
+    let c5 = c3 .before .before in
+    rw (c5 .before .before .before .if1 .left, ← c5 .before .before .vm-on .ensures, c5 .before .if2 .left, ← c5 .translate .ensures, ne-eqb _ _ (c3 .before .if3 .left), ← c3 .allows .ensures, c2 .if4 .left, ← c1 .page-of .ensures) (refl, refl)
 
 pub reach-spec : {M : Type 1} → statement M
 reach-spec =
     tie.close
     (tie.spec
     returns
-    vm-on-requires
+    (λ c κs. search needs)
     returns-2
     translate-requires
     returns-3
-    allows-requires
+    (λ c κs. search needs)
     returns-4
-    page-of-requires
-    mul-t22
+    (λ c κs. search needs)
+    (λ c. search needs)
     add-t23
     returns-5)

@@ -5,21 +5,6 @@ use Rattle.model.specs.Effect.{loaded, wordIn}
 use Rattle.access.proofs.read_word.Statement.{statement}
 use Rattle.access.proofs.read_word.Tie as tie
 
-reach-requires : tie.Need-reach-requires
-reach-requires c κs = search needs
-
-enum-known-reached : tie.Need-enum-known-reached
-enum-known-reached c = search needs
-
-enum-known-reached-2 : tie.Need-enum-known-reached-2
-enum-known-reached-2 c = search needs
-
-mul-t14 : tie.Need-mul-t14
-mul-t14 c = search needs
-
-shared-slice-read-t16 : tie.Need-shared-slice-read-t16
-shared-slice-read-t16 c = search needs
-
 returns : tie.Need-returns
 unfolding loaded wordIn
 returns c =
@@ -44,11 +29,11 @@ pub read-word-spec : {M : Type 1} → statement M
 read-word-spec =
     tie.close
     (tie.spec
-    reach-requires
-    enum-known-reached
-    enum-known-reached-2
-    mul-t14
-    shared-slice-read-t16
+    (λ c κs. search needs)
+    (λ c. search needs)
+    (λ c. search needs)
+    (λ c. search needs)
+    (λ c. search needs)
     returns
     returns-2
     returns-3)

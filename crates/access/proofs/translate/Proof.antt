@@ -4,18 +4,6 @@ use Rattle.model.specs.Access.{translate}
 use Rattle.access.proofs.translate.Statement.{statement}
 use Rattle.access.proofs.translate.Tie as tie
 
-slot-key-requires : tie.Need-slot-key-requires
-slot-key-requires c κs = search needs
-
-lookup-requires : tie.Need-lookup-requires
-lookup-requires c κs = search needs
-
-key-requires : tie.Need-key-requires
-key-requires c κs = search needs
-
-lookup-requires-2 : tie.Need-lookup-requires-2
-lookup-requires-2 c κs = search needs
-
 returns : tie.Need-returns
 unfolding translate
 returns c = rw (← c .before .before .before .before .slot-key .ensures, ← c .before .before .before .lookup .ensures, eq-eqb _ _ (c .before .before .if1 .taken), ← c .before .key .ensures) (c .lookup2 .ensures)
@@ -27,4 +15,4 @@ returns-2 c = rw (← c .before .before .slot-key .ensures, ← c .before .looku
 pub translate-spec : {M : Type 1} → statement M
 translate-spec =
     tie.close
-    (tie.spec slot-key-requires lookup-requires key-requires lookup-requires-2 returns returns-2)
+    (tie.spec (λ c κs. search needs) (λ c κs. search needs) (λ c κs. search needs) (λ c κs. search needs) returns returns-2)

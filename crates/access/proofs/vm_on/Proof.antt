@@ -8,12 +8,6 @@ use Rattle.model.specs.MemoryLaws.{getD-there}
 use Rattle.access.proofs.vm_on.Statement.{statement}
 use Rattle.access.proofs.vm_on.Tie as tie
 
-mul-result : tie.Need-mul-result
-mul-result c = search needs
-
-array-read-result : tie.Need-array-read-result
-array-read-result c = search needs
-
 returns : tie.Need-returns
 returns c =
     let h : c .before .args .port < length (c .before .args .t1) = search needs in
@@ -25,4 +19,4 @@ returns-2 c =
     sym (List·getD-eq-default (c .before .args .t1) IDLE h)
 
 pub vm-on-spec : {M : Type 1} → statement M
-vm-on-spec = tie.close (tie.spec mul-result array-read-result returns returns-2)
+vm-on-spec = tie.close (tie.spec (λ c. search needs) (λ c. search needs) returns returns-2)

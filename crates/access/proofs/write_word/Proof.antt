@@ -6,27 +6,9 @@ use Rattle.model.specs.Effect.{apply, stored, clearedPages}
 use Rattle.access.proofs.write_word.Statement.{statement}
 use Rattle.access.proofs.write_word.Tie as tie
 
-reach-requires : tie.Need-reach-requires
-reach-requires c κs = search needs
-
-enum-known-reached : tie.Need-enum-known-reached
-enum-known-reached c = search needs
-
-enum-known-reached-2 : tie.Need-enum-known-reached-2
-enum-known-reached-2 c = search needs
-
-mul-memory : tie.Need-mul-memory
-mul-memory c = search needs
-
-slice-write-memory : tie.Need-slice-write-memory
-slice-write-memory c = search needs
-
 returns : tie.Need-returns
 unfolding apply clearedPages
 returns c = rw (← c .before .before .before .reach .ensures .0, c .before .reached .given .1) (refl, refl)
-
-same-length : tie.Need-same-length
-same-length c = search needs
 
 returns-2 : tie.Need-returns-2
 unfolding apply stored
@@ -48,12 +30,12 @@ pub write-word-spec : {M : Type 1} → statement M
 write-word-spec =
     tie.close
     (tie.spec
-    reach-requires
-    enum-known-reached
-    enum-known-reached-2
-    mul-memory
-    slice-write-memory
+    (λ c κs. search needs)
+    (λ c. search needs)
+    (λ c. search needs)
+    (λ c. search needs)
+    (λ c. search needs)
     returns
-    same-length
+    (λ c. search needs)
     returns-2
     returns-3)

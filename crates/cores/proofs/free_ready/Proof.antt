@@ -4,11 +4,8 @@ use Rattle.cores.specs.Given.{FREE-NUMBERS}
 use Rattle.cores.proofs.free_ready.Statement.{statement}
 use Rattle.cores.proofs.free_ready.Tie as tie
 
-ready-requires : tie.Need-ready-requires
-ready-requires c κs = search needs
-
 returns : tie.Need-returns
 returns c = decides-and (c .ready .ensures) (decides-equal _ FREE-NUMBERS)
 
 pub free-ready-spec : {M : Type 1} → statement M
-free-ready-spec = tie.close (tie.spec ready-requires returns)
+free-ready-spec = tie.close (tie.spec (λ c κs. search needs) returns)

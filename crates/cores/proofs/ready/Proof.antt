@@ -3,14 +3,8 @@ use Rattle.numbers.specs.DecidesLaws.{decides-and}
 use Rattle.cores.proofs.ready.Statement.{statement}
 use Rattle.cores.proofs.ready.Tie as tie
 
-whole-requires : tie.Need-whole-requires
-whole-requires c κs = search needs
-
-is-header-requires : tie.Need-is-header-requires
-is-header-requires c κs = search needs
-
 returns : tie.Need-returns
 returns c = decides-and (c .before .whole .ensures) (c .is-header .ensures)
 
 pub ready-spec : {M : Type 1} → statement M
-ready-spec = tie.close (tie.spec whole-requires is-header-requires returns)
+ready-spec = tie.close (tie.spec (λ c κs. search needs) (λ c κs. search needs) returns)

@@ -4,11 +4,8 @@ use Rattle.numbers.specs.Limits.{ROW-NUMBERS, ANSWER-NUMBERS}
 use Rattle.cores.proofs.row_ready.Statement.{statement}
 use Rattle.cores.proofs.row_ready.Tie as tie
 
-ready-requires : tie.Need-ready-requires
-ready-requires c κs = search needs
-
 returns : tie.Need-returns
 returns c = decides-and (decides-and (c .ready .ensures) (decides-equal _ ROW-NUMBERS)) (decides-equal _ ANSWER-NUMBERS)
 
 pub row-ready-spec : {M : Type 1} → statement M
-row-ready-spec = tie.close (tie.spec ready-requires returns)
+row-ready-spec = tie.close (tie.spec (λ c κs. search needs) returns)

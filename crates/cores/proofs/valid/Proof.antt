@@ -5,9 +5,6 @@ use Rattle.cores.specs.CoreLaws.{valid-core}
 use Rattle.cores.proofs.valid.Statement.{statement}
 use Rattle.cores.proofs.valid.Tie as tie
 
-ready-requires : tie.Need-ready-requires
-ready-requires c κs = search needs
-
 returns : tie.Need-returns
 returns c = says-no (λ p. failed (c .before .ready .ensures) (c .if1 .taken) (p .0, p .1 .header))
 
@@ -20,20 +17,19 @@ slice-aggregate-valid c = sym (c .before .before .before .before .before .before
 slice-aggregate-valid-2 : tie.Need-slice-aggregate-valid-2
 slice-aggregate-valid-2 c = sym (c .before .before .before .before .before .before .before .before .before .before .before .before .before .good .1 .1 .1 .1 .1 .1 .1 .1 .1 .1 .1 .0 .1 .0 .1)
 
-valid-requires : tie.Need-valid-requires
-valid-requires c κs = search needs
-
 returns-2 : tie.Need-returns-2
-returns-2 c = valid-core (passed (c .before .before .before .before .before .ready .ensures) (c .before .before .before .before .if1 .left)) (c .before .before .before .machine-in .ensures) (c .valid .ensures)
+returns-2 c =
+    let c3 = c .before .before .before in
+    valid-core (passed (c3 .before .before .ready .ensures) (c3 .before .if1 .left)) (c3 .machine-in .ensures) (c .valid .ensures)
 
 pub valid-spec : {M : Type 1} → statement M
 valid-spec =
     tie.close
     (tie.spec
-    ready-requires
+    (λ c κs. search needs)
     returns
     machine-in-requires
     slice-aggregate-valid
     slice-aggregate-valid-2
-    valid-requires
+    (λ c κs. search needs)
     returns-2)

@@ -7,12 +7,6 @@ use Rattle.header.specs.PieceLaws.{three-writes}
 use Rattle.header.proofs.put_changed.Statement.{statement}
 use Rattle.header.proofs.put_changed.Tie as tie
 
-slice-aggregate-put-numbers : tie.Need-slice-aggregate-put-numbers
-slice-aggregate-put-numbers c = search needs
-
-put-numbers-requires : tie.Need-put-numbers-requires
-put-numbers-requires c κs = search needs
-
 slice-aggregate-put-numbers-2 : tie.Need-slice-aggregate-put-numbers-2
 slice-aggregate-put-numbers-2 c = search needs
 
@@ -25,24 +19,24 @@ slice-aggregate-put-numbers-3 c = search needs
 put-numbers-requires-3 : tie.Need-put-numbers-requires-3
 put-numbers-requires-3 c κs = omega (arith, slice-aggregate-put-numbers-3 c)
 
-same-length : tie.Need-same-length
-same-length c = search needs
-
 returns : tie.Need-returns
 returns c =
-    let s = c .before .before .before .before .before .before .before .before .before .before .before .before .before .before .before .before .before .before in
-    let l = slice-aggregate-put-numbers-2 (c .before .before .before .before .before .before .before .before) in
-    c .before .before .put-numbers3 .ensures ∙ rw (c .before .before .before .before .before .before .before .put-numbers2 .ensures, c .before .before .before .before .before .before .before .before .before .before .before .before .put-numbers .ensures) (three-writes (s .args .numbers .now) (tablesOf (s .args .m) [] [] [] [] [] [] [] []) (sym l))
+    let c2 = c .before .before in
+    let c7 = c2 .before .before .before .before .before in
+    let c12 = c7 .before .before .before .before .before in
+    let s = c12 .before .before .before .before .before .before in
+    let l = slice-aggregate-put-numbers-2 (c7 .before) in
+    c2 .put-numbers3 .ensures ∙ rw (c7 .put-numbers2 .ensures, c12 .put-numbers .ensures) (three-writes (s .args .numbers .now) (tablesOf (s .args .m) [] [] [] [] [] [] [] []) (sym l))
 
 pub put-changed-spec : {M : Type 1} → statement M
 put-changed-spec =
     tie.close
     (tie.spec
-    slice-aggregate-put-numbers
-    put-numbers-requires
+    (λ c. search needs)
+    (λ c κs. search needs)
     slice-aggregate-put-numbers-2
     put-numbers-requires-2
     slice-aggregate-put-numbers-3
     put-numbers-requires-3
-    same-length
+    (λ c. search needs)
     returns)

@@ -16,40 +16,12 @@ abbrev μ-loop : tie.MeasureT-loop
 loop-holds : tie.Need-loop-holds Inv-loop μ-loop
 loop-holds c = sweep-start _ _ _
 
-mul-unit : tie.Need-mul-unit Inv-loop μ-loop
-mul-unit c = search needs
-
-array-copy-out-unit : tie.Need-array-copy-out-unit Inv-loop μ-loop
-array-copy-out-unit c = search needs
-
-unit-numbers-requires : tie.Need-unit-numbers-requires Inv-loop μ-loop
-unit-numbers-requires c κs = search needs
-
-mul-put-numbers : tie.Need-mul-put-numbers Inv-loop μ-loop
-mul-put-numbers c = search needs
-
-add-put-numbers : tie.Need-add-put-numbers Inv-loop μ-loop
-add-put-numbers c = search needs
-
-slice-aggregate-put-numbers : tie.Need-slice-aggregate-put-numbers Inv-loop μ-loop
-slice-aggregate-put-numbers c = search needs
-
-put-numbers-requires : tie.Need-put-numbers-requires Inv-loop μ-loop
-put-numbers-requires c κs = search needs
-
-add-k : tie.Need-add-k Inv-loop μ-loop
-add-k c = search needs
-
-loop-less : tie.Need-loop-less Inv-loop μ-loop
-loop-less c = search needs
-
 loop-again : tie.Need-loop-again Inv-loop μ-loop
 loop-again c =
-    let e = rw (c .before .before .before .before .before .unit-numbers .ensures) at (c .before .before .put-numbers .ensures) in
-    sweep-next _ _ _ _ _ _ (c .before .before .before .before .before .before .before .before .loop .inv) (c .before .before .before .before .before .before .before .loop-test .taken) e (omega arith)
-
-same-length : tie.Need-same-length Inv-loop μ-loop
-same-length c = search needs
+    let c2 = c .before .before in
+    let c5 = c2 .before .before .before in
+    let e = rw (c5 .unit-numbers .ensures) at (c2 .put-numbers .ensures) in
+    sweep-next _ _ _ _ _ _ (c5 .before .before .before .loop .inv) (c5 .before .before .loop-test .taken) e (omega arith)
 
 returns : tie.Need-returns Inv-loop μ-loop
 returns c = sweep-end _ _ _ _ _ (c .before .loop .inv) (c .loop-test .left)
@@ -61,15 +33,15 @@ put-units-spec =
     Inv-loop
     μ-loop
     loop-holds
-    mul-unit
-    array-copy-out-unit
-    unit-numbers-requires
-    mul-put-numbers
-    add-put-numbers
-    slice-aggregate-put-numbers
-    put-numbers-requires
-    add-k
-    loop-less
+    (λ c. search needs)
+    (λ c. search needs)
+    (λ c κs. search needs)
+    (λ c. search needs)
+    (λ c. search needs)
+    (λ c. search needs)
+    (λ c κs. search needs)
+    (λ c. search needs)
+    (λ c. search needs)
     loop-again
-    same-length
+    (λ c. search needs)
     returns)

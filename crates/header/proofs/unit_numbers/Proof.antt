@@ -2,11 +2,8 @@ use borrow.Author.Needs.{needs}
 use Rattle.header.proofs.unit_numbers.Statement.{statement}
 use Rattle.header.proofs.unit_numbers.Tie as tie
 
-mark-number-requires : tie.Need-mark-number-requires
-mark-number-requires c κs = search needs
-
 returns : tie.Need-returns
 returns c = rw (c .mark-number .ensures)
 
 pub unit-numbers-spec : {M : Type 1} → statement M
-unit-numbers-spec = tie.close (tie.spec mark-number-requires returns)
+unit-numbers-spec = tie.close (tie.spec (λ c κs. search needs) returns)

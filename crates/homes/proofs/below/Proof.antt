@@ -5,26 +5,17 @@ use native.Mathlib.Omega.{arith}
 use borrow.Author.Needs.{needs}
 use lib.Pow.{pow-pos}
 use Rattle.pages.specs.BitLaws.{shl-one}
-use Rattle.homes.specs.Columns.{belowWord}
+use Rattle.pages.specs.Columns.{belowWord}
 use Rattle.homes.proofs.below.Statement.{statement}
 use Rattle.homes.proofs.below.Tie as tie
-
-mul-from : tie.Need-mul-from
-mul-from c = search needs
 
 returns : tie.Need-returns
 unfolding belowWord
 returns c = let e : min 64 (c .before .args .n - c .before .args .k * 64) ≡ 0 = omega arith in rw e
 
-sub-count : tie.Need-sub-count
-sub-count c = search needs
-
 returns-2 : tie.Need-returns-2
 unfolding belowWord
 returns-2 c = let e : min 64 (c .before .before .args .n - c .before .before .args .k * 64) ≡ 64 = omega arith in rw e
-
-shl-result : tie.Need-shl-result
-shl-result c = search needs
 
 sub-result : tie.Need-sub-result
 sub-result c =
@@ -42,4 +33,4 @@ returns-3 c =
 
 pub below-spec : {M : Type 1} → statement M
 below-spec =
-    tie.close (tie.spec mul-from returns sub-count returns-2 shl-result sub-result returns-3)
+    tie.close (tie.spec (λ c. search needs) returns (λ c. search needs) returns-2 (λ c. search needs) sub-result returns-3)

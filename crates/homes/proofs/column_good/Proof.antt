@@ -4,24 +4,6 @@ use Rattle.homes.specs.ColumnLaws.{column-decides}
 use Rattle.homes.proofs.column_good.Statement.{statement}
 use Rattle.homes.proofs.column_good.Tie as tie
 
-add-below : tie.Need-add-below
-add-below c = search needs
-
-below-requires : tie.Need-below-requires
-below-requires c κs = search needs
-
-below-requires-2 : tie.Need-below-requires-2
-below-requires-2 c κs = search needs
-
-column-word-requires : tie.Need-column-word-requires
-column-word-requires c κs = search needs
-
-below-requires-3 : tie.Need-below-requires-3
-below-requires-3 c κs = search needs
-
-homes-good-requires : tie.Need-homes-good-requires
-homes-good-requires c κs = search needs
-
 returns : tie.Need-returns
 returns c =
     let homes = rw (c .before .below3 .ensures) at (c .homes-good .ensures) in
@@ -32,10 +14,10 @@ pub column-good-spec : {M : Type 1} → statement M
 column-good-spec =
     tie.close
     (tie.spec
-    add-below
-    below-requires
-    below-requires-2
-    column-word-requires
-    below-requires-3
-    homes-good-requires
+    (λ c. search needs)
+    (λ c κs. search needs)
+    (λ c κs. search needs)
+    (λ c κs. search needs)
+    (λ c κs. search needs)
+    (λ c κs. search needs)
     returns)

@@ -50,12 +50,6 @@ next c =
       c .before .before .before .dma-row .ensures,
     ) at (c .vm-good .ensures)
 
-column-word-requires : tie.Need-column-word-requires Inv-loop μ-loop
-column-word-requires c κs = search needs
-
-column-word-requires-2 : tie.Need-column-word-requires-2 Inv-loop μ-loop
-column-word-requires-2 c κs = search needs
-
 returns : tie.Need-returns Inv-loop μ-loop
 returns c =
     says-no (λ g. refutes (two (c .before)) (ne-eqb _ 0 (c .if1 .taken)) (two-apart _ _ _ (fit (c .before .before .before)) _ g))
@@ -65,46 +59,24 @@ loop-holds c =
     rw (c .before .before .column-word .ensures, c .before .column-word2 .ensures)
     (pass-start _ _ _ (fit (c .before .before .before)) (two (c .before) .sound (eq-eqb _ 0 (c .if1 .left))))
 
-cpu-row-requires : tie.Need-cpu-row-requires Inv-loop μ-loop
-cpu-row-requires c κs = search needs
-
-column-word-requires-3 : tie.Need-column-word-requires-3 Inv-loop μ-loop
-column-word-requires-3 c κs = search needs
-
-dma-row-requires : tie.Need-dma-row-requires Inv-loop μ-loop
-dma-row-requires c κs = search needs
-
-column-word-requires-4 : tie.Need-column-word-requires-4 Inv-loop μ-loop
-column-word-requires-4 c κs = search needs
-
-has-bit-requires : tie.Need-has-bit-requires Inv-loop μ-loop
-has-bit-requires c κs = search needs
-
-vm-good-requires : tie.Need-vm-good-requires Inv-loop μ-loop
-vm-good-requires c κs = search needs
-
 returns-2 : tie.Need-returns-2 Inv-loop μ-loop
 returns-2 c =
     let turn = c .before .before .before .before .before .before .before in
     says-no (λ g. failed (next (c .before)) (c .if2 .taken) (pass-good _ _ _ _ _ _ _ (turn .before .loop .inv) (turn .loop-test .taken) g))
 
-add-vm : tie.Need-add-vm Inv-loop μ-loop
-add-vm c = search needs
-
-loop-less : tie.Need-loop-less Inv-loop μ-loop
-loop-less c = search needs
-
 loop-again : tie.Need-loop-again Inv-loop μ-loop
 loop-again c =
-    let turn = c .before .before .before .before .before .before .before in
+    let c1 = c .before in
+    let c3 = c1 .before .before in
+    let turn = c3 .before .before .before .before in
     let known = turn .before .before .before .before .before in
     rw (
-      c .before .before .before .before .before .column-word3 .ensures,
-      c .before .before .before .before .before .before .cpu-row .ensures,
-      c .before .before .before .column-word4 .ensures,
-      c .before .before .before .before .dma-row .ensures,
+      c3 .before .before .column-word3 .ensures,
+      c3 .before .before .before .cpu-row .ensures,
+      c3 .column-word4 .ensures,
+      c3 .before .dma-row .ensures,
     )
-    (pass-next _ _ _ (fit known) _ _ _ (turn .before .loop .inv) (turn .loop-test .taken) (passed (next (c .before)) (c .if2 .left)))
+    (pass-next _ _ _ (fit known) _ _ _ (turn .before .loop .inv) (turn .loop-test .taken) (passed (next (c1)) (c .if2 .left)))
 
 returns-3 : tie.Need-returns-3 Inv-loop μ-loop
 returns-3 c = pass-end _ _ _ _ _ _ _ (c .before .loop .inv) (c .loop-test .left)
@@ -115,18 +87,18 @@ homes-good-spec =
     (tie.spec
     Inv-loop
     μ-loop
-    column-word-requires
-    column-word-requires-2
+    (λ c κs. search needs)
+    (λ c κs. search needs)
     returns
     loop-holds
-    cpu-row-requires
-    column-word-requires-3
-    dma-row-requires
-    column-word-requires-4
-    has-bit-requires
-    vm-good-requires
+    (λ c κs. search needs)
+    (λ c κs. search needs)
+    (λ c κs. search needs)
+    (λ c κs. search needs)
+    (λ c κs. search needs)
+    (λ c κs. search needs)
     returns-2
-    add-vm
-    loop-less
+    (λ c. search needs)
+    (λ c. search needs)
     loop-again
     returns-3)

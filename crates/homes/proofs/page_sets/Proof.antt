@@ -32,19 +32,10 @@ column c = c .column-good .ensures
 loop-holds : tie.Need-loop-holds Inv-loop μ-loop
 loop-holds c = (omega arith, λ i h. absurd (omega arith))
 
-column-good-requires : tie.Need-column-good-requires Inv-loop μ-loop
-column-good-requires c κs = search needs
-
 returns : tie.Need-returns Inv-loop μ-loop
 returns c =
     let known = c .before .before .before .before in
     says-no (λ g. failed (column (c .before)) (c .if1 .taken) (column-good _ _ _ _ _ (omega arith) g _ (omega arith) (fit known)))
-
-add-k : tie.Need-add-k Inv-loop μ-loop
-add-k c = search needs
-
-loop-less : tie.Need-loop-less Inv-loop μ-loop
-loop-less c = search needs
 
 loop-again : tie.Need-loop-again Inv-loop μ-loop
 loop-again c =
@@ -62,9 +53,9 @@ page-sets-spec =
     Inv-loop
     μ-loop
     loop-holds
-    column-good-requires
+    (λ c κs. search needs)
     returns
-    add-k
-    loop-less
+    (λ c. search needs)
+    (λ c. search needs)
     loop-again
     returns-2)

@@ -61,26 +61,17 @@ ground c =
     }
 
 -- ---- rule 1, with the lengths that the header's arrays have by type
-by-type : (s : tie.Start) → (length (s .args .m .units) ≡ UNITS) × (length (s .args .m .cpus) ≡ PORTS) × (length (s .args .m .devices) ≡ PORTS)
-by-type s = (sym (length-map (s .args .m .units) _) ∙ s .good .0 .1 .1 .1 .1 .1 .0 .1 .0 .1, search needs, search needs)
+by-type : (s : tie.Start) → (length (s .args .m .fixed .units) ≡ UNITS) × (length (s .args .m .registers .cpu .ports) ≡ PORTS) × (length (s .args .m .registers .dma .ports) ≡ PORTS)
+by-type s = (sym (length-map (s .args .m .fixed .units) _) ∙ s .good .0 .1 .1 .0 .1 .1 .1 .1 .1 .0 .1 .0 .1, search needs, search needs)
 
 lengths : (c : tie.Else1) → Lengths (tables (before1 c))
 lengths c = let (units, cpus, devices) = by-type (before1 c) in lengths-of _ (rule1 c) units cpus devices
 
-lengths-requires : tie.Need-lengths-requires
-lengths-requires c κs = search needs
-
 returns : tie.Need-returns
 returns c = says-no (λ v. failed (c .before .lengths .ensures) (c .if1 .taken) (sizes-of _ (v .tables .lengths)))
 
-setup-requires : tie.Need-setup-requires
-setup-requires c κs = search needs
-
 returns-2 : tie.Need-returns-2
 returns-2 c = says-no (λ v. failed (c .before .setup .ensures) (c .if2 .taken) (v .tables .setup))
-
-known-vms-requires : tie.Need-known-vms-requires
-known-vms-requires c κs = search needs
 
 returns-3 : tie.Need-returns-3
 returns-3 c = says-no (λ v. failed (c .before .known-vms .ensures) (c .if3 .taken) (v .tables .known))
@@ -93,9 +84,6 @@ page-sets-requires c κs =
 returns-4 : tie.Need-returns-4
 returns-4 c = says-no (λ v. failed (c .before .page-sets .ensures) (c .if4 .taken) (v .tables .pages))
 
-slice-aggregate-pairs : tie.Need-slice-aggregate-pairs
-slice-aggregate-pairs c = search needs
-
 pairs-requires : tie.Need-pairs-requires
 pairs-requires c κs =
     let d = before4 (c .before) in
@@ -103,9 +91,6 @@ pairs-requires c κs =
 
 returns-5 : tie.Need-returns-5
 returns-5 c = says-no (λ v. failed (c .before .before .pairs .ensures .exact) (c .if5 .taken) (v .tables .pairs))
-
-slice-aggregate-route : tie.Need-slice-aggregate-route
-slice-aggregate-route c = search needs
 
 route-requires : tie.Need-route-requires
 route-requires c κs =
@@ -115,9 +100,6 @@ route-requires c κs =
 
 returns-6 : tie.Need-returns-6
 returns-6 c = says-no (λ v. failed (c .before .route .ensures) (c .if6 .taken) (v .tables .cpu))
-
-slice-aggregate-route-2 : tie.Need-slice-aggregate-route-2
-slice-aggregate-route-2 c = search needs
 
 route-requires-2 : tie.Need-route-requires-2
 route-requires-2 c κs =
@@ -133,7 +115,8 @@ mul-result c = omega (arith, ground (c .before .before .before .before .before .
 
 returns-8 : tie.Need-returns-8
 returns-8 c =
-    let d = c .before .before .before .before .before .before .before .before in
+    let c4 = c .before .before .before .before in
+    let d = c4 .before .before .before .before in
     let f = before4 (before5 d) in
     decides-as
     (decides-equal _ _)
@@ -144,7 +127,7 @@ returns-8 c =
         known = rule3 f;
         pages = rule4 (before5 d);
         pairs = passed (d .before .before .pairs .ensures .exact) (d .if5 .left);
-        cpu = passed (c .before .before .before .before .before .route .ensures) (c .before .before .before .before .if6 .left);
+        cpu = passed (c4 .before .route .ensures) (c4 .if6 .left);
         dma = passed (c .before .route2 .ensures) (c .if7 .left);
       };
       memory = l;
@@ -155,21 +138,21 @@ pub valid-spec : {M : Type 1} → statement M
 valid-spec =
     tie.close
     (tie.spec
-    lengths-requires
+    (λ c κs. search needs)
     returns
-    setup-requires
+    (λ c κs. search needs)
     returns-2
-    known-vms-requires
+    (λ c κs. search needs)
     returns-3
     page-sets-requires
     returns-4
-    slice-aggregate-pairs
+    (λ c. search needs)
     pairs-requires
     returns-5
-    slice-aggregate-route
+    (λ c. search needs)
     route-requires
     returns-6
-    slice-aggregate-route-2
+    (λ c. search needs)
     route-requires-2
     returns-7
     mul-result

@@ -20,19 +20,16 @@ loop-holds : tie.Need-loop-holds Inv-loop μ-loop
 loop-holds c = (c .before .before .before .before .before .before .before .pre .3, λ k h. absurd (omega arith))
 
 class-agrees-requires : tie.Need-class-agrees-requires Inv-loop μ-loop
-class-agrees-requires c κs = (c .before .before .before .before .before .before .before .before .before .before .pre .0, c .before .before .before .before .before .before .before .before .before .before .pre .1, c .before .before .before .before .before .before .before .before .before .before .pre .2, c .before .before .loop .inv .0, c .before .loop-test .taken)
-
-same-length : tie.Need-same-length Inv-loop μ-loop
-same-length c = search needs
+class-agrees-requires c κs =
+    let c2 = c .before .before in
+    let c10 = c2 .before .before .before .before .before .before .before .before in
+    (c10 .pre .0, c10 .pre .1, c10 .pre .2, c2 .loop .inv .0, c .before .loop-test .taken)
 
 returns : tie.Need-returns Inv-loop μ-loop
-returns c = says-no (λ t. failed (c .before .before .before .class-agrees .ensures .answer) (c .if1 .taken) (agree-class _ _ (c .before .before .before .before .before .before .before .before .before .before .before .before .before .before .pre .4) (c .before .before .before .before .before .before .before .before .before .before .before .before .before .before .pre .5) t _))
-
-add-class : tie.Need-add-class Inv-loop μ-loop
-add-class c = search needs
-
-loop-less : tie.Need-loop-less Inv-loop μ-loop
-loop-less c = search needs
+returns c =
+    let c3 = c .before .before .before in
+    let c14 = c3 .before .before .before .before .before .before .before .before .before .before .before in
+    says-no (λ t. failed (c3 .class-agrees .ensures .answer) (c .if1 .taken) (agree-class _ _ (c14 .pre .4) (c14 .pre .5) t _))
 
 loop-again : tie.Need-loop-again Inv-loop μ-loop
 loop-again c =
@@ -40,11 +37,10 @@ loop-again c =
     let passed = not-false _ (c .if1 .left) in
     (t .blank passed, below-more _ _ (c .before .before .before .before .before .before .loop .inv .1) (t .answer .sound passed))
 
-same-length-2 : tie.Need-same-length-2 Inv-loop μ-loop
-same-length-2 c = search needs
-
 returns-2 : tie.Need-returns-2 Inv-loop μ-loop
-returns-2 c = says-yes (agree-classes _ _ (c .before .before .before .before .before .before .before .before .before .pre .4) (c .before .before .before .before .before .before .before .before .before .pre .5) (λ k h. c .before .loop .inv .1 k (omega (arith, c .loop-test .left))))
+returns-2 c =
+    let c9 = c .before .before .before .before .before .before .before .before .before in
+    says-yes (agree-classes _ _ (c9 .pre .4) (c9 .pre .5) (λ k h. c .before .loop .inv .1 k (omega (arith, c .loop-test .left))))
 
 pub agreed-spec : {M : Type 1} → statement M
 agreed-spec =
@@ -54,10 +50,10 @@ agreed-spec =
     μ-loop
     loop-holds
     class-agrees-requires
-    same-length
+    (λ c. search needs)
     returns
-    add-class
-    loop-less
+    (λ c. search needs)
+    (λ c. search needs)
     loop-again
-    same-length-2
+    (λ c. search needs)
     returns-2)

@@ -4,12 +4,9 @@ use Rattle.keys.specs.Keys.{classOf}
 use Rattle.keys.proofs.class_of.Statement.{statement}
 use Rattle.keys.proofs.class_of.Tie as tie
 
-address-of-requires : tie.Need-address-of-requires
-address-of-requires c κs = search needs
-
 returns : tie.Need-returns
 unfolding classOf
 returns c = search needs
 
 pub class-of-spec : {M : Type 1} → statement M
-class-of-spec = tie.close (tie.spec address-of-requires returns)
+class-of-spec = tie.close (tie.spec (λ c κs. search needs) returns)

@@ -13,63 +13,27 @@ Inv-loop words head next class place₀ at₀ place at = Standing words class at
 abbrev μ-loop : tie.MeasureT-loop
 μ-loop words head next class place₀ at₀ place at = at
 
-mul-wide : tie.Need-mul-wide Inv-loop μ-loop
-mul-wide c = search needs
-
-shared-slice-read-wide : tie.Need-shared-slice-read-wide Inv-loop μ-loop
-shared-slice-read-wide c = search needs
-
-wide-requires : tie.Need-wide-requires Inv-loop μ-loop
-wide-requires c κs = search needs
-
 loop-holds : tie.Need-loop-holds Inv-loop μ-loop
 loop-holds c =
-    let r = chain-of _ _ _ _ (c .before .before .before .before .before .before .pre .0) (c .before .before .before .before .before .before .pre .1) in
-    rw (c .wide .ensures) (walk-start _ _ _ _ r, clear-start _ _ _ _ _ r (c .before .before .before .before .before .before .pre .2))
-
-sub-spot : tie.Need-sub-spot Inv-loop μ-loop
-sub-spot c = search needs
-
-mul-low-of : tie.Need-mul-low-of Inv-loop μ-loop
-mul-low-of c = search needs
-
-shared-slice-read-low-of : tie.Need-shared-slice-read-low-of Inv-loop μ-loop
-shared-slice-read-low-of c = search needs
-
-low-of-requires : tie.Need-low-of-requires Inv-loop μ-loop
-low-of-requires c κs = search needs
-
-mul-place : tie.Need-mul-place Inv-loop μ-loop
-mul-place c = search needs
-
-slice-write-place : tie.Need-slice-write-place Inv-loop μ-loop
-slice-write-place c = search needs
-
-mul-wide-2 : tie.Need-mul-wide-2 Inv-loop μ-loop
-mul-wide-2 c = search needs
-
-shared-slice-read-wide-2 : tie.Need-shared-slice-read-wide-2 Inv-loop μ-loop
-shared-slice-read-wide-2 c = search needs
-
-wide-requires-2 : tie.Need-wide-requires-2 Inv-loop μ-loop
-wide-requires-2 c κs = search needs
+    let c6 = c .before .before .before .before .before .before in
+    let r = chain-of _ _ _ _ (c6 .pre .0) (c6 .pre .1) in
+    rw (c .wide .ensures) (walk-start _ _ _ _ r, clear-start _ _ _ _ _ r (c6 .pre .2))
 
 loop-less : tie.Need-loop-less Inv-loop μ-loop
 loop-less c =
-    let l = c .before .before .before .before .before .before .before .before .before .before .before .before .pre .0 .links in
-    let r = c .before .before .before .before .before .loop .inv in
-    let n = c .before .before .before .before .loop-test .taken in
+    let c4 = c .before .before .before .before in
+    let l = c4 .before .before .before .before .before .before .before .before .pre .0 .links in
+    let r = c4 .before .loop .inv in
+    let n = c4 .loop-test .taken in
     rw (c .wide2 .ensures) (walk-less _ _ _ _ l (r .0) n)
 
 loop-again : tie.Need-loop-again Inv-loop μ-loop
 loop-again c =
-    let l = c .before .before .before .before .before .before .before .before .before .before .before .before .pre .0 .links in
-    let r = c .before .before .before .before .before .loop .inv in
-    let n = c .before .before .before .before .loop-test .taken in
-    rw (c .wide2 .ensures, c .before .before .low-of .ensures .0) (walk-next _ _ _ _ l (r .0) n, clear-next _ _ _ _ _ l (r .0) n (r .1))
-
-same-length : tie.Need-same-length Inv-loop μ-loop
-same-length c = search needs
+    let c2 = c .before .before in
+    let l = c2 .before .before .before .before .before .before .before .before .before .before .pre .0 .links in
+    let r = c2 .before .before .before .loop .inv in
+    let n = c2 .before .before .loop-test .taken in
+    rw (c .wide2 .ensures, c2 .low-of .ensures .0) (walk-next _ _ _ _ l (r .0) n, clear-next _ _ _ _ _ l (r .0) n (r .1))
 
 returns : tie.Need-returns Inv-loop μ-loop
 returns c = clear-end _ _ _ (rw (c .loop-test .left) at (c .before .loop .inv .1))
@@ -80,20 +44,20 @@ clear-spec =
     (tie.spec
     Inv-loop
     μ-loop
-    mul-wide
-    shared-slice-read-wide
-    wide-requires
+    (λ c. search needs)
+    (λ c. search needs)
+    (λ c κs. search needs)
     loop-holds
-    sub-spot
-    mul-low-of
-    shared-slice-read-low-of
-    low-of-requires
-    mul-place
-    slice-write-place
-    mul-wide-2
-    shared-slice-read-wide-2
-    wide-requires-2
+    (λ c. search needs)
+    (λ c. search needs)
+    (λ c. search needs)
+    (λ c κs. search needs)
+    (λ c. search needs)
+    (λ c. search needs)
+    (λ c. search needs)
+    (λ c. search needs)
+    (λ c κs. search needs)
     loop-less
     loop-again
-    same-length
+    (λ c. search needs)
     returns)

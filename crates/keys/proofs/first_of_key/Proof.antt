@@ -5,28 +5,11 @@ use Rattle.keys.specs.KeysLaws.{new-found, new-none}
 use Rattle.keys.proofs.first_of_key.Statement.{statement}
 use Rattle.keys.proofs.first_of_key.Tie as tie
 
-mul-key-of : tie.Need-mul-key-of
-mul-key-of c = search needs
-
-shared-slice-read-key-of : tie.Need-shared-slice-read-key-of
-shared-slice-read-key-of c = search needs
-
-key-of-requires : tie.Need-key-of-requires
-key-of-requires c κs = search needs
-
-find-requires : tie.Need-find-requires
-find-requires c κs = search needs
-
-enum-known-there : tie.Need-enum-known-there
-enum-known-there c = search needs
-
-enum-told : tie.Need-enum-told
-enum-told c = search needs
-
 returns : tie.Need-returns
 returns c =
-    let e = rw (c .before .before .before .before .key-of .ensures) at (sym (c .before .before .before .find .ensures) ∙ c .before .there .given .1) in
-    rw (c .before .before .before .before .key-of .ensures) (new-found _ _ (c .before .before .before .before .before .before .before .pre) _ e)
+    let c3 = c .before .before .before in
+    let e = rw (c3 .before .key-of .ensures) at (sym (c3 .find .ensures) ∙ c .before .there .given .1) in
+    rw (c3 .before .key-of .ensures) (new-found _ _ (c3 .before .before .before .before .pre) _ e)
 
 returns-2 : tie.Need-returns-2
 returns-2 c = new-none _ _ (c .before .before .before .before .before .before .pre) (rw (c .before .before .before .key-of .ensures) at (sym (c .before .before .find .ensures) ∙ c .enum-told .given .1))
@@ -35,11 +18,11 @@ pub first-of-key-spec : {M : Type 1} → statement M
 first-of-key-spec =
     tie.close
     (tie.spec
-    mul-key-of
-    shared-slice-read-key-of
-    key-of-requires
-    find-requires
-    enum-known-there
-    enum-told
+    (λ c. search needs)
+    (λ c. search needs)
+    (λ c κs. search needs)
+    (λ c κs. search needs)
+    (λ c. search needs)
+    (λ c. search needs)
     returns
     returns-2)

@@ -10,23 +10,8 @@ use Rattle.keys.specs.PlaceLaws.{shown-none, shown-place, shown-test}
 use Rattle.keys.proofs.has_word.Statement.{statement}
 use Rattle.keys.proofs.has_word.Tie as tie
 
-low-of-requires : tie.Need-low-of-requires
-low-of-requires c κs = search needs
-
-mul-wide : tie.Need-mul-wide
-mul-wide c = search needs
-
-shared-slice-read-wide : tie.Need-shared-slice-read-wide
-shared-slice-read-wide c = search needs
-
-wide-requires : tie.Need-wide-requires
-wide-requires c κs = search needs
-
 returns : tie.Need-returns
 returns c = says-no (shown-none _ _ _ (rw (c .before .before .before .low-of .ensures .0) at (sym (c .before .wide .ensures) ∙ c .if1 .taken)))
-
-sub-spot : tie.Need-sub-spot
-sub-spot c = search needs
 
 there : (c : tie.Else1) → getD (c .before .before .before .before .before .before .args .place .now) (lowOf (c .before .before .before .before .before .before .args .word)) 0 ≡ c .before .wide .result
 there c = rw (c .before .before .before .low-of .ensures .0) at (sym (c .before .wide .ensures))
@@ -47,12 +32,12 @@ pub has-word-spec : {M : Type 1} → statement M
 has-word-spec =
     tie.close
     (tie.spec
-    low-of-requires
-    mul-wide
-    shared-slice-read-wide
-    wide-requires
+    (λ c κs. search needs)
+    (λ c. search needs)
+    (λ c. search needs)
+    (λ c κs. search needs)
     returns
-    sub-spot
+    (λ c. search needs)
     mul-result
     shared-slice-read-result
     returns-2)

@@ -20,28 +20,22 @@ loop-holds : tie.Need-loop-holds Inv-loop μ-loop
 loop-holds c = (c .before .before .before .before .before .before .before .pre .3, λ k h. absurd (omega arith))
 
 class-held-requires : tie.Need-class-held-requires Inv-loop μ-loop
-class-held-requires c κs = (c .before .before .before .before .before .before .before .before .before .before .pre .0, c .before .before .before .before .before .before .before .before .before .before .pre .1, c .before .before .before .before .before .before .before .before .before .before .pre .2, c .before .before .loop .inv .0, c .before .loop-test .taken)
-
-same-length : tie.Need-same-length Inv-loop μ-loop
-same-length c = search needs
+class-held-requires c κs =
+    let c2 = c .before .before in
+    let c10 = c2 .before .before .before .before .before .before .before .before in
+    (c10 .pre .0, c10 .pre .1, c10 .pre .2, c2 .loop .inv .0, c .before .loop-test .taken)
 
 returns : tie.Need-returns Inv-loop μ-loop
-returns c = says-no (λ t. failed (c .before .before .before .class-held .ensures .answer) (c .if1 .taken) (held-class _ _ (c .before .before .before .before .before .before .before .before .before .before .before .before .before .before .pre .4) (c .before .before .before .before .before .before .before .before .before .before .before .before .before .before .pre .5) t _))
-
-add-class : tie.Need-add-class Inv-loop μ-loop
-add-class c = search needs
-
-loop-less : tie.Need-loop-less Inv-loop μ-loop
-loop-less c = search needs
+returns c =
+    let c3 = c .before .before .before in
+    let c14 = c3 .before .before .before .before .before .before .before .before .before .before .before in
+    says-no (λ t. failed (c3 .class-held .ensures .answer) (c .if1 .taken) (held-class _ _ (c14 .pre .4) (c14 .pre .5) t _))
 
 loop-again : tie.Need-loop-again Inv-loop μ-loop
 loop-again c =
     let t = c .before .before .before .class-held .ensures in
     let passed = not-false _ (c .if1 .left) in
     (t .blank passed, below-more _ _ (c .before .before .before .before .before .before .loop .inv .1) (t .answer .sound passed))
-
-same-length-2 : tie.Need-same-length-2 Inv-loop μ-loop
-same-length-2 c = search needs
 
 returns-2 : tie.Need-returns-2 Inv-loop μ-loop
 returns-2 c = says-yes (held-classes _ _ (c .before .before .before .before .before .before .before .before .before .pre .4) (λ k h. c .before .loop .inv .1 k (omega (arith, c .loop-test .left))))
@@ -54,10 +48,10 @@ held-spec =
     μ-loop
     loop-holds
     class-held-requires
-    same-length
+    (λ c. search needs)
     returns
-    add-class
-    loop-less
+    (λ c. search needs)
+    (λ c. search needs)
     loop-again
-    same-length-2
+    (λ c. search needs)
     returns-2)

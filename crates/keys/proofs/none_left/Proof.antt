@@ -14,65 +14,35 @@ Inv-loop words head next class place at₀ at = Passing words class (λ i. getD 
 abbrev μ-loop : tie.MeasureT-loop
 μ-loop words head next class place at₀ at = at
 
-mul-wide : tie.Need-mul-wide Inv-loop μ-loop
-mul-wide c = search needs
-
-shared-slice-read-wide : tie.Need-shared-slice-read-wide Inv-loop μ-loop
-shared-slice-read-wide c = search needs
-
-wide-requires : tie.Need-wide-requires Inv-loop μ-loop
-wide-requires c κs = search needs
-
 loop-holds : tie.Need-loop-holds Inv-loop μ-loop
-loop-holds c = rw (c .wide .ensures) (pass-start _ _ _ _ _ (chain-of _ _ _ _ (c .before .before .before .before .before .before .pre .0) (c .before .before .before .before .before .before .pre .1)))
-
-sub-spot : tie.Need-sub-spot Inv-loop μ-loop
-sub-spot c = search needs
-
-mul-low-of : tie.Need-mul-low-of Inv-loop μ-loop
-mul-low-of c = search needs
-
-shared-slice-read-low-of : tie.Need-shared-slice-read-low-of Inv-loop μ-loop
-shared-slice-read-low-of c = search needs
-
-low-of-requires : tie.Need-low-of-requires Inv-loop μ-loop
-low-of-requires c κs = search needs
-
-mul-if1 : tie.Need-mul-if1 Inv-loop μ-loop
-mul-if1 c = search needs
-
-shared-slice-read-if1 : tie.Need-shared-slice-read-if1 Inv-loop μ-loop
-shared-slice-read-if1 c = search needs
+loop-holds c =
+    let c6 = c .before .before .before .before .before .before in
+    rw (c .wide .ensures) (pass-start _ _ _ _ _ (chain-of _ _ _ _ (c6 .pre .0) (c6 .pre .1)))
 
 returns : tie.Need-returns Inv-loop μ-loop
 returns c =
-    let l = c .before .before .before .before .before .before .before .before .before .before .before .before .pre .0 .links in
-    let r = c .before .before .before .before .before .loop .inv in
-    let n = c .before .before .before .before .loop-test .taken in
-    says-no (pass-fails _ _ _ _ (walk-on _ _ _ _ l (r .standing) n) (rw (c .before .before .low-of .ensures .0) at (c .if1 .taken)))
-
-mul-wide-2 : tie.Need-mul-wide-2 Inv-loop μ-loop
-mul-wide-2 c = search needs
-
-shared-slice-read-wide-2 : tie.Need-shared-slice-read-wide-2 Inv-loop μ-loop
-shared-slice-read-wide-2 c = search needs
-
-wide-requires-2 : tie.Need-wide-requires-2 Inv-loop μ-loop
-wide-requires-2 c κs = search needs
+    let c2 = c .before .before in
+    let l = c2 .before .before .before .before .before .before .before .before .before .before .pre .0 .links in
+    let r = c2 .before .before .before .loop .inv in
+    let n = c2 .before .before .loop-test .taken in
+    says-no (pass-fails _ _ _ _ (walk-on _ _ _ _ l (r .standing) n) (rw (c2 .low-of .ensures .0) at (c .if1 .taken)))
 
 loop-less : tie.Need-loop-less Inv-loop μ-loop
 loop-less c =
-    let l = c .before .before .before .before .before .before .before .before .before .before .before .before .before .before .pre .0 .links in
-    let r = c .before .before .before .before .before .before .before .loop .inv in
-    let n = c .before .before .before .before .before .before .loop-test .taken in
+    let c6 = c .before .before .before .before .before .before in
+    let l = c6 .before .before .before .before .before .before .before .before .pre .0 .links in
+    let r = c6 .before .loop .inv in
+    let n = c6 .loop-test .taken in
     rw (c .wide2 .ensures) (walk-less _ _ _ _ l (r .standing) n)
 
 loop-again : tie.Need-loop-again Inv-loop μ-loop
 loop-again c =
-    let l = c .before .before .before .before .before .before .before .before .before .before .before .before .before .before .pre .0 .links in
-    let r = c .before .before .before .before .before .before .before .loop .inv in
-    let n = c .before .before .before .before .before .before .loop-test .taken in
-    rw (c .wide2 .ensures) (pass-next _ _ _ _ _ l r n (rw (c .before .before .before .before .low-of .ensures .0) at (c .before .before .if1 .left)))
+    let c2 = c .before .before in
+    let c4 = c2 .before .before in
+    let l = c4 .before .before .before .before .before .before .before .before .before .before .pre .0 .links in
+    let r = c4 .before .before .before .loop .inv in
+    let n = c4 .before .before .loop-test .taken in
+    rw (c .wide2 .ensures) (pass-next _ _ _ _ _ l r n (rw (c4 .low-of .ensures .0) at (c2 .if1 .left)))
 
 returns-2 : tie.Need-returns-2 Inv-loop μ-loop
 returns-2 c = says-yes (pass-end _ _ _ (rw (c .loop-test .left) at (c .before .loop .inv)))
@@ -83,20 +53,20 @@ none-left-spec =
     (tie.spec
     Inv-loop
     μ-loop
-    mul-wide
-    shared-slice-read-wide
-    wide-requires
+    (λ c. search needs)
+    (λ c. search needs)
+    (λ c κs. search needs)
     loop-holds
-    sub-spot
-    mul-low-of
-    shared-slice-read-low-of
-    low-of-requires
-    mul-if1
-    shared-slice-read-if1
+    (λ c. search needs)
+    (λ c. search needs)
+    (λ c. search needs)
+    (λ c κs. search needs)
+    (λ c. search needs)
+    (λ c. search needs)
     returns
-    mul-wide-2
-    shared-slice-read-wide-2
-    wide-requires-2
+    (λ c. search needs)
+    (λ c. search needs)
+    (λ c κs. search needs)
     loop-less
     loop-again
     returns-2)

@@ -19,17 +19,8 @@ abbrev μ-loop : tie.MeasureT-loop
 loop-holds : tie.Need-loop-holds Inv-loop μ-loop
 loop-holds c = (omega arith, λ j h. absurd (omega arith))
 
-first-of-key-requires : tie.Need-first-of-key-requires Inv-loop μ-loop
-first-of-key-requires c κs = search needs
-
 returns : tie.Need-returns Inv-loop μ-loop
 returns c = says-no (λ d. failed (c .before .first-of-key .ensures) (c .if1 .taken) (once-new _ d _ (c .before .before .loop-test .taken)))
-
-add-i : tie.Need-add-i Inv-loop μ-loop
-add-i c = search needs
-
-loop-less : tie.Need-loop-less Inv-loop μ-loop
-loop-less c = search needs
 
 loop-again : tie.Need-loop-again Inv-loop μ-loop
 loop-again c = (omega arith, below-more _ _ (c .before .before .before .loop .inv .1) (passed (c .before .first-of-key .ensures) (c .if1 .left)))
@@ -44,9 +35,9 @@ once-spec =
     Inv-loop
     μ-loop
     loop-holds
-    first-of-key-requires
+    (λ c κs. search needs)
     returns
-    add-i
-    loop-less
+    (λ c. search needs)
+    (λ c. search needs)
     loop-again
     returns-2)

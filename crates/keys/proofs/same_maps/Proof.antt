@@ -9,59 +9,37 @@ use Rattle.keys.specs.PlaceLaws.{blank-start}
 use Rattle.keys.proofs.same_maps.Statement.{statement}
 use Rattle.keys.proofs.same_maps.Tie as tie
 
-slice-aggregate-chain : tie.Need-slice-aggregate-chain
-slice-aggregate-chain c = search needs
-
-slice-aggregate-chain-2 : tie.Need-slice-aggregate-chain-2
-slice-aggregate-chain-2 c = search needs
-
 chain-requires : tie.Need-chain-requires
-chain-requires c κs = (refl, length-replicate {A = ℕ} ENTRIES 0 ∙ sym (c .before .before .before .before .pre .0), omega (arith, c .before .before .before .before .pre .0))
-
-slice-aggregate-chain-3 : tie.Need-slice-aggregate-chain-3
-slice-aggregate-chain-3 c = search needs
-
-slice-aggregate-chain-4 : tie.Need-slice-aggregate-chain-4
-slice-aggregate-chain-4 c = search needs
+chain-requires c κs =
+    let c4 = c .before .before .before .before in
+    (refl, length-replicate {A = ℕ} ENTRIES 0 ∙ sym (c4 .pre .0), omega (arith, c4 .pre .0))
 
 chain-requires-2 : tie.Need-chain-requires-2
-chain-requires-2 c κs = (refl, length-replicate {A = ℕ} ENTRIES 0 ∙ sym (c .before .before .before .before .before .before .before .before .before .pre .1), omega (arith, c .before .before .before .before .before .before .before .before .before .pre .1))
-
-slice-aggregate-agreed : tie.Need-slice-aggregate-agreed
-slice-aggregate-agreed c = search needs
-
-slice-aggregate-agreed-2 : tie.Need-slice-aggregate-agreed-2
-slice-aggregate-agreed-2 c = search needs
-
-slice-aggregate-agreed-3 : tie.Need-slice-aggregate-agreed-3
-slice-aggregate-agreed-3 c = search needs
-
-slice-aggregate-agreed-4 : tie.Need-slice-aggregate-agreed-4
-slice-aggregate-agreed-4 c = search needs
-
-slice-aggregate-agreed-5 : tie.Need-slice-aggregate-agreed-5
-slice-aggregate-agreed-5 c = search needs
+chain-requires-2 c κs =
+    let c9 = c .before .before .before .before .before .before .before .before .before in
+    (refl, length-replicate {A = ℕ} ENTRIES 0 ∙ sym (c9 .pre .1), omega (arith, c9 .pre .1))
 
 agreed-requires : tie.Need-agreed-requires
-agreed-requires c κs = (c .before .before .before .before .before .before .before .before .before .before .before .before .chain .ensures, c .before .before .before .before .before .before .before .chain2 .ensures, search needs, blank-start _ refl, c .before .before .before .before .before .before .before .before .before .before .before .before .before .before .before .before .before .pre .2, c .before .before .before .before .before .before .before .before .before .before .before .before .before .before .before .before .before .pre .3)
-
-returns : tie.Need-returns
-returns c = search needs
+agreed-requires c κs =
+    let c7 = c .before .before .before .before .before .before .before in
+    let c12 = c7 .before .before .before .before .before in
+    let c17 = c12 .before .before .before .before .before in
+    (c12 .chain .ensures, c7 .chain2 .ensures, search needs, blank-start _ refl, c17 .pre .2, c17 .pre .3)
 
 pub same-maps-spec : {M : Type 1} → statement M
 same-maps-spec =
     tie.close
     (tie.spec
-    slice-aggregate-chain
-    slice-aggregate-chain-2
+    (λ c. search needs)
+    (λ c. search needs)
     chain-requires
-    slice-aggregate-chain-3
-    slice-aggregate-chain-4
+    (λ c. search needs)
+    (λ c. search needs)
     chain-requires-2
-    slice-aggregate-agreed
-    slice-aggregate-agreed-2
-    slice-aggregate-agreed-3
-    slice-aggregate-agreed-4
-    slice-aggregate-agreed-5
+    (λ c. search needs)
+    (λ c. search needs)
+    (λ c. search needs)
+    (λ c. search needs)
+    (λ c. search needs)
     agreed-requires
-    returns)
+    (λ c. search needs))

@@ -10,70 +10,49 @@ use Rattle.keys.specs.PlaceLaws.{blank-start}
 use Rattle.keys.proofs.slots_held.Statement.{statement}
 use Rattle.keys.proofs.slots_held.Tie as tie
 
-once-requires : tie.Need-once-requires
-once-requires c κs = search needs
-
 returns : tie.Need-returns
 returns c = says-no (λ a. failed (c .before .once .ensures) (c .if1 .taken) (a .once))
 
-slice-aggregate-chain : tie.Need-slice-aggregate-chain
-slice-aggregate-chain c = search needs
-
-slice-aggregate-chain-2 : tie.Need-slice-aggregate-chain-2
-slice-aggregate-chain-2 c = search needs
-
 chain-requires : tie.Need-chain-requires
-chain-requires c κs = (refl, length-replicate {A = ℕ} ENTRIES 0 ∙ sym (c .before .before .before .before .before .before .pre .0), omega (arith, c .before .before .before .before .before .before .pre .0))
-
-slice-aggregate-chain-3 : tie.Need-slice-aggregate-chain-3
-slice-aggregate-chain-3 c = search needs
-
-slice-aggregate-chain-4 : tie.Need-slice-aggregate-chain-4
-slice-aggregate-chain-4 c = search needs
+chain-requires c κs =
+    let c6 = c .before .before .before .before .before .before in
+    (refl, length-replicate {A = ℕ} ENTRIES 0 ∙ sym (c6 .pre .0), omega (arith, c6 .pre .0))
 
 chain-requires-2 : tie.Need-chain-requires-2
-chain-requires-2 c κs = (refl, length-replicate {A = ℕ} SLOTS 0 ∙ sym (c .before .before .before .before .before .before .before .before .before .before .before .pre .1), omega (arith, c .before .before .before .before .before .before .before .before .before .before .before .pre .1))
-
-slice-aggregate-held : tie.Need-slice-aggregate-held
-slice-aggregate-held c = search needs
-
-slice-aggregate-held-2 : tie.Need-slice-aggregate-held-2
-slice-aggregate-held-2 c = search needs
-
-slice-aggregate-held-3 : tie.Need-slice-aggregate-held-3
-slice-aggregate-held-3 c = search needs
-
-slice-aggregate-held-4 : tie.Need-slice-aggregate-held-4
-slice-aggregate-held-4 c = search needs
-
-slice-aggregate-held-5 : tie.Need-slice-aggregate-held-5
-slice-aggregate-held-5 c = search needs
+chain-requires-2 c κs =
+    let c11 = c .before .before .before .before .before .before .before .before .before .before .before in
+    (refl, length-replicate {A = ℕ} SLOTS 0 ∙ sym (c11 .pre .1), omega (arith, c11 .pre .1))
 
 held-requires : tie.Need-held-requires
-held-requires c κs = (c .before .before .before .before .before .before .before .chain2 .ensures, c .before .before .before .before .before .before .before .before .before .before .before .before .chain .ensures, search needs, blank-start _ refl, c .before .before .before .before .before .before .before .before .before .before .before .before .before .before .before .before .before .before .before .pre .2, c .before .before .before .before .before .before .before .before .before .before .before .before .before .before .before .before .before .before .before .pre .4)
+held-requires c κs =
+    let c7 = c .before .before .before .before .before .before .before in
+    let c12 = c7 .before .before .before .before .before in
+    let c19 = c12 .before .before .before .before .before .before .before in
+    (c7 .chain2 .ensures, c12 .chain .ensures, search needs, blank-start _ refl, c19 .pre .2, c19 .pre .4)
 
 returns-2 : tie.Need-returns-2
 returns-2 c =
+    let c17 = c .before .before .before .before .before .before .before .before .before .before .before .before .before .before .before .before .before in
     decides-as (c .before .held .ensures)
-    (λ h. record { each = h .each; once = passed (c .before .before .before .before .before .before .before .before .before .before .before .before .before .before .before .before .before .before .once .ensures) (c .before .before .before .before .before .before .before .before .before .before .before .before .before .before .before .before .before .if1 .left) })
-    (λ a. record { once = c .before .before .before .before .before .before .before .before .before .before .before .before .before .before .before .before .before .before .before .before .before .pre .3; each = a .each })
+    (λ h. record { each = h .each; once = passed (c17 .before .once .ensures) (c17 .if1 .left) })
+    (λ a. record { once = c17 .before .before .before .before .pre .3; each = a .each })
 
 pub slots-held-spec : {M : Type 1} → statement M
 slots-held-spec =
     tie.close
     (tie.spec
-    once-requires
+    (λ c κs. search needs)
     returns
-    slice-aggregate-chain
-    slice-aggregate-chain-2
+    (λ c. search needs)
+    (λ c. search needs)
     chain-requires
-    slice-aggregate-chain-3
-    slice-aggregate-chain-4
+    (λ c. search needs)
+    (λ c. search needs)
     chain-requires-2
-    slice-aggregate-held
-    slice-aggregate-held-2
-    slice-aggregate-held-3
-    slice-aggregate-held-4
-    slice-aggregate-held-5
+    (λ c. search needs)
+    (λ c. search needs)
+    (λ c. search needs)
+    (λ c. search needs)
+    (λ c. search needs)
     held-requires
     returns-2)

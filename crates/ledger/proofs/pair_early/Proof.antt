@@ -5,9 +5,6 @@ use Rattle.model.specs.Views.{isVm}
 use Rattle.ledger.proofs.pair_early.Statement.{statement}
 use Rattle.ledger.proofs.pair_early.Tie as tie
 
-refuse-requires : tie.Need-refuse-requires
-refuse-requires c κs = search needs
-
 returns : tie.Need-returns
 returns c = rw (c .before .if1 .taken, c .refuse .ensures)
 
@@ -17,14 +14,8 @@ knows-requires c κs = ltb-true _ _ (both _ _ (hold _ _ (c .if1 .left) .0) .0)
 knows-requires-2 : tie.Need-knows-requires-2
 knows-requires-2 c κs = ltb-true _ _ (both (isVm (c .before .before .before .before .before .args .left .0)) _ (hold _ _ (c .before .if1 .left) .0) .1)
 
-refuse-requires-2 : tie.Need-refuse-requires-2
-refuse-requires-2 c κs = search needs
-
 returns-2 : tie.Need-returns-2
 returns-2 c = rw (c .before .before .before .before .if1 .left, ← c .before .before .before .knows .ensures, ← c .before .before .knows2 .ensures, c .before .if2 .taken, c .refuse2 .ensures)
-
-accept-requires : tie.Need-accept-requires
-accept-requires c κs = search needs
 
 returns-3 : tie.Need-returns-3
 returns-3 c = rw (c .before .before .before .before .if1 .left, ← c .before .before .before .knows .ensures, ← c .before .before .knows2 .ensures, c .before .if2 .left, c .accept .ensures)
@@ -33,11 +24,11 @@ pub pair-early-spec : {M : Type 1} → statement M
 pair-early-spec =
     tie.close
     (tie.spec
-    refuse-requires
+    (λ c κs. search needs)
     returns
     knows-requires
     knows-requires-2
-    refuse-requires-2
+    (λ c κs. search needs)
     returns-2
-    accept-requires
+    (λ c κs. search needs)
     returns-3)

@@ -4,9 +4,6 @@ use Rattle.model.specs.EarlyLaws.{both, hold}
 use Rattle.maps.proofs.map_early.Statement.{statement}
 use Rattle.maps.proofs.map_early.Tie as tie
 
-refuse-requires : tie.Need-refuse-requires
-refuse-requires c κs = search needs
-
 returns : tie.Need-returns
 returns c = rw (c .before .if1 .taken, c .refuse .ensures)
 
@@ -17,14 +14,8 @@ knows-requires c κs =
     let d = both _ _ (b .0) in
     ltb-true _ _ (both _ _ (d .0) .0)
 
-refuse-requires-2 : tie.Need-refuse-requires-2
-refuse-requires-2 c κs = search needs
-
 returns-2 : tie.Need-returns-2
 returns-2 c = rw (c .before .before .before .if1 .left, ← c .before .before .knows .ensures, c .before .if2 .taken, c .refuse2 .ensures)
-
-accept-requires : tie.Need-accept-requires
-accept-requires c κs = search needs
 
 returns-3 : tie.Need-returns-3
 returns-3 c = rw (c .before .before .before .if1 .left, ← c .before .before .knows .ensures, c .before .if2 .left, c .accept .ensures)
@@ -33,10 +24,10 @@ pub map-early-spec : {M : Type 1} → statement M
 map-early-spec =
     tie.close
     (tie.spec
-    refuse-requires
+    (λ c κs. search needs)
     returns
     knows-requires
-    refuse-requires-2
+    (λ c κs. search needs)
     returns-2
-    accept-requires
+    (λ c κs. search needs)
     returns-3)

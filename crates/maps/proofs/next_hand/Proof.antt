@@ -10,12 +10,6 @@ use Rattle.numbers.specs.Limits.{SLOTS}
 use Rattle.maps.proofs.next_hand.Statement.{statement}
 use Rattle.maps.proofs.next_hand.Tie as tie
 
-sub-if1 : tie.Need-sub-if1
-sub-if1 c = search needs
-
-add-result : tie.Need-add-result
-add-result c = search needs
-
 returns : tie.Need-returns
 returns c =
     let h : ltb (c .before .args .hand + 1) SLOTS ≡ true = lt-ltb (c .before .args .hand + 1) SLOTS (omega arith) in
@@ -27,4 +21,4 @@ returns-2 c =
     rw h
 
 pub next-hand-spec : {M : Type 1} → statement M
-next-hand-spec = tie.close (tie.spec sub-if1 add-result returns returns-2)
+next-hand-spec = tie.close (tie.spec (λ c. search needs) (λ c. search needs) returns returns-2)

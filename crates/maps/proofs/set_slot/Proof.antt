@@ -5,20 +5,8 @@ use lib.Seq.{set-out}
 use Rattle.maps.proofs.set_slot.Statement.{statement}
 use Rattle.maps.proofs.set_slot.Tie as tie
 
-mul-cache : tie.Need-mul-cache
-mul-cache c = search needs
-
-slice-write-cache : tie.Need-slice-write-cache
-slice-write-cache c = search needs
-
-same-length : tie.Need-same-length
-same-length c = search needs
-
-returns : tie.Need-returns
-returns c = search needs
-
 returns-2 : tie.Need-returns-2
 returns-2 c = sym (set-out _ _ _ (c .if1 .left))
 
 pub set-slot-spec : {M : Type 1} → statement M
-set-slot-spec = tie.close (tie.spec mul-cache slice-write-cache same-length returns returns-2)
+set-slot-spec = tie.close (tie.spec (λ c. search needs) (λ c. search needs) (λ c. search needs) (λ c. search needs) returns-2)

@@ -4,23 +4,14 @@ use Rattle.model.specs.EarlyLaws.{hold}
 use Rattle.maps.proofs.unmap_early.Statement.{statement}
 use Rattle.maps.proofs.unmap_early.Tie as tie
 
-refuse-requires : tie.Need-refuse-requires
-refuse-requires c κs = search needs
-
 returns : tie.Need-returns
 returns c = rw (c .before .if1 .taken, c .refuse .ensures)
 
 knows-requires : tie.Need-knows-requires
 knows-requires c κs = ltb-true _ _ (hold _ _ (c .if1 .left) .0)
 
-refuse-requires-2 : tie.Need-refuse-requires-2
-refuse-requires-2 c κs = search needs
-
 returns-2 : tie.Need-returns-2
 returns-2 c = rw (c .before .before .before .if1 .left, ← c .before .before .knows .ensures, c .before .if2 .taken, c .refuse2 .ensures)
-
-accept-requires : tie.Need-accept-requires
-accept-requires c κs = search needs
 
 returns-3 : tie.Need-returns-3
 returns-3 c = rw (c .before .before .before .if1 .left, ← c .before .before .knows .ensures, c .before .if2 .left, c .accept .ensures)
@@ -29,10 +20,10 @@ pub unmap-early-spec : {M : Type 1} → statement M
 unmap-early-spec =
     tie.close
     (tie.spec
-    refuse-requires
+    (λ c κs. search needs)
     returns
     knows-requires
-    refuse-requires-2
+    (λ c κs. search needs)
     returns-2
-    accept-requires
+    (λ c κs. search needs)
     returns-3)

@@ -2,15 +2,6 @@ use borrow.Author.Needs.{needs}
 use Rattle.numbers.proofs.answer_numbers.Statement.{statement}
 use Rattle.numbers.proofs.answer_numbers.Tie as tie
 
-enum-known-answer : tie.Need-enum-known-answer
-enum-known-answer c = search needs
-
-enum-known-answer-2 : tie.Need-enum-known-answer-2
-enum-known-answer-2 c = search needs
-
-refusal-number-requires : tie.Need-refusal-number-requires
-refusal-number-requires c κs = search needs
-
 returns : tie.Need-returns
 returns c = rw (c .before .answer .given .1)
 
@@ -19,4 +10,4 @@ returns-2 c = rw (c .before .before .answer2 .given .1, c .refusal-number .ensur
 
 pub answer-numbers-spec : {M : Type 1} → statement M
 answer-numbers-spec =
-    tie.close (tie.spec enum-known-answer enum-known-answer-2 refusal-number-requires returns returns-2)
+    tie.close (tie.spec (λ c. search needs) (λ c. search needs) (λ c κs. search needs) returns returns-2)

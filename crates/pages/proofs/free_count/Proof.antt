@@ -19,17 +19,8 @@ loop-holds : tie.Need-loop-holds Inv-loop μ-loop
 unfolding freeCount
 loop-holds c = search needs
 
-holds-requires : tie.Need-holds-requires Inv-loop μ-loop
-holds-requires c κs = search needs
-
 add-count : tie.Need-add-count Inv-loop μ-loop
 add-count c = omega (arith, freeCount-le (c .before .before .before .before .before .args .sets .now) (c .before .before .before .loop .page))
-
-add-page : tie.Need-add-page Inv-loop μ-loop
-add-page c = search needs
-
-loop-less : tie.Need-loop-less Inv-loop μ-loop
-loop-less c = search needs
 
 loop-again : tie.Need-loop-again Inv-loop μ-loop
 loop-again c =
@@ -53,9 +44,9 @@ free-count-spec =
     Inv-loop
     μ-loop
     loop-holds
-    holds-requires
+    (λ c κs. search needs)
     add-count
-    add-page
-    loop-less
+    (λ c. search needs)
+    (λ c. search needs)
     loop-again
     returns)

@@ -5,11 +5,8 @@ use lib.Bits.{and-mask}
 use Rattle.pages.proofs.has_bit.Statement.{statement}
 use Rattle.pages.proofs.has_bit.Tie as tie
 
-shr-result : tie.Need-shr-result
-shr-result c = search needs
-
 returns : tie.Need-returns
 returns c = rw (and-mask (c .args .w / 2 ^ (c .args .k)) 1)
 
 pub has-bit-spec : {M : Type 1} → statement M
-has-bit-spec = tie.close (tie.spec shr-result returns)
+has-bit-spec = tie.close (tie.spec (λ c. search needs) returns)

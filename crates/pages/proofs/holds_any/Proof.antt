@@ -7,7 +7,8 @@ use borrow.Author.Tests.{ne-eqb, eq-eqb}
 use lib.ListN.{getD}
 use Rattle.numbers.specs.Limits.{SET-WORDS}
 use Rattle.table.specs.Loops.{Trying, try-start, try-next, try-yes, try-no}
-use Rattle.pages.specs.WordLaws.{notEmpty, holds-any}
+use Rattle.pages.specs.Columns.{notEmpty}
+use Rattle.pages.specs.ColumnLaws.{holds-any}
 use Rattle.pages.proofs.holds_any.Statement.{statement}
 use Rattle.pages.proofs.holds_any.Tie as tie
 
@@ -25,20 +26,8 @@ fit c i = omega (arith, c .shared-slice-known .given i)
 begin : (c : tie.After-word-of Inv-loop μ-loop) → c .word-of .result ≡ c .before .before .args .row * SET-WORDS
 begin c = omega (arith, c .word-of .ensures)
 
-word-of-requires : tie.Need-word-of-requires Inv-loop μ-loop
-word-of-requires c κs = search needs
-
 loop-holds : tie.Need-loop-holds Inv-loop μ-loop
 loop-holds c = try-start _ _
-
-add-if1 : tie.Need-add-if1 Inv-loop μ-loop
-add-if1 c = search needs
-
-mul-if1 : tie.Need-mul-if1 Inv-loop μ-loop
-mul-if1 c = search needs
-
-shared-slice-read-if1 : tie.Need-shared-slice-read-if1 Inv-loop μ-loop
-shared-slice-read-if1 c = search needs
 
 returns : tie.Need-returns Inv-loop μ-loop
 returns c =
@@ -46,12 +35,6 @@ returns c =
     let word = rw (begin (turn .before .before)) at (c .if1 .taken) in
     try-yes _ _ _ (turn .before .loop .inv) (turn .loop-test .taken) (rw (ne-eqb _ 0 word))
     ∙ holds-any _ _ (fit (turn .before .before .before))
-
-add-k : tie.Need-add-k Inv-loop μ-loop
-add-k c = search needs
-
-loop-less : tie.Need-loop-less Inv-loop μ-loop
-loop-less c = search needs
 
 loop-again : tie.Need-loop-again Inv-loop μ-loop
 loop-again c =
@@ -68,13 +51,13 @@ holds-any-spec =
     (tie.spec
     Inv-loop
     μ-loop
-    word-of-requires
+    (λ c κs. search needs)
     loop-holds
-    add-if1
-    mul-if1
-    shared-slice-read-if1
+    (λ c. search needs)
+    (λ c. search needs)
+    (λ c. search needs)
     returns
-    add-k
-    loop-less
+    (λ c. search needs)
+    (λ c. search needs)
     loop-again
     returns-2)

@@ -18,22 +18,14 @@ abbrev μ-loop : tie.MeasureT-loop
 loop-holds : tie.Need-loop-holds Inv-loop μ-loop
 loop-holds c = rise-start _ _
 
-holds-requires : tie.Need-holds-requires Inv-loop μ-loop
-holds-requires c κs = search needs
-
 returns : tie.Need-returns Inv-loop μ-loop
 unfolding lowestFree
 returns c =
-    let n = c .before .before .before .before .before .args .pages in
-    let h : c .before .before .before .loop .lowest < n = omega arith in
-    let found = rise-found _ _ _ (c .before .before .before .loop .inv) h (sym (c .before .holds .ensures) ∙ c .if1 .taken) in
+    let c3 = c .before .before .before in
+    let n = c3 .before .before .args .pages in
+    let h : c3 .loop .lowest < n = omega arith in
+    let found = rise-found _ _ _ (c3 .loop .inv) h (sym (c .before .holds .ensures) ∙ c .if1 .taken) in
     lowest-page n _ h ∙ ap (lowestOf n) found
-
-add-lowest : tie.Need-add-lowest Inv-loop μ-loop
-add-lowest c = search needs
-
-loop-less : tie.Need-loop-less Inv-loop μ-loop
-loop-less c = search needs
 
 loop-again : tie.Need-loop-again Inv-loop μ-loop
 loop-again c = rise-next _ _ _ (c .before .before .before .loop .inv) (omega arith) (sym (c .before .holds .ensures) ∙ c .if1 .left)
@@ -52,9 +44,9 @@ lowest-free-spec =
     Inv-loop
     μ-loop
     loop-holds
-    holds-requires
+    (λ c κs. search needs)
     returns
-    add-lowest
-    loop-less
+    (λ c. search needs)
+    (λ c. search needs)
     loop-again
     returns-2)

@@ -4,11 +4,8 @@ use Rattle.pages.specs.BitLaws.{shl-one, or-bit}
 use Rattle.pages.proofs.with_bit.Statement.{statement}
 use Rattle.pages.proofs.with_bit.Tie as tie
 
-shl-result : tie.Need-shl-result
-shl-result c = search needs
-
 returns : tie.Need-returns
 returns c = rw (shl-one (c .args .k) (c .pre)) (or-bit (c .args .w) (c .args .k))
 
 pub with-bit-spec : {M : Type 1} → statement M
-with-bit-spec = tie.close (tie.spec shl-result returns)
+with-bit-spec = tie.close (tie.spec (λ c. search needs) returns)

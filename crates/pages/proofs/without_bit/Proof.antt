@@ -5,11 +5,8 @@ use Rattle.pages.specs.BitLaws.{shl-one, and-not-bit}
 use Rattle.pages.proofs.without_bit.Statement.{statement}
 use Rattle.pages.proofs.without_bit.Tie as tie
 
-shl-result : tie.Need-shl-result
-shl-result c = search needs
-
 returns : tie.Need-returns
 returns c = rw (shl-one (c .args .k) (c .pre)) (and-not-bit (c .args .w) (c .args .k) (omega arith) (c .pre))
 
 pub without-bit-spec : {M : Type 1} → statement M
-without-bit-spec = tie.close (tie.spec shl-result returns)
+without-bit-spec = tie.close (tie.spec (λ c. search needs) returns)

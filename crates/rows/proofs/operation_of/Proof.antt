@@ -3,12 +3,6 @@ use borrow.Author.Tests.{ne-eqb}
 use Rattle.rows.proofs.operation_of.Statement.{statement}
 use Rattle.rows.proofs.operation_of.Tie as tie
 
-target-of-requires : tie.Need-target-of-requires
-target-of-requires c κs = search needs
-
-target-of-requires-2 : tie.Need-target-of-requires-2
-target-of-requires-2 c κs = search needs
-
 returns : tie.Need-returns
 returns c = rw (c .match .keys1)
 
@@ -40,16 +34,16 @@ returns-10 : tie.Need-returns-10
 returns-10 c = rw (c .match .keys10)
 
 returns-11 : tie.Need-returns-11
-returns-11 c = rw (c .match .keys11)
+returns-11 c = rw (c .before .match .keys11, c .region-of .ensures)
 
 returns-12 : tie.Need-returns-12
-returns-12 c = rw (c .match .keys12)
+returns-12 c = rw (c .before .match .keys12, c .region-of2 .ensures)
 
 returns-13 : tie.Need-returns-13
-returns-13 c = rw (c .match .keys13)
+returns-13 c = rw (c .before .match .keys13, c .region-of3 .ensures)
 
 returns-14 : tie.Need-returns-14
-returns-14 c = rw (c .match .keys14)
+returns-14 c = rw (c .before .match .keys14, c .region-of4 .ensures)
 
 returns-15 : tie.Need-returns-15
 returns-15 c = rw (c .before .match .keys15, c .target-of .ensures)
@@ -94,8 +88,12 @@ pub operation-of-spec : {M : Type 1} → statement M
 operation-of-spec =
     tie.close
     (tie.spec
-    target-of-requires
-    target-of-requires-2
+    (λ c κs. search needs)
+    (λ c κs. search needs)
+    (λ c κs. search needs)
+    (λ c κs. search needs)
+    (λ c κs. search needs)
+    (λ c κs. search needs)
     returns
     returns-2
     returns-3

@@ -2,42 +2,6 @@ use borrow.Author.Needs.{needs}
 use Rattle.script.proofs.added.Statement.{statement}
 use Rattle.script.proofs.added.Tie as tie
 
-enum-known-word : tie.Need-enum-known-word
-enum-known-word c = search needs
-
-with-number-requires : tie.Need-with-number-requires
-with-number-requires c κs = search needs
-
-enum-told : tie.Need-enum-told
-enum-told c = search needs
-
-opened-requires : tie.Need-opened-requires
-opened-requires c κs = search needs
-
-enum-told-2 : tie.Need-enum-told-2
-enum-told-2 c = search needs
-
-opened-requires-2 : tie.Need-opened-requires-2
-opened-requires-2 c κs = search needs
-
-enum-told-3 : tie.Need-enum-told-3
-enum-told-3 c = search needs
-
-opened-requires-3 : tie.Need-opened-requires-3
-opened-requires-3 c κs = search needs
-
-enum-told-4 : tie.Need-enum-told-4
-enum-told-4 c = search needs
-
-with-idle-requires : tie.Need-with-idle-requires
-with-idle-requires c κs = search needs
-
-enum-told-5 : tie.Need-enum-told-5
-enum-told-5 c = search needs
-
-spoilt-requires : tie.Need-spoilt-requires
-spoilt-requires c κs = search needs
-
 returns : tie.Need-returns
 returns c = rw (c .before .before .word .given .1, c .with-number .ensures)
 
@@ -60,18 +24,18 @@ pub added-spec : {M : Type 1} → statement M
 added-spec =
     tie.close
     (tie.spec
-    enum-known-word
-    with-number-requires
-    enum-told
-    opened-requires
-    enum-told-2
-    opened-requires-2
-    enum-told-3
-    opened-requires-3
-    enum-told-4
-    with-idle-requires
-    enum-told-5
-    spoilt-requires
+    (λ c. search needs)
+    (λ c κs. search needs)
+    (λ c. search needs)
+    (λ c κs. search needs)
+    (λ c. search needs)
+    (λ c κs. search needs)
+    (λ c. search needs)
+    (λ c κs. search needs)
+    (λ c. search needs)
+    (λ c κs. search needs)
+    (λ c. search needs)
+    (λ c κs. search needs)
     returns
     returns-2
     returns-3

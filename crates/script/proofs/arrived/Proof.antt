@@ -8,12 +8,9 @@ returns : tie.Need-returns
 unfolding arrived
 returns c = rw (eq-eqb _ 13 (c .if1 .taken))
 
-taken-requires : tie.Need-taken-requires
-taken-requires c κs = search needs
-
 returns-2 : tie.Need-returns-2
 unfolding arrived
 returns-2 c = rw (ne-eqb _ 13 (c .before .if1 .left), c .taken .ensures)
 
 pub arrived-spec : {M : Type 1} → statement M
-arrived-spec = tie.close (tie.spec returns taken-requires returns-2)
+arrived-spec = tie.close (tie.spec returns (λ c κs. search needs) returns-2)

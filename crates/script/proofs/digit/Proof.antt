@@ -8,11 +8,8 @@ use Rattle.script.proofs.digit.Tie as tie
 sub-result : tie.Need-sub-result
 sub-result c = digit-range (c .args .byte) (c .pre) .0
 
-cast-result : tie.Need-cast-result
-cast-result c = search needs
-
 returns : tie.Need-returns
 returns c = (refl, omega (arith, digit-range (c .args .byte) (c .pre)))
 
 pub digit-spec : {M : Type 1} → statement M
-digit-spec = tie.close (tie.spec sub-result cast-result returns)
+digit-spec = tie.close (tie.spec sub-result (λ c. search needs) returns)

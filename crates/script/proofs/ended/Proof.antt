@@ -3,15 +3,6 @@ use Rattle.script.specs.Steps.{ended}
 use Rattle.script.proofs.ended.Statement.{statement}
 use Rattle.script.proofs.ended.Tie as tie
 
-begun-requires : tie.Need-begun-requires
-begun-requires c κs = search needs
-
-said-requires : tie.Need-said-requires
-said-requires c κs = search needs
-
-added-requires : tie.Need-added-requires
-added-requires c κs = search needs
-
 returns : tie.Need-returns
 unfolding ended
 returns c = rw (c .added .ensures, c .before .said .ensures, ← c .before .before .before .begun .ensures, c .before .before .if1 .taken)
@@ -21,4 +12,4 @@ unfolding ended
 returns-2 c = rw (← c .before .begun .ensures, c .if1 .left)
 
 pub ended-spec : {M : Type 1} → statement M
-ended-spec = tie.close (tie.spec begun-requires said-requires added-requires returns returns-2)
+ended-spec = tie.close (tie.spec (λ c κs. search needs) (λ c κs. search needs) (λ c κs. search needs) returns returns-2)

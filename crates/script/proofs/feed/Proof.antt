@@ -3,18 +3,9 @@ use Rattle.script.specs.Steps.{fedWith}
 use Rattle.script.proofs.feed.Statement.{statement}
 use Rattle.script.proofs.feed.Tie as tie
 
-taken-requires : tie.Need-taken-requires
-taken-requires c κs = search needs
-
-arrived-requires : tie.Need-arrived-requires
-arrived-requires c κs = search needs
-
 returns : tie.Need-returns
 unfolding fedWith
 returns c = rw (c .before .before .if1 .taken, c .arrived .ensures, c .before .taken .ensures)
-
-arrived-requires-2 : tie.Need-arrived-requires-2
-arrived-requires-2 c κs = search needs
 
 returns-2 : tie.Need-returns-2
 unfolding fedWith
@@ -22,4 +13,4 @@ returns-2 c = rw (c .before .if1 .left, c .arrived2 .ensures)
 
 pub feed-spec : {M : Type 1} → statement M
 feed-spec =
-    tie.close (tie.spec taken-requires arrived-requires returns arrived-requires-2 returns-2)
+    tie.close (tie.spec (λ c κs. search needs) (λ c κs. search needs) returns (λ c κs. search needs) returns-2)

@@ -5,9 +5,6 @@ use Rattle.script.specs.Steps.{firstPart}
 use Rattle.script.proofs.first_part.Statement.{statement}
 use Rattle.script.proofs.first_part.Tie as tie
 
-is-digit-requires : tie.Need-is-digit-requires
-is-digit-requires c κs = search needs
-
 digit-requires : tie.Need-digit-requires
 digit-requires c κs = sym (c .before .is-digit .ensures) ∙ c .if1 .taken
 
@@ -29,17 +26,21 @@ returns-4 c = rw (← c .before .before .before .before .is-digit .ensures, c .b
 
 returns-5 : tie.Need-returns-5
 unfolding firstPart
-returns-5 c = rw (← c .before .before .before .before .before .is-digit .ensures, c .before .before .before .before .if1 .left, ne-eqb _ 98 (c .before .before .before .if2 .left), ne-eqb _ 117 (c .before .before .if3 .left), ne-eqb _ 102 (c .before .if4 .left), eq-eqb _ 105 (c .if5 .taken))
+returns-5 c =
+    let c2 = c .before .before in
+    rw (← c2 .before .before .before .is-digit .ensures, c2 .before .before .if1 .left, ne-eqb _ 98 (c2 .before .if2 .left), ne-eqb _ 117 (c2 .if3 .left), ne-eqb _ 102 (c .before .if4 .left), eq-eqb _ 105 (c .if5 .taken))
 
 returns-6 : tie.Need-returns-6
 unfolding firstPart
-returns-6 c = rw (← c .before .before .before .before .before .is-digit .ensures, c .before .before .before .before .if1 .left, ne-eqb _ 98 (c .before .before .before .if2 .left), ne-eqb _ 117 (c .before .before .if3 .left), ne-eqb _ 102 (c .before .if4 .left), ne-eqb _ 105 (c .if5 .left))
+returns-6 c =
+    let c2 = c .before .before in
+    rw (← c2 .before .before .before .is-digit .ensures, c2 .before .before .if1 .left, ne-eqb _ 98 (c2 .before .if2 .left), ne-eqb _ 117 (c2 .if3 .left), ne-eqb _ 102 (c .before .if4 .left), ne-eqb _ 105 (c .if5 .left))
 
 pub first-part-spec : {M : Type 1} → statement M
 first-part-spec =
     tie.close
     (tie.spec
-    is-digit-requires
+    (λ c κs. search needs)
     digit-requires
     returns
     returns-2

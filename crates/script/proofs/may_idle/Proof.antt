@@ -4,15 +4,6 @@ use Rattle.script.specs.Steps.{mayIdle}
 use Rattle.script.proofs.may_idle.Statement.{statement}
 use Rattle.script.proofs.may_idle.Tie as tie
 
-element-copy-out-operation : tie.Need-element-copy-out-operation
-element-copy-out-operation c = search needs
-
-is-row-requires : tie.Need-is-row-requires
-is-row-requires c κs = search needs
-
-takes-idle-requires : tie.Need-takes-idle-requires
-takes-idle-requires c κs = search needs
-
 returns : tie.Need-returns
 unfolding mayIdle
 returns c = rw (← c .before .before .before .is-row .ensures, c .before .before .if1 .taken, eq-eqb _ 2 (c .before .if2 .taken)) (c .takes-idle .ensures)
@@ -29,9 +20,9 @@ pub may-idle-spec : {M : Type 1} → statement M
 may-idle-spec =
     tie.close
     (tie.spec
-    element-copy-out-operation
-    is-row-requires
-    takes-idle-requires
+    (λ c. search needs)
+    (λ c κs. search needs)
+    (λ c κs. search needs)
     returns
     returns-2
     returns-3)

@@ -8,20 +8,8 @@ use Rattle.script.specs.Steps.{moreDigits}
 use Rattle.script.proofs.more_digits.Statement.{statement}
 use Rattle.script.proofs.more_digits.Tie as tie
 
-is-digit-requires : tie.Need-is-digit-requires
-is-digit-requires c κs = search needs
-
 digit-requires : tie.Need-digit-requires
 digit-requires c κs = sym (c .before .is-digit .ensures) ∙ c .if1 .taken
-
-sub-if2 : tie.Need-sub-if2
-sub-if2 c = search needs
-
-mul-t8 : tie.Need-mul-t8
-mul-t8 c = search needs
-
-add-t9 : tie.Need-add-t9
-add-t9 c = search needs
 
 returns : tie.Need-returns
 unfolding moreDigits
@@ -38,4 +26,4 @@ returns-3 c = rw (← c .before .is-digit .ensures, c .if1 .left)
 pub more-digits-spec : {M : Type 1} → statement M
 more-digits-spec =
     tie.close
-    (tie.spec is-digit-requires digit-requires sub-if2 mul-t8 add-t9 returns returns-2 returns-3)
+    (tie.spec (λ c κs. search needs) digit-requires (λ c. search needs) (λ c. search needs) (λ c. search needs) returns returns-2 returns-3)

@@ -9,9 +9,6 @@ returns : tie.Need-returns
 unfolding moreLetters
 returns c = rw (eq-eqb _ 0 (c .if1 .taken))
 
-wide-requires : tie.Need-wide-requires
-wide-requires c κs = search needs
-
 returns-2 : tie.Need-returns-2
 unfolding moreLetters
 returns-2 c = rw (ne-eqb _ 0 (c .before .before .if1 .left), eq-eqb _ _ (sym (c .before .wide .ensures) ∙ c .if2 .taken))
@@ -21,4 +18,4 @@ unfolding moreLetters
 returns-3 c = rw (ne-eqb _ 0 (c .before .before .if1 .left), ne-eqb _ _ (λ q. c .if2 .left (c .before .wide .ensures ∙ q)))
 
 pub more-letters-spec : {M : Type 1} → statement M
-more-letters-spec = tie.close (tie.spec returns wide-requires returns-2 returns-3)
+more-letters-spec = tie.close (tie.spec returns (λ c κs. search needs) returns-2 returns-3)

@@ -12,29 +12,11 @@ Inv-loop bytes reader₀ i₀ reader i = Reading bytes reader i
 abbrev μ-loop : tie.MeasureT-loop
 μ-loop bytes reader₀ i₀ reader i = length bytes - i
 
-line-start-requires : tie.Need-line-start-requires Inv-loop μ-loop
-line-start-requires c κs = search needs
-
 loop-holds : tie.Need-loop-holds Inv-loop μ-loop
 loop-holds c = read-start _ _ (c .line-start .ensures)
 
-shared-slice-read-feed : tie.Need-shared-slice-read-feed Inv-loop μ-loop
-shared-slice-read-feed c = search needs
-
-feed-requires : tie.Need-feed-requires Inv-loop μ-loop
-feed-requires c κs = search needs
-
-add-i : tie.Need-add-i Inv-loop μ-loop
-add-i c = search needs
-
-loop-less : tie.Need-loop-less Inv-loop μ-loop
-loop-less c = search needs
-
 loop-again : tie.Need-loop-again Inv-loop μ-loop
 loop-again c = read-next _ _ _ _ (c .before .before .before .loop .inv) (c .before .before .loop-test .taken) (c .feed .ensures)
-
-line-end-requires : tie.Need-line-end-requires Inv-loop μ-loop
-line-end-requires c κs = search needs
 
 returns : tie.Need-returns Inv-loop μ-loop
 returns c = c .line-end .ensures ∙ read-end _ _ _ (c .before .before .loop .inv) (c .before .loop-test .left)
@@ -45,12 +27,12 @@ read-line-spec =
     (tie.spec
     Inv-loop
     μ-loop
-    line-start-requires
+    (λ c κs. search needs)
     loop-holds
-    shared-slice-read-feed
-    feed-requires
-    add-i
-    loop-less
+    (λ c. search needs)
+    (λ c κs. search needs)
+    (λ c. search needs)
+    (λ c. search needs)
     loop-again
-    line-end-requires
+    (λ c κs. search needs)
     returns)

@@ -8,25 +8,13 @@ returns : tie.Need-returns
 unfolding taken
 returns c = rw (c .if1 .taken)
 
-ended-requires : tie.Need-ended-requires
-ended-requires c κs = search needs
-
 returns-2 : tie.Need-returns-2
 unfolding taken
 returns-2 c = rw (c .before .before .if1 .left, eq-eqb _ 35 (c .before .if2 .taken), c .ended .ensures)
 
-is-blank-requires : tie.Need-is-blank-requires
-is-blank-requires c κs = search needs
-
-ended-requires-2 : tie.Need-ended-requires-2
-ended-requires-2 c κs = search needs
-
 returns-3 : tie.Need-returns-3
 unfolding taken
 returns-3 c = rw (c .before .before .before .before .if1 .left, ne-eqb _ 35 (c .before .before .before .if2 .left), ← c .before .before .is-blank .ensures, c .before .if3 .taken, c .ended2 .ensures)
-
-lengthened-requires : tie.Need-lengthened-requires
-lengthened-requires c κs = search needs
 
 returns-4 : tie.Need-returns-4
 unfolding taken
@@ -37,10 +25,10 @@ taken-spec =
     tie.close
     (tie.spec
     returns
-    ended-requires
+    (λ c κs. search needs)
     returns-2
-    is-blank-requires
-    ended-requires-2
+    (λ c κs. search needs)
+    (λ c κs. search needs)
     returns-3
-    lengthened-requires
+    (λ c κs. search needs)
     returns-4)

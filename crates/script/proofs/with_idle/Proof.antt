@@ -3,18 +3,9 @@ use Rattle.script.specs.Steps.{withIdle}
 use Rattle.script.proofs.with_idle.Statement.{statement}
 use Rattle.script.proofs.with_idle.Tie as tie
 
-may-idle-requires : tie.Need-may-idle-requires
-may-idle-requires c κs = search needs
-
-pushed-requires : tie.Need-pushed-requires
-pushed-requires c κs = search needs
-
 returns : tie.Need-returns
 unfolding withIdle
 returns c = rw (← c .before .before .may-idle .ensures, c .before .if1 .taken, c .pushed .ensures)
-
-spoilt-requires : tie.Need-spoilt-requires
-spoilt-requires c κs = search needs
 
 returns-2 : tie.Need-returns-2
 unfolding withIdle
@@ -22,4 +13,4 @@ returns-2 c = rw (← c .before .before .may-idle .ensures, c .before .if1 .left
 
 pub with-idle-spec : {M : Type 1} → statement M
 with-idle-spec =
-    tie.close (tie.spec may-idle-requires pushed-requires returns spoilt-requires returns-2)
+    tie.close (tie.spec (λ c κs. search needs) (λ c κs. search needs) returns (λ c κs. search needs) returns-2)

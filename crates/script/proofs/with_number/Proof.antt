@@ -5,42 +5,6 @@ use Rattle.script.specs.declared.Kind.{Kind}
 use Rattle.script.proofs.with_number.Statement.{statement}
 use Rattle.script.proofs.with_number.Tie as tie
 
-enum-told : tie.Need-enum-told
-enum-told c = search needs
-
-pushed-requires : tie.Need-pushed-requires
-pushed-requires c κs = search needs
-
-enum-told-2 : tie.Need-enum-told-2
-enum-told-2 c = search needs
-
-pushed-requires-2 : tie.Need-pushed-requires-2
-pushed-requires-2 c κs = search needs
-
-enum-told-3 : tie.Need-enum-told-3
-enum-told-3 c = search needs
-
-pushed-requires-3 : tie.Need-pushed-requires-3
-pushed-requires-3 c κs = search needs
-
-enum-told-4 : tie.Need-enum-told-4
-enum-told-4 c = search needs
-
-pushed-requires-4 : tie.Need-pushed-requires-4
-pushed-requires-4 c κs = search needs
-
-enum-told-5 : tie.Need-enum-told-5
-enum-told-5 c = search needs
-
-spoilt-requires : tie.Need-spoilt-requires
-spoilt-requires c κs = search needs
-
-enum-told-6 : tie.Need-enum-told-6
-enum-told-6 c = search needs
-
-spoilt-requires-2 : tie.Need-spoilt-requires-2
-spoilt-requires-2 c κs = search needs
-
 returns : tie.Need-returns
 returns c = c .pushed .ensures ∙ ap (λ (k : Kind). numberBy k (c .before .before .before .args .words) (c .before .before .before .args .number)) (sym (c .before .enum-told .given .1))
 
@@ -63,18 +27,18 @@ pub with-number-spec : {M : Type 1} → statement M
 with-number-spec =
     tie.close
     (tie.spec
-    enum-told
-    pushed-requires
-    enum-told-2
-    pushed-requires-2
-    enum-told-3
-    pushed-requires-3
-    enum-told-4
-    pushed-requires-4
-    enum-told-5
-    spoilt-requires
-    enum-told-6
-    spoilt-requires-2
+    (λ c. search needs)
+    (λ c κs. search needs)
+    (λ c. search needs)
+    (λ c κs. search needs)
+    (λ c. search needs)
+    (λ c κs. search needs)
+    (λ c. search needs)
+    (λ c κs. search needs)
+    (λ c. search needs)
+    (λ c κs. search needs)
+    (λ c. search needs)
+    (λ c κs. search needs)
     returns
     returns-2
     returns-3

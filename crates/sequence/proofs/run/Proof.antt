@@ -1,6 +1,6 @@
 use Prim.Native.Nat.{_-_}
 use native.Mathlib.Omega.{arith}
-use Rattle.operate.specs.Outcome.{withRegisters}
+use Rattle.model.specs.Header.{headerOf}
 use Rattle.sequence.specs.Run.{progress}
 use Rattle.sequence.specs.RunLaws.{Running, run-start, run-next, run-end, fit-kept}
 use Rattle.sequence.proofs.run.Statement.{statement}
@@ -8,7 +8,7 @@ use Rattle.sequence.proofs.run.Tie as tie
 
 abbrev Inv-loop : tie.InvT-loop
 Inv-loop fixed sets₀ pairs₀ cpu-map₀ cpu-walker₀ cpu-cache₀ dma-map₀ dma-walker₀ dma-cache₀ memory₀ rows room₀ count next₀ k₀ sets pairs cpu-map cpu-walker cpu-cache dma-map dma-walker dma-cache memory room next k =
-    Running rows count (progress (withRegisters fixed next₀) sets₀ pairs₀ cpu-map₀ cpu-walker₀ cpu-cache₀ dma-map₀ dma-walker₀ dma-cache₀ memory₀ room₀) (progress (withRegisters fixed next) sets pairs cpu-map cpu-walker cpu-cache dma-map dma-walker dma-cache memory room) k
+    Running rows count (progress (headerOf fixed next₀) sets₀ pairs₀ cpu-map₀ cpu-walker₀ cpu-cache₀ dma-map₀ dma-walker₀ dma-cache₀ memory₀ room₀) (progress (headerOf fixed next) sets pairs cpu-map cpu-walker cpu-cache dma-map dma-walker dma-cache memory room) k
 
 abbrev μ-loop : tie.MeasureT-loop
 μ-loop fixed sets₀ pairs₀ cpu-map₀ cpu-walker₀ cpu-cache₀ dma-map₀ dma-walker₀ dma-cache₀ memory₀ rows room₀ count next₀ k₀ sets pairs cpu-map cpu-walker cpu-cache dma-map dma-walker dma-cache memory room next k =
@@ -19,23 +19,29 @@ loop-holds c = run-start _ _ _
 
 turn-requires : tie.Need-turn-requires Inv-loop μ-loop
 turn-requires c κs =
-    let v = c .before .before .before .before .before .before .before .before .before .before .before .loop .inv in
-    let l = c .before .before .before .before .before .before .before .before .before .before .loop-test .taken in
-    let p = c .before .before .before .before .before .before .before .before .before .before .before .before .before .before .before .before .before .before .before .before .before .before .before .pre in
+    let c10 = c .before .before .before .before .before .before .before .before .before .before in
+    let c23 = c10 .before .before .before .before .before .before .before .before .before .before .before .before .before in
+    let v = c10 .before .loop .inv in
+    let l = c10 .loop-test .taken in
+    let p = c23 .pre in
     let q = v .room in
-    (fit-kept (c .before .before .before .before .before .before .before .before .before .before .before .before .before .before .before .before .before .before .before .before .before .before .before .args .fixed) _ _ _ _ (p .0) (v .sizes .tables .sets) (v .sizes .memory), (omega arith, omega arith))
+    (fit-kept (c23 .args .fixed) _ _ _ _ (p .0) (v .sizes .tables .sets) (v .sizes .memory), (omega arith, omega arith))
 
 add-k : tie.Need-add-k Inv-loop μ-loop
 add-k c =
-    let l = c .before .before .before .before .before .before .before .before .before .before .before .before .before .before .before .before .before .before .before .before .before .before .before .before .before .before .before .before .before .before .before .loop-test .taken in
-    let f = c .before .before .before .before .before .before .before .before .before .before .before .before .before .before .before .before .before .before .before .before .before .before .before .before .before .before .before .before .before .before .before .before .before .before .before .before .before .before .before .before .before .before .before .before .fits in
+    let c31 = c .before .before .before .before .before .before .before .before .before .before .before .before .before .before .before .before .before .before .before .before .before .before .before .before .before .before .before .before .before .before .before in
+    let l = c31 .loop-test .taken in
+    let f = c31 .before .before .before .before .before .before .before .before .before .before .before .before .before .fits in
     omega arith
 
 loop-less : tie.Need-loop-less Inv-loop μ-loop
 loop-less c = omega arith
 
 loop-again : tie.Need-loop-again Inv-loop μ-loop
-loop-again c = run-next _ _ _ _ _ _ (c .before .before .before .before .before .before .before .before .before .before .before .before .before .before .before .before .before .before .before .before .before .before .before .before .before .before .before .before .before .before .before .before .loop .inv) (c .before .before .before .before .before .before .before .before .before .before .before .before .before .before .before .before .before .before .before .before .before .before .before .before .before .before .before .before .before .before .before .loop-test .taken) (c .before .before .before .before .before .before .before .before .before .before .before .before .before .before .before .before .before .before .before .before .turn .ensures)
+loop-again c =
+    let c20 = c .before .before .before .before .before .before .before .before .before .before .before .before .before .before .before .before .before .before .before .before in
+    let c31 = c20 .before .before .before .before .before .before .before .before .before .before .before in
+    run-next _ _ _ _ _ _ (c31 .before .loop .inv) (c31 .loop-test .taken) (c20 .turn .ensures)
 
 same-length : tie.Need-same-length Inv-loop μ-loop
 same-length c = c .before .loop .inv .sizes .tables .sets

@@ -5,9 +5,6 @@ use Rattle.sequence.proofs.shape.Tie as tie
 returns : tie.Need-returns
 returns c = rw (c .if1 .taken)
 
-mul-if2 : tie.Need-mul-if2
-mul-if2 c = search needs
-
 returns-2 : tie.Need-returns-2
 returns-2 c = rw (c .before .if1 .left, c .if2 .taken)
 
@@ -15,4 +12,4 @@ returns-3 : tie.Need-returns-3
 returns-3 c = rw (c .before .if1 .left, c .if2 .left)
 
 pub shape-spec : {M : Type 1} → statement M
-shape-spec = tie.close (tie.spec returns mul-if2 returns-2 returns-3)
+shape-spec = tie.close (tie.spec returns (λ c. search needs) returns-2 returns-3)

@@ -1,87 +1,51 @@
 use borrow.Author.Needs.{needs}
-use Rattle.operate.specs.Outcome.{withRegisters}
+use Rattle.model.specs.Header.{headerOf}
 use Rattle.sequence.specs.Run.{progress}
 use Rattle.sequence.specs.RunLaws.{turn-done, turn-unknown}
 use Rattle.sequence.proofs.turn.Statement.{statement}
 use Rattle.sequence.proofs.turn.Tie as tie
 
-operation-at-requires : tie.Need-operation-at-requires
-operation-at-requires c κs = search needs
-
-enum-known-decoded : tie.Need-enum-known-decoded
-enum-known-decoded c = search needs
-
-step-requires : tie.Need-step-requires
-step-requires c κs = search needs
-
 write-answer-requires : tie.Need-write-answer-requires
-write-answer-requires c κs = c .before .before .before .before .before .before .before .before .before .before .before .before .before .before .before .before .before .before .before .before .before .before .before .before .before .before .before .before .before .before .before .before .before .before .before .before .before .before .before .before .before .before .before .before .pre .1 .1
-
-enum-told : tie.Need-enum-told
-enum-told c = search needs
-
-write-answer-requires-2 : tie.Need-write-answer-requires-2
-write-answer-requires-2 c κs = search needs
-
-same-length : tie.Need-same-length
-same-length c = search needs
-
-same-length-2 : tie.Need-same-length-2
-same-length-2 c = search needs
-
-same-length-3 : tie.Need-same-length-3
-same-length-3 c = search needs
-
-same-length-4 : tie.Need-same-length-4
-same-length-4 c = search needs
-
-same-length-5 : tie.Need-same-length-5
-same-length-5 c = search needs
-
-same-length-6 : tie.Need-same-length-6
-same-length-6 c = search needs
-
-same-length-7 : tie.Need-same-length-7
-same-length-7 c = search needs
-
-same-length-8 : tie.Need-same-length-8
-same-length-8 c = search needs
-
-same-length-9 : tie.Need-same-length-9
-same-length-9 c = search needs
-
-same-length-10 : tie.Need-same-length-10
-same-length-10 c = search needs
+write-answer-requires c κs =
+    c .before .before .before .before .before .before .before .before .before .before .before .before .before .before .before .before .before .before .before .before .before .before .before .before .before .before .before .before .before .before .before .before .before .before .before .before .before .before .before .before .before .before .before .before .pre .1 .1
 
 returns : tie.Need-returns
-returns c = rw (c .before .before .before .write-answer .ensures) (turn-done (c .before .before .before .before .before .before .before .before .before .before .before .before .before .before .before .before .before .before .before .before .before .before .before .before .before .before .before .before .before .before .before .before .before .before .before .before .before .before .before .before .before .before .before .before .before .before .before .before .args .rows .now) (c .before .before .before .before .before .before .before .before .before .before .before .before .before .before .before .before .before .before .before .before .before .before .before .before .before .before .before .before .before .before .before .before .before .before .before .before .before .before .before .before .before .before .before .before .before .before .before .before .args .k) (progress (withRegisters (c .before .before .before .before .before .before .before .before .before .before .before .before .before .before .before .before .before .before .before .before .before .before .before .before .before .before .before .before .before .before .before .before .before .before .before .before .before .before .before .before .before .before .before .before .before .before .before .before .args .fixed) (c .before .before .before .before .before .before .before .before .before .before .before .before .before .before .before .before .before .before .before .before .before .before .before .before .before .before .before .before .before .before .before .before .before .before .before .before .before .before .before .before .before .before .before .before .before .before .before .before .args .registers)) (c .before .before .before .before .before .before .before .before .before .before .before .before .before .before .before .before .before .before .before .before .before .before .before .before .before .before .before .before .before .before .before .before .before .before .before .before .before .before .before .before .before .before .before .before .before .before .before .before .args .sets .now) (c .before .before .before .before .before .before .before .before .before .before .before .before .before .before .before .before .before .before .before .before .before .before .before .before .before .before .before .before .before .before .before .before .before .before .before .before .before .before .before .before .before .before .before .before .before .before .before .before .args .pairs .now) (c .before .before .before .before .before .before .before .before .before .before .before .before .before .before .before .before .before .before .before .before .before .before .before .before .before .before .before .before .before .before .before .before .before .before .before .before .before .before .before .before .before .before .before .before .before .before .before .before .args .cpu-map .now) (c .before .before .before .before .before .before .before .before .before .before .before .before .before .before .before .before .before .before .before .before .before .before .before .before .before .before .before .before .before .before .before .before .before .before .before .before .before .before .before .before .before .before .before .before .before .before .before .before .args .cpu-walker .now) (c .before .before .before .before .before .before .before .before .before .before .before .before .before .before .before .before .before .before .before .before .before .before .before .before .before .before .before .before .before .before .before .before .before .before .before .before .before .before .before .before .before .before .before .before .before .before .before .before .args .cpu-cache .now) (c .before .before .before .before .before .before .before .before .before .before .before .before .before .before .before .before .before .before .before .before .before .before .before .before .before .before .before .before .before .before .before .before .before .before .before .before .before .before .before .before .before .before .before .before .before .before .before .before .args .dma-map .now) (c .before .before .before .before .before .before .before .before .before .before .before .before .before .before .before .before .before .before .before .before .before .before .before .before .before .before .before .before .before .before .before .before .before .before .before .before .before .before .before .before .before .before .before .before .before .before .before .before .args .dma-walker .now) (c .before .before .before .before .before .before .before .before .before .before .before .before .before .before .before .before .before .before .before .before .before .before .before .before .before .before .before .before .before .before .before .before .before .before .before .before .before .before .before .before .before .before .before .before .before .before .before .before .args .dma-cache .now) (c .before .before .before .before .before .before .before .before .before .before .before .before .before .before .before .before .before .before .before .before .before .before .before .before .before .before .before .before .before .before .before .before .before .before .before .before .before .before .before .before .before .before .before .before .before .before .before .before .args .memory .now) (c .before .before .before .before .before .before .before .before .before .before .before .before .before .before .before .before .before .before .before .before .before .before .before .before .before .before .before .before .before .before .before .before .before .before .before .before .before .before .before .before .before .before .before .before .before .before .before .before .args .room .now)) _ _ _ (c .before .before .before .before .before .before .before .before .before .before .before .before .before .before .before .before .before .before .before .before .before .before .before .before .before .before .before .before .before .before .before .before .before .before .before .before .operation-at .ensures) (c .before .before .before .before .before .before .before .before .before .before .before .before .before .before .before .before .before .before .before .before .before .before .before .before .before .before .before .before .before .before .before .before .before .before .decoded .given .1) (c .before .before .before .before .before .before .before .before .before .before .before .before .before .before .before .before .before .before .before .before .before .before .before .step .ensures))
-
-same-length-11 : tie.Need-same-length-11
-same-length-11 c = search needs
+returns c =
+    let c3 = c .before .before .before in
+    let c23 = c3 .before .before .before .before .before .before .before .before .before .before .before .before .before .before .before .before .before .before .before .before in
+    let c34 = c23 .before .before .before .before .before .before .before .before .before .before .before in
+    let c36 = c34 .before .before in
+    let c48 = c36 .before .before .before .before .before .before .before .before .before .before .before .before in
+    rw (c3 .write-answer .ensures) (turn-done (c48 .args .rows .now) (c48 .args .k) (progress (headerOf (c48 .args .fixed) (c48 .args .registers)) (c48 .args .sets .now) (c48 .args .pairs .now) (c48 .args .cpu-map .now) (c48 .args .cpu-walker .now) (c48 .args .cpu-cache .now) (c48 .args .dma-map .now) (c48 .args .dma-walker .now) (c48 .args .dma-cache .now) (c48 .args .memory .now) (c48 .args .room .now)) _ _ _ (c36 .operation-at .ensures) (c34 .decoded .given .1) (c23 .step .ensures))
 
 returns-2 : tie.Need-returns-2
-returns-2 c = rw (c .before .before .write-answer2 .ensures) (turn-unknown (c .before .before .before .before .before .before .before .before .before .before .before .before .before .before .before .before .before .before .args .rows .now) (c .before .before .before .before .before .before .before .before .before .before .before .before .before .before .before .before .before .before .args .k) (progress (withRegisters (c .before .before .before .before .before .before .before .before .before .before .before .before .before .before .before .before .before .before .args .fixed) (c .before .before .before .before .before .before .before .before .before .before .before .before .before .before .before .before .before .before .args .registers)) (c .before .before .before .before .before .before .before .before .before .before .before .before .before .before .before .before .before .before .args .sets .now) (c .before .before .before .before .before .before .before .before .before .before .before .before .before .before .before .before .before .before .args .pairs .now) (c .before .before .before .before .before .before .before .before .before .before .before .before .before .before .before .before .before .before .args .cpu-map .now) (c .before .before .before .before .before .before .before .before .before .before .before .before .before .before .before .before .before .before .args .cpu-walker .now) (c .before .before .before .before .before .before .before .before .before .before .before .before .before .before .before .before .before .before .args .cpu-cache .now) (c .before .before .before .before .before .before .before .before .before .before .before .before .before .before .before .before .before .before .args .dma-map .now) (c .before .before .before .before .before .before .before .before .before .before .before .before .before .before .before .before .before .before .args .dma-walker .now) (c .before .before .before .before .before .before .before .before .before .before .before .before .before .before .before .before .before .before .args .dma-cache .now) (c .before .before .before .before .before .before .before .before .before .before .before .before .before .before .before .before .before .before .args .memory .now) (c .before .before .before .before .before .before .before .before .before .before .before .before .before .before .before .before .before .before .args .room .now)) _ (c .before .before .before .before .before .before .operation-at .ensures) (c .before .before .before .before .enum-told .given .1))
+returns-2 c =
+    let c2 = c .before .before in
+    let c4 = c2 .before .before in
+    let c6 = c4 .before .before in
+    let c18 = c6 .before .before .before .before .before .before .before .before .before .before .before .before in
+    rw (c2 .write-answer2 .ensures) (turn-unknown (c18 .args .rows .now) (c18 .args .k) (progress (headerOf (c18 .args .fixed) (c18 .args .registers)) (c18 .args .sets .now) (c18 .args .pairs .now) (c18 .args .cpu-map .now) (c18 .args .cpu-walker .now) (c18 .args .cpu-cache .now) (c18 .args .dma-map .now) (c18 .args .dma-walker .now) (c18 .args .dma-cache .now) (c18 .args .memory .now) (c18 .args .room .now)) _ (c6 .operation-at .ensures) (c4 .enum-told .given .1))
 
 pub turn-spec : {M : Type 1} → statement M
 turn-spec =
     tie.close
     (tie.spec
-    operation-at-requires
-    enum-known-decoded
-    step-requires
+    (λ c κs. search needs)
+    (λ c. search needs)
+    (λ c κs. search needs)
     write-answer-requires
-    enum-told
-    write-answer-requires-2
-    same-length
-    same-length-2
-    same-length-3
-    same-length-4
-    same-length-5
-    same-length-6
-    same-length-7
-    same-length-8
-    same-length-9
-    same-length-10
+    (λ c. search needs)
+    (λ c κs. search needs)
+    (λ c. search needs)
+    (λ c. search needs)
+    (λ c. search needs)
+    (λ c. search needs)
+    (λ c. search needs)
+    (λ c. search needs)
+    (λ c. search needs)
+    (λ c. search needs)
+    (λ c. search needs)
+    (λ c. search needs)
     returns
-    same-length-11
+    (λ c. search needs)
     returns-2)

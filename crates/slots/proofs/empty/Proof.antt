@@ -10,15 +10,9 @@ use Rattle.slots.proofs.empty.Tie as tie
 within : (c : tie.Else2) → c .before .before .args .place < SLOTS
 within c = ltb-true _ _ (not-false _ (c .if2 .left))
 
-refused-requires : tie.Need-refused-requires
-refused-requires c κs = search needs
-
 returns : tie.Need-returns
 unfolding emptyWord
 returns c = rw (ne-eqb _ _ (c .before .if1 .taken), c .refused .ensures .0, c .refused .ensures .1)
-
-refused-requires-2 : tie.Need-refused-requires-2
-refused-requires-2 c κs = search needs
 
 returns-2 : tie.Need-returns-2
 unfolding emptyWord
@@ -42,9 +36,9 @@ pub empty-spec : {M : Type 1} → statement M
 empty-spec =
     tie.close
     (tie.spec
-    refused-requires
+    (λ c κs. search needs)
     returns
-    refused-requires-2
+    (λ c κs. search needs)
     returns-2
     mul-all
     array-write-all

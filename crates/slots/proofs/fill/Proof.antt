@@ -15,15 +15,9 @@ ranged c =
     let a = c .before .before .args in
     fill-numbers (a .place) (a .port) (a .vm) (a .guest) (a .page) (a .access) (a .generation) (not-false _ (c .if2 .left))
 
-refused-requires : tie.Need-refused-requires
-refused-requires c κs = search needs
-
 returns : tie.Need-returns
 unfolding fillWord
 returns c = rw (ne-eqb _ _ (c .before .if1 .taken), c .refused .ensures .0, c .refused .ensures .1)
-
-refused-requires-2 : tie.Need-refused-requires-2
-refused-requires-2 c κs = search needs
 
 returns-2 : tie.Need-returns-2
 unfolding fillWord
@@ -58,9 +52,9 @@ pub fill-spec : {M : Type 1} → statement M
 fill-spec =
     tie.close
     (tie.spec
-    refused-requires
+    (λ c κs. search needs)
     returns
-    refused-requires-2
+    (λ c κs. search needs)
     returns-2
     entry-requires
     slot-word-requires

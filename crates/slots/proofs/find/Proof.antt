@@ -30,44 +30,37 @@ returns c =
     let a = c .before .args in
     unfit-nowhere (a .words) (a .port) (a .vm) (a .guest) (bits (a .words) _ (c .before .good .0 .1 .1)) (failed (fields-decides (a .port) (a .vm) (a .guest)) (c .if1 .taken))
 
-slice-aggregate-find : tie.Need-slice-aggregate-find
-slice-aggregate-find c = search needs
-
 slot-key-requires : tie.Need-slot-key-requires
 slot-key-requires c κs =
     let r = ranged (c .before) in
     search needs
 
-find-requires : tie.Need-find-requires
-find-requires c κs = search needs
-
-enum-known-there : tie.Need-enum-known-there
-enum-known-there c = search needs
-
-enum-told : tie.Need-enum-told
-enum-told c = search needs
-
 returns-2 : tie.Need-returns-2
 returns-2 c =
-    let a = c .before .before .before .before .before .before .before .args in
-    let r = ranged (c .before .before .before .before .before .before) in
-    key-found (a .words) (a .port) (a .vm) (a .guest) r (c .before .before .before .before .before .before .before .good .0 .1 .0 .1) _ (rw (← c .before .before .before .before .slot-key .ensures) (sym (c .before .before .before .find .ensures) ∙ c .before .there .given .1))
+    let c1 = c .before in
+    let c3 = c1 .before .before in
+    let c6 = c3 .before .before .before in
+    let a = c6 .before .args in
+    let r = ranged (c6) in
+    key-found (a .words) (a .port) (a .vm) (a .guest) r (c6 .before .good .0 .1 .0 .1) _ (rw (← c3 .before .slot-key .ensures) (sym (c3 .find .ensures) ∙ c1 .there .given .1))
 
 returns-3 : tie.Need-returns-3
 returns-3 c =
-    let a = c .before .before .before .before .before .before .args in
-    let r = ranged (c .before .before .before .before .before) in
-    key-nowhere (a .words) (a .port) (a .vm) (a .guest) r (c .before .before .before .before .before .before .good .0 .1 .0 .1) (rw (← c .before .before .before .slot-key .ensures) (sym (c .before .before .find .ensures) ∙ c .enum-told .given .1))
+    let c2 = c .before .before in
+    let c5 = c2 .before .before .before in
+    let a = c5 .before .args in
+    let r = ranged (c5) in
+    key-nowhere (a .words) (a .port) (a .vm) (a .guest) r (c5 .before .good .0 .1 .0 .1) (rw (← c2 .before .slot-key .ensures) (sym (c2 .find .ensures) ∙ c .enum-told .given .1))
 
 pub find-spec : {M : Type 1} → statement M
 find-spec =
     tie.close
     (tie.spec
     returns
-    slice-aggregate-find
+    (λ c. search needs)
     slot-key-requires
-    find-requires
-    enum-known-there
-    enum-told
+    (λ c κs. search needs)
+    (λ c. search needs)
+    (λ c. search needs)
     returns-2
     returns-3)

@@ -6,15 +6,6 @@ use lib.Seq.{set-out}
 use Rattle.slots.proofs.put_word.Statement.{statement}
 use Rattle.slots.proofs.put_word.Tie as tie
 
-word-of-requires : tie.Need-word-of-requires
-word-of-requires c κs = search needs
-
-mul-all : tie.Need-mul-all
-mul-all c = search needs
-
-array-write-all : tie.Need-array-write-all
-array-write-all c = search needs
-
 returns : tie.Need-returns
 returns c = ap (set (c .before .before .args .words) (c .before .before .args .i)) (c .word-of .ensures)
 
@@ -22,4 +13,4 @@ returns-2 : tie.Need-returns-2
 returns-2 c = sym (set-out _ _ _ (omega arith))
 
 pub put-word-spec : {M : Type 1} → statement M
-put-word-spec = tie.close (tie.spec word-of-requires mul-all array-write-all returns returns-2)
+put-word-spec = tie.close (tie.spec (λ c κs. search needs) (λ c. search needs) (λ c. search needs) returns returns-2)

@@ -5,15 +5,6 @@ use Rattle.slots.specs.SlotLaws.{slot-there, slot-beyond}
 use Rattle.slots.proofs.slot_at.Statement.{statement}
 use Rattle.slots.proofs.slot_at.Tie as tie
 
-mul-slot-of : tie.Need-mul-slot-of
-mul-slot-of c = search needs
-
-array-read-slot-of : tie.Need-array-read-slot-of
-array-read-slot-of c = search needs
-
-slot-of-requires : tie.Need-slot-of-requires
-slot-of-requires c κs = search needs
-
 returns : tie.Need-returns
 returns c = c .slot-of .ensures ∙ sym (slot-there (c .before .before .args .t1) (c .before .before .args .i) (c .before .before .args .slot) (omega arith))
 
@@ -21,4 +12,4 @@ returns-2 : tie.Need-returns-2
 returns-2 c = sym (slot-beyond (c .before .args .t1) (c .before .args .i) (c .before .args .slot) (omega arith))
 
 pub slot-at-spec : {M : Type 1} → statement M
-slot-at-spec = tie.close (tie.spec mul-slot-of array-read-slot-of slot-of-requires returns returns-2)
+slot-at-spec = tie.close (tie.spec (λ c. search needs) (λ c. search needs) (λ c κs. search needs) returns returns-2)

@@ -15,17 +15,8 @@ abbrev μ-loop : tie.MeasureT-loop
 loop-holds : tie.Need-loop-holds Inv-loop μ-loop
 loop-holds c = try-start _ _
 
-bad-field-requires : tie.Need-bad-field-requires Inv-loop μ-loop
-bad-field-requires c κs = search needs
-
 returns : tie.Need-returns Inv-loop μ-loop
 returns c = try-yes _ _ _ (c .before .before .before .loop .inv) (c .before .before .loop-test .taken) (sym (c .before .bad-field .ensures) ∙ c .if1 .taken)
-
-add-k : tie.Need-add-k Inv-loop μ-loop
-add-k c = search needs
-
-loop-less : tie.Need-loop-less Inv-loop μ-loop
-loop-less c = search needs
 
 loop-again : tie.Need-loop-again Inv-loop μ-loop
 loop-again c = try-next _ _ _ (c .before .before .before .loop .inv) (c .before .before .loop-test .taken) (sym (c .before .bad-field .ensures) ∙ c .if1 .left)
@@ -40,9 +31,9 @@ any-bad-field-spec =
     Inv-loop
     μ-loop
     loop-holds
-    bad-field-requires
+    (λ c κs. search needs)
     returns
-    add-k
-    loop-less
+    (λ c. search needs)
+    (λ c. search needs)
     loop-again
     returns-2)

@@ -12,26 +12,13 @@ Inv-loop sets₀ pages shared-base shared-count page₀ sets page = Sweeping (fi
 abbrev μ-loop : tie.MeasureT-loop
 μ-loop sets₀ pages shared-base shared-count page₀ sets page = pages - page
 
-clear-words-requires : tie.Need-clear-words-requires Inv-loop μ-loop
-clear-words-requires c κs = search needs
-
 loop-holds : tie.Need-loop-holds Inv-loop μ-loop
 loop-holds c = sweep-start _ _ _
 
-first-home-requires : tie.Need-first-home-requires Inv-loop μ-loop
-first-home-requires c κs = search needs
-
-add-page : tie.Need-add-page Inv-loop μ-loop
-add-page c = search needs
-
-loop-less : tie.Need-loop-less Inv-loop μ-loop
-loop-less c = search needs
-
 loop-again : tie.Need-loop-again Inv-loop μ-loop
-loop-again c = home-next _ _ _ _ _ _ _ (c .before .before .before .before .before .loop .inv) (c .before .before .before .before .loop-test .taken) (c .before .before .first-home .ensures)
-
-same-length : tie.Need-same-length Inv-loop μ-loop
-same-length c = search needs
+loop-again c =
+    let c4 = c .before .before .before .before in
+    home-next _ _ _ _ _ _ _ (c4 .before .loop .inv) (c4 .loop-test .taken) (c .before .before .first-home .ensures)
 
 returns : tie.Need-returns Inv-loop μ-loop
 returns c = rw (← c .before .before .before .before .clear-words .ensures) (sweep-end _ _ _ _ _ (c .before .loop .inv) (c .loop-test .left))
@@ -42,11 +29,11 @@ fresh-sets-spec =
     (tie.spec
     Inv-loop
     μ-loop
-    clear-words-requires
+    (λ c κs. search needs)
     loop-holds
-    first-home-requires
-    add-page
-    loop-less
+    (λ c κs. search needs)
+    (λ c. search needs)
+    (λ c. search needs)
     loop-again
-    same-length
+    (λ c. search needs)
     returns)

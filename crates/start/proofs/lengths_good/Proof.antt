@@ -27,13 +27,10 @@ mul-result c =
     let a = c .before .args in
     omega (arith, leb-true (a .pages) PAGES (hold (ltb 0 (a .pages)) (leb (a .pages) PAGES) (c .if1 .left) .1))
 
-mul-result-2 : tie.Need-mul-result-2
-mul-result-2 c = search needs
-
 returns-2 : tie.Need-returns-2
 returns-2 c =
     let a = c .before .args in
     both-hold (lengths (c .before)) (ltb 0 (a .pages)) (leb (a .pages) PAGES) (c .if1 .left)
 
 pub lengths-good-spec : {M : Type 1} → statement M
-lengths-good-spec = tie.close (tie.spec returns mul-result mul-result-2 returns-2)
+lengths-good-spec = tie.close (tie.spec returns mul-result (λ c. search needs) returns-2)

@@ -22,30 +22,6 @@ abbrev μ-loop : tie.MeasureT-loop
 loop-holds : tie.Need-loop-holds Inv-loop μ-loop
 loop-holds c = (wipe-start _ _, tally-start _ _)
 
-mul-w : tie.Need-mul-w Inv-loop μ-loop
-mul-w c = search needs
-
-slice-read-w : tie.Need-slice-read-w Inv-loop μ-loop
-slice-read-w c = search needs
-
-address-of-requires : tie.Need-address-of-requires Inv-loop μ-loop
-address-of-requires c κs = search needs
-
-add-dropped : tie.Need-add-dropped Inv-loop μ-loop
-add-dropped c = search needs
-
-mul-cache : tie.Need-mul-cache Inv-loop μ-loop
-mul-cache c = search needs
-
-slice-write-cache : tie.Need-slice-write-cache Inv-loop μ-loop
-slice-write-cache c = search needs
-
-add-i : tie.Need-add-i Inv-loop μ-loop
-add-i c = search needs
-
-loop-less : tie.Need-loop-less Inv-loop μ-loop
-loop-less c = search needs
-
 loop-again : tie.Need-loop-again Inv-loop μ-loop
 loop-again c =
     let g = c .before .before .before .before .loop in
@@ -56,9 +32,6 @@ loop-again c =
     ⊎-elim (λ w. let t = eq-eqb _ _ (sym e ∙ w .0 .taken) in rw (w .1, w .2) (wipe-hit _ _ _ _ (r .0) l t, tally-hit _ _ _ _ (r .1) (omega arith) (rw s at t)))
     (λ w. let t = ne-eqb _ _ (λ q. w .0 .left (e ∙ q)) in rw (w .1, w .2, set-getD (g .cache) (g .i) 0) (wipe-miss _ _ _ _ (r .0) l t, tally-miss _ _ _ _ (r .1) (omega arith) (rw s at t)))
     (c .if1 .came)
-
-same-length : tie.Need-same-length Inv-loop μ-loop
-same-length c = search needs
 
 returns : tie.Need-returns Inv-loop μ-loop
 unfolding erase
@@ -73,14 +46,14 @@ drop-slots-spec =
     Inv-loop
     μ-loop
     loop-holds
-    mul-w
-    slice-read-w
-    address-of-requires
-    add-dropped
-    mul-cache
-    slice-write-cache
-    add-i
-    loop-less
+    (λ c. search needs)
+    (λ c. search needs)
+    (λ c κs. search needs)
+    (λ c. search needs)
+    (λ c. search needs)
+    (λ c. search needs)
+    (λ c. search needs)
+    (λ c. search needs)
     loop-again
-    same-length
+    (λ c. search needs)
     returns)

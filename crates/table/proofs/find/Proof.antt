@@ -16,32 +16,14 @@ Inv-loop words key spot₀ spot = Seeking (hasKey keyOf key) words spot
 abbrev μ-loop : tie.MeasureT-loop
 μ-loop words key spot₀ spot = length words - spot
 
-past-other-keys-requires : tie.Need-past-other-keys-requires Inv-loop μ-loop
-past-other-keys-requires c κs = search needs
-
 loop-holds : tie.Need-loop-holds Inv-loop μ-loop
 loop-holds c = c .past-other-keys .ensures
-
-mul-key-of : tie.Need-mul-key-of Inv-loop μ-loop
-mul-key-of c = search needs
-
-shared-slice-read-key-of : tie.Need-shared-slice-read-key-of Inv-loop μ-loop
-shared-slice-read-key-of c = search needs
-
-key-of-requires : tie.Need-key-of-requires Inv-loop μ-loop
-key-of-requires c κs = search needs
 
 returns : tie.Need-returns Inv-loop μ-loop
 unfolding find
 returns c =
     let t = c .before .before .before in
     seek-found _ _ _ (t .before .loop .inv) (t .loop-test .taken) (eq-eqb _ _ (sym (c .before .key-of .ensures) ∙ c .if1 .taken))
-
-add-spot : tie.Need-add-spot Inv-loop μ-loop
-add-spot c = search needs
-
-loop-less : tie.Need-loop-less Inv-loop μ-loop
-loop-less c = search needs
 
 loop-again : tie.Need-loop-again Inv-loop μ-loop
 loop-again c =
@@ -58,13 +40,13 @@ find-spec =
     (tie.spec
     Inv-loop
     μ-loop
-    past-other-keys-requires
+    (λ c κs. search needs)
     loop-holds
-    mul-key-of
-    shared-slice-read-key-of
-    key-of-requires
+    (λ c. search needs)
+    (λ c. search needs)
+    (λ c κs. search needs)
     returns
-    add-spot
-    loop-less
+    (λ c. search needs)
+    (λ c. search needs)
     loop-again
     returns-2)

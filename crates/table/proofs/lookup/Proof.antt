@@ -9,12 +9,6 @@ use Rattle.table.specs.TableLaws.{find-at}
 use Rattle.table.proofs.lookup.Statement.{statement}
 use Rattle.table.proofs.lookup.Tie as tie
 
-find-requires : tie.Need-find-requires
-find-requires c κs = search needs
-
-enum-known-there : tie.Need-enum-known-there
-enum-known-there c = search needs
-
 within : (c : tie.After-known-told) → c .before .there .given .0 .0 < length (c .before .before .before .before .before .args .words .now)
 within c = find-at keyOf _ _ _ (sym (c .before .before .before .find .ensures) ∙ c .before .there .given .1) .within
 
@@ -23,9 +17,6 @@ mul-result c = scaled-fits _ _ _ (within c) (c .before .before .before .before .
 
 shared-slice-read-result : tie.Need-shared-slice-read-result
 shared-slice-read-result c = within (c .before)
-
-enum-told : tie.Need-enum-told
-enum-told c = search needs
 
 returns : tie.Need-returns
 unfolding lookup
@@ -39,10 +30,10 @@ pub lookup-spec : {M : Type 1} → statement M
 lookup-spec =
     tie.close
     (tie.spec
-    find-requires
-    enum-known-there
+    (λ c κs. search needs)
+    (λ c. search needs)
     mul-result
     shared-slice-read-result
-    enum-told
+    (λ c. search needs)
     returns
     returns-2)

@@ -14,29 +14,14 @@ Inv-loop words spot₀ spot = Seeking isEmpty words spot
 abbrev μ-loop : tie.MeasureT-loop
 μ-loop words spot₀ spot = length words - spot
 
-past-filled-requires : tie.Need-past-filled-requires Inv-loop μ-loop
-past-filled-requires c κs = search needs
-
 loop-holds : tie.Need-loop-holds Inv-loop μ-loop
 loop-holds c = c .past-filled .ensures
-
-mul-if1 : tie.Need-mul-if1 Inv-loop μ-loop
-mul-if1 c = search needs
-
-shared-slice-read-if1 : tie.Need-shared-slice-read-if1 Inv-loop μ-loop
-shared-slice-read-if1 c = search needs
 
 returns : tie.Need-returns Inv-loop μ-loop
 unfolding lowestFree
 returns c =
     let t = c .before .before in
     seek-found _ _ _ (t .before .loop .inv) (t .loop-test .taken) (eq-eqb _ _ (c .if1 .taken))
-
-add-spot : tie.Need-add-spot Inv-loop μ-loop
-add-spot c = search needs
-
-loop-less : tie.Need-loop-less Inv-loop μ-loop
-loop-less c = search needs
 
 loop-again : tie.Need-loop-again Inv-loop μ-loop
 loop-again c =
@@ -53,12 +38,12 @@ lowest-free-spec =
     (tie.spec
     Inv-loop
     μ-loop
-    past-filled-requires
+    (λ c κs. search needs)
     loop-holds
-    mul-if1
-    shared-slice-read-if1
+    (λ c. search needs)
+    (λ c. search needs)
     returns
-    add-spot
-    loop-less
+    (λ c. search needs)
+    (λ c. search needs)
     loop-again
     returns-2)

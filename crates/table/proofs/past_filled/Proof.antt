@@ -17,56 +17,10 @@ abbrev μ-loop : tie.MeasureT-loop
 loop-holds : tie.Need-loop-holds Inv-loop μ-loop
 loop-holds c = seek-start _ _
 
-add-loop : tie.Need-add-loop Inv-loop μ-loop
-add-loop c = search needs
-
-mul-if1 : tie.Need-mul-if1 Inv-loop μ-loop
-mul-if1 c = search needs
-
-shared-slice-read-if1 : tie.Need-shared-slice-read-if1 Inv-loop μ-loop
-shared-slice-read-if1 c = search needs
-
-add-if1 : tie.Need-add-if1 Inv-loop μ-loop
-add-if1 c = search needs
-
-mul-if1-2 : tie.Need-mul-if1-2 Inv-loop μ-loop
-mul-if1-2 c = search needs
-
-shared-slice-read-if1-2 : tie.Need-shared-slice-read-if1-2 Inv-loop μ-loop
-shared-slice-read-if1-2 c = search needs
-
-add-if1-2 : tie.Need-add-if1-2 Inv-loop μ-loop
-add-if1-2 c = search needs
-
-mul-if1-3 : tie.Need-mul-if1-3 Inv-loop μ-loop
-mul-if1-3 c = search needs
-
-shared-slice-read-if1-3 : tie.Need-shared-slice-read-if1-3 Inv-loop μ-loop
-shared-slice-read-if1-3 c = search needs
-
-add-if1-3 : tie.Need-add-if1-3 Inv-loop μ-loop
-add-if1-3 c = search needs
-
-mul-if1-4 : tie.Need-mul-if1-4 Inv-loop μ-loop
-mul-if1-4 c = search needs
-
-shared-slice-read-if1-4 : tie.Need-shared-slice-read-if1-4 Inv-loop μ-loop
-shared-slice-read-if1-4 c = search needs
-
-returns : tie.Need-returns Inv-loop μ-loop
-returns c = search needs
-
-add-spot : tie.Need-add-spot Inv-loop μ-loop
-add-spot c = search needs
-
-loop-less : tie.Need-loop-less Inv-loop μ-loop
-loop-less c = search needs
-
 loop-again : tie.Need-loop-again Inv-loop μ-loop
-loop-again c = seek-block _ _ _ (c .before .before .before .before .before .before .loop .inv) (c .before .before .before .before .before .loop-test .taken) (c .if1 .left)
-
-returns-2 : tie.Need-returns-2 Inv-loop μ-loop
-returns-2 c = search needs
+loop-again c =
+    let c5 = c .before .before .before .before .before in
+    seek-block _ _ _ (c5 .before .loop .inv) (c5 .loop-test .taken) (c .if1 .left)
 
 pub past-filled-spec : {M : Type 1} → statement M
 past-filled-spec =
@@ -75,20 +29,20 @@ past-filled-spec =
     Inv-loop
     μ-loop
     loop-holds
-    add-loop
-    mul-if1
-    shared-slice-read-if1
-    add-if1
-    mul-if1-2
-    shared-slice-read-if1-2
-    add-if1-2
-    mul-if1-3
-    shared-slice-read-if1-3
-    add-if1-3
-    mul-if1-4
-    shared-slice-read-if1-4
-    returns
-    add-spot
-    loop-less
+    (λ c. search needs)
+    (λ c. search needs)
+    (λ c. search needs)
+    (λ c. search needs)
+    (λ c. search needs)
+    (λ c. search needs)
+    (λ c. search needs)
+    (λ c. search needs)
+    (λ c. search needs)
+    (λ c. search needs)
+    (λ c. search needs)
+    (λ c. search needs)
+    (λ c. search needs)
+    (λ c. search needs)
+    (λ c. search needs)
     loop-again
-    returns-2)
+    (λ c. search needs))

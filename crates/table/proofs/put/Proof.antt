@@ -10,12 +10,6 @@ use Rattle.table.specs.TableLaws.{place-within}
 use Rattle.table.proofs.put.Statement.{statement}
 use Rattle.table.proofs.put.Tie as tie
 
-place-requires : tie.Need-place-requires
-place-requires c κs = search needs
-
-enum-known-there : tie.Need-enum-known-there
-enum-known-there c = search needs
-
 found : (c : tie.After-known-told) → place keyOf (c .before .before .before .before .before .before .args .words .now) (c .before .before .before .before .before .before .args .key) ≡ At (c .before .there .given .0 .0)
 found c = sym (c .before .before .before .place .ensures) ∙ c .before .there .given .1
 
@@ -28,18 +22,9 @@ mul-words c = scaled-fits _ _ _ (within c) (c .before .before .before .before .b
 slice-write-words : tie.Need-slice-write-words
 slice-write-words c = within c
 
-enum-told : tie.Need-enum-told
-enum-told c = search needs
-
-same-length : tie.Need-same-length
-same-length c = search needs
-
 returns : tie.Need-returns
 unfolding put
 returns c = rw (found c)
-
-same-length-2 : tie.Need-same-length-2
-same-length-2 c = search needs
 
 returns-2 : tie.Need-returns-2
 unfolding put
@@ -49,12 +34,12 @@ pub put-spec : {M : Type 1} → statement M
 put-spec =
     tie.close
     (tie.spec
-    place-requires
-    enum-known-there
+    (λ c κs. search needs)
+    (λ c. search needs)
     mul-words
     slice-write-words
-    enum-told
-    same-length
+    (λ c. search needs)
+    (λ c. search needs)
     returns
-    same-length-2
+    (λ c. search needs)
     returns-2)

@@ -17,18 +17,9 @@ abbrev μ-loop : tie.MeasureT-loop
 loop-holds : tie.Need-loop-holds Inv-loop μ-loop
 loop-holds c = try-start _ _
 
-claims-requires : tie.Need-claims-requires Inv-loop μ-loop
-claims-requires c κs = search needs
-
 returns : tie.Need-returns Inv-loop μ-loop
 unfolding claimedElsewhere
 returns c = try-yes _ _ _ (c .before .before .before .before .loop .inv) (c .before .before .before .loop-test .taken) (rw (← c .before .claims .ensures) (c .if1 .taken))
-
-add-other : tie.Need-add-other Inv-loop μ-loop
-add-other c = search needs
-
-loop-less : tie.Need-loop-less Inv-loop μ-loop
-loop-less c = search needs
 
 loop-again : tie.Need-loop-again Inv-loop μ-loop
 loop-again c = try-next _ _ _ (c .before .before .before .before .loop .inv) (c .before .before .before .loop-test .taken) (rw (← c .before .claims .ensures) (c .if1 .left))
@@ -44,9 +35,9 @@ claimed-elsewhere-spec =
     Inv-loop
     μ-loop
     loop-holds
-    claims-requires
+    (λ c κs. search needs)
     returns
-    add-other
-    loop-less
+    (λ c. search needs)
+    (λ c. search needs)
     loop-again
     returns-2)

@@ -14,30 +14,14 @@ Inv-loop pairs key i₀ i = Seeking (hasKey pairKeyOf key) pairs i
 abbrev μ-loop : tie.MeasureT-loop
 μ-loop pairs key i₀ i = length pairs - i
 
-pair-key-requires : tie.Need-pair-key-requires Inv-loop μ-loop
-pair-key-requires c κs = search needs
-
 loop-holds : tie.Need-loop-holds Inv-loop μ-loop
 loop-holds c = seek-start _ _
 
-mul-pair-key-of : tie.Need-mul-pair-key-of Inv-loop μ-loop
-mul-pair-key-of c = search needs
-
-shared-slice-read-pair-key-of : tie.Need-shared-slice-read-pair-key-of Inv-loop μ-loop
-shared-slice-read-pair-key-of c = search needs
-
-pair-key-of-requires : tie.Need-pair-key-of-requires Inv-loop μ-loop
-pair-key-of-requires c κs = search needs
-
 returns : tie.Need-returns Inv-loop μ-loop
 unfolding find
-returns c = rw (← c .before .before .before .before .before .pair-key .ensures) (seek-found _ _ _ (c .before .before .before .before .loop .inv) (c .before .before .before .loop-test .taken) (rw (← c .before .pair-key-of .ensures) (eq-eqb _ _ (c .if1 .taken))))
-
-add-i : tie.Need-add-i Inv-loop μ-loop
-add-i c = search needs
-
-loop-less : tie.Need-loop-less Inv-loop μ-loop
-loop-less c = search needs
+returns c =
+    let c3 = c .before .before .before in
+    rw (← c3 .before .before .pair-key .ensures) (seek-found _ _ _ (c3 .before .loop .inv) (c3 .loop-test .taken) (rw (← c .before .pair-key-of .ensures) (eq-eqb _ _ (c .if1 .taken))))
 
 loop-again : tie.Need-loop-again Inv-loop μ-loop
 loop-again c = seek-next _ _ _ (c .before .before .before .before .loop .inv) (c .before .before .before .loop-test .taken) (rw (← c .before .pair-key-of .ensures) (ne-eqb _ _ (c .if1 .left)))
@@ -52,13 +36,13 @@ find-pair-spec =
     (tie.spec
     Inv-loop
     μ-loop
-    pair-key-requires
+    (λ c κs. search needs)
     loop-holds
-    mul-pair-key-of
-    shared-slice-read-pair-key-of
-    pair-key-of-requires
+    (λ c. search needs)
+    (λ c. search needs)
+    (λ c κs. search needs)
     returns
-    add-i
-    loop-less
+    (λ c. search needs)
+    (λ c. search needs)
     loop-again
     returns-2)

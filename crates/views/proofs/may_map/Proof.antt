@@ -3,24 +3,9 @@ use Rattle.model.specs.Views.{mayMap, shares}
 use Rattle.views.proofs.may_map.Statement.{statement}
 use Rattle.views.proofs.may_map.Tie as tie
 
-claims-requires : tie.Need-claims-requires
-claims-requires c κs = search needs
-
 returns : tie.Need-returns
 unfolding mayMap shares
 returns c = rw (← c .before .claims .ensures, c .if1 .taken)
-
-enum-told : tie.Need-enum-told
-enum-told c = search needs
-
-any-requires : tie.Need-any-requires
-any-requires c κs = search needs
-
-enum-told-2 : tie.Need-enum-told-2
-enum-told-2 c = search needs
-
-holds-requires : tie.Need-holds-requires
-holds-requires c κs = search needs
 
 returns-2 : tie.Need-returns-2
 unfolding mayMap shares
@@ -34,11 +19,11 @@ pub may-map-spec : {M : Type 1} → statement M
 may-map-spec =
     tie.close
     (tie.spec
-    claims-requires
+    (λ c κs. search needs)
     returns
-    enum-told
-    any-requires
-    enum-told-2
-    holds-requires
+    (λ c. search needs)
+    (λ c κs. search needs)
+    (λ c. search needs)
+    (λ c κs. search needs)
     returns-2
     returns-3)

@@ -2,20 +2,8 @@ use borrow.Author.Needs.{needs}
 use Rattle.batch.proofs.carry.settle.Statement.{statement}
 use Rattle.batch.proofs.carry.settle.Tie as tie
 
-returns : tie.Need-returns
-returns c = search needs
-
-begin-requires : tie.Need-begin-requires
-begin-requires c κs = search needs
-
-carry-out-requires : tie.Need-carry-out-requires
-carry-out-requires c κs = search needs
-
 print-answers-requires : tie.Need-print-answers-requires
-print-answers-requires c κs = search needs
-
-moved-requires : tie.Need-moved-requires
-moved-requires c κs = search needs
+print-answers-requires c κs = c .before .before .before .before .before .before .before .before .before .before .before .before .before .begin .ensures .few-rows
 
 returns-2 : tie.Need-returns-2
 returns-2 c =
@@ -27,9 +15,9 @@ pub settle-spec : {M : Type 1} → statement M
 settle-spec =
     tie.close
     (tie.spec
-    returns
-    begin-requires
-    carry-out-requires
+    (λ c. search needs)
+    (λ c κs. search needs)
+    (λ c κs. search needs)
     print-answers-requires
-    moved-requires
+    (λ c κs. search needs)
     returns-2)

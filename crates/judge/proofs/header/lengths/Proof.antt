@@ -3,15 +3,6 @@ use Rattle.numbers.specs.DecidesLaws.{decides-as, decides-and, decides-equal}
 use Rattle.judge.proofs.header.lengths.Statement.{statement}
 use Rattle.judge.proofs.header.lengths.Tie as tie
 
-mul-result : tie.Need-mul-result
-mul-result c = search needs
-
-route-lengths-requires : tie.Need-route-lengths-requires
-route-lengths-requires c κs = search needs
-
-route-lengths-requires-2 : tie.Need-route-lengths-requires-2
-route-lengths-requires-2 c κs = search needs
-
 returns : tie.Need-returns
 returns c =
     decides-as
@@ -20,4 +11,4 @@ returns c =
     (λ s. (((s .sets, s .pairs), s .cpu), s .dma))
 
 pub lengths-spec : {M : Type 1} → statement M
-lengths-spec = tie.close (tie.spec mul-result route-lengths-requires route-lengths-requires-2 returns)
+lengths-spec = tie.close (tie.spec (λ c. search needs) (λ c κs. search needs) (λ c κs. search needs) returns)

@@ -3,9 +3,6 @@ use Rattle.numbers.specs.DecidesLaws.{decides-as, decides-and, decides-less, de
 use Rattle.judge.proofs.header.setup_numbers.Statement.{statement}
 use Rattle.judge.proofs.header.setup_numbers.Tie as tie
 
-span-within-requires : tie.Need-span-within-requires
-span-within-requires c κs = search needs
-
 returns : tie.Need-returns
 returns c =
     rw (c .span-within .ensures)
@@ -15,4 +12,4 @@ returns c =
     (λ s. (((s .some-pages, s .most-pages), s .shared), s .unit-count)))
 
 pub setup-numbers-spec : {M : Type 1} → statement M
-setup-numbers-spec = tie.close (tie.spec span-within-requires returns)
+setup-numbers-spec = tie.close (tie.spec (λ c κs. search needs) returns)

@@ -3,9 +3,6 @@ use Rattle.numbers.specs.DecidesLaws.{decides-as, decides-and, decides-less, de
 use Rattle.judge.proofs.header.unit_good.Statement.{statement}
 use Rattle.judge.proofs.header.unit_good.Tie as tie
 
-region-span-requires : tie.Need-region-span-requires
-region-span-requires c κs = search needs
-
 returns : tie.Need-returns
 returns c =
     rw (c .region-span .ensures)
@@ -15,4 +12,4 @@ returns c =
     (λ u. ((u .vm, u .access), u .span)))
 
 pub unit-good-spec : {M : Type 1} → statement M
-unit-good-spec = tie.close (tie.spec region-span-requires returns)
+unit-good-spec = tie.close (tie.spec (λ c κs. search needs) returns)

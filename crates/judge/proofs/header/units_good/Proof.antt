@@ -17,24 +17,9 @@ abbrev μ-loop : tie.MeasureT-loop
 loop-holds : tie.Need-loop-holds Inv-loop μ-loop
 loop-holds c = judge-start
 
-mul-unit : tie.Need-mul-unit Inv-loop μ-loop
-mul-unit c = search needs
-
-array-copy-out-unit : tie.Need-array-copy-out-unit Inv-loop μ-loop
-array-copy-out-unit c = search needs
-
-unit-good-requires : tie.Need-unit-good-requires Inv-loop μ-loop
-unit-good-requires c κs = search needs
-
 returns : tie.Need-returns Inv-loop μ-loop
 returns c =
     says-no (λ all. failed (c .before .unit-good .ensures) (c .if1 .taken) (all _ (c .before .before .before .loop-test .taken)))
-
-add-k : tie.Need-add-k Inv-loop μ-loop
-add-k c = search needs
-
-loop-less : tie.Need-loop-less Inv-loop μ-loop
-loop-less c = search needs
 
 loop-again : tie.Need-loop-again Inv-loop μ-loop
 loop-again c = judge-next (c .before .before .before .before .loop .inv) (c .before .before .before .loop-test .taken) (passed (c .before .unit-good .ensures) (c .if1 .left))
@@ -49,11 +34,11 @@ units-good-spec =
     Inv-loop
     μ-loop
     loop-holds
-    mul-unit
-    array-copy-out-unit
-    unit-good-requires
+    (λ c. search needs)
+    (λ c. search needs)
+    (λ c κs. search needs)
     returns
-    add-k
-    loop-less
+    (λ c. search needs)
+    (λ c. search needs)
     loop-again
     returns-2)

@@ -4,9 +4,6 @@ use Rattle.judge.specs.RouteLaws.{filled}
 use Rattle.judge.proofs.routes.caches.Statement.{statement}
 use Rattle.judge.proofs.routes.caches.Tie as tie
 
-slots-requires : tie.Need-slots-requires
-slots-requires c κs = search needs
-
 returns : tie.Need-returns
 returns c = says-no (λ g. failed (c .before .slots .ensures) (c .if1 .taken) (λ w h. let s = g .each w h in record { port = s .port; filled = s .filled }))
 
@@ -22,4 +19,4 @@ returns-2 c =
     (λ g. record { each = λ w h. g .each w h .entry; once = g .once })
 
 pub caches-spec : {M : Type 1} → statement M
-caches-spec = tie.close (tie.spec slots-requires returns slots-held-requires returns-2)
+caches-spec = tie.close (tie.spec (λ c κs. search needs) returns slots-held-requires returns-2)

@@ -16,23 +16,11 @@ abbrev μ-loop : tie.MeasureT-loop
 loop-holds : tie.Need-loop-holds Inv-loop μ-loop
 loop-holds c = judge-start
 
-mul-entry-good : tie.Need-mul-entry-good Inv-loop μ-loop
-mul-entry-good c = search needs
-
-shared-slice-read-entry-good : tie.Need-shared-slice-read-entry-good Inv-loop μ-loop
-shared-slice-read-entry-good c = search needs
-
 entry-good-requires : tie.Need-entry-good-requires Inv-loop μ-loop
 entry-good-requires c κs = c .before .before .before .before .before .before .before .pre
 
 returns : tie.Need-returns Inv-loop μ-loop
 returns c = says-no (λ all. failed (c .before .entry-good .ensures) (c .if1 .taken) (each-place _ _ all _ (c .before .before .before .loop-test .taken)))
-
-add-i : tie.Need-add-i Inv-loop μ-loop
-add-i c = search needs
-
-loop-less : tie.Need-loop-less Inv-loop μ-loop
-loop-less c = search needs
 
 loop-again : tie.Need-loop-again Inv-loop μ-loop
 loop-again c = judge-next (c .before .before .before .before .loop .inv) (c .before .before .before .loop-test .taken) (passed (c .before .entry-good .ensures) (c .if1 .left))
@@ -47,11 +35,11 @@ entries-spec =
     Inv-loop
     μ-loop
     loop-holds
-    mul-entry-good
-    shared-slice-read-entry-good
+    (λ c. search needs)
+    (λ c. search needs)
     entry-good-requires
     returns
-    add-i
-    loop-less
+    (λ c. search needs)
+    (λ c. search needs)
     loop-again
     returns-2)

@@ -8,19 +8,10 @@ use Rattle.judge.proofs.routes.entry_good.Tie as tie
 returns : tie.Need-returns
 returns c = says-yes (λ f. absurd (f (c .if1 .taken)))
 
-known-word-requires : tie.Need-known-word-requires
-known-word-requires c κs = search needs
-
 returns-2 : tie.Need-returns-2
 returns-2 c =
     says-no
     (λ h. let g = h (c .before .before .if1 .left) in failed (c .before .known-word .ensures) (c .if2 .taken) (record { port = g .port; filled = g .filled; page = g .page; vm = g .vm }))
-
-vm-of-requires : tie.Need-vm-of-requires
-vm-of-requires c κs = search needs
-
-page-of-requires : tie.Need-page-of-requires
-page-of-requires c κs = search needs
 
 may-map-requires : tie.Need-may-map-requires
 may-map-requires c κs =
@@ -30,18 +21,19 @@ may-map-requires c κs =
 
 returns-3 : tie.Need-returns-3
 returns-3 c =
-    let k = passed (c .before .before .before .before .known-word .ensures) (c .before .before .before .if2 .left) in
-    rw (c .may-map .ensures, c .before .before .vm-of .ensures, c .before .page-of .ensures)
-    (decides-as (decides-itself _) (λ m _. record { port = k .port; filled = k .filled; page = k .page; vm = k .vm; may = m }) (λ h. h (c .before .before .before .before .before .if1 .left) .may))
+    let c2 = c .before .before in
+    let k = passed (c2 .before .before .known-word .ensures) (c2 .before .if2 .left) in
+    rw (c .may-map .ensures, c2 .vm-of .ensures, c .before .page-of .ensures)
+    (decides-as (decides-itself _) (λ m _. record { port = k .port; filled = k .filled; page = k .page; vm = k .vm; may = m }) (λ h. h (c2 .before .before .before .if1 .left) .may))
 
 pub entry-good-spec : {M : Type 1} → statement M
 entry-good-spec =
     tie.close
     (tie.spec
     returns
-    known-word-requires
+    (λ c κs. search needs)
     returns-2
-    vm-of-requires
-    page-of-requires
+    (λ c κs. search needs)
+    (λ c κs. search needs)
     may-map-requires
     returns-3)

@@ -18,32 +18,18 @@ abbrev μ-loop : tie.MeasureT-loop
 loop-holds : tie.Need-loop-holds Inv-loop μ-loop
 loop-holds c = judge-start
 
-mul-port-good : tie.Need-mul-port-good Inv-loop μ-loop
-mul-port-good c = search needs
-
-array-read-port-good : tie.Need-array-read-port-good Inv-loop μ-loop
-array-read-port-good c = search needs
-
-port-good-requires : tie.Need-port-good-requires Inv-loop μ-loop
-port-good-requires c κs = search needs
-
 returns : tie.Need-returns Inv-loop μ-loop
 returns c =
     let ports = c .before .before .before .before .args .t2 in
     let h : c .before .before .before .loop .port < length ports = search needs in
     says-no (λ all. failed (c .before .port-good .ensures) (c .if1 .taken) (rw (getD-there ports _ 0 IDLE h) (all _ (c .before .before .loop-test .taken))))
 
-add-port : tie.Need-add-port Inv-loop μ-loop
-add-port c = search needs
-
-loop-less : tie.Need-loop-less Inv-loop μ-loop
-loop-less c = search needs
-
 loop-again : tie.Need-loop-again Inv-loop μ-loop
 loop-again c =
-    let ports = c .before .before .before .before .args .t2 in
-    let h : c .before .before .before .loop .port < length ports = search needs in
-    judge-next (c .before .before .before .loop .inv) (c .before .before .loop-test .taken) (rw (getD-there ports _ IDLE 0 h) (passed (c .before .port-good .ensures) (c .if1 .left)))
+    let c2 = c .before .before in
+    let ports = c2 .before .before .args .t2 in
+    let h : c2 .before .loop .port < length ports = search needs in
+    judge-next (c2 .before .loop .inv) (c2 .loop-test .taken) (rw (getD-there ports _ IDLE 0 h) (passed (c .before .port-good .ensures) (c .if1 .left)))
 
 returns-2 : tie.Need-returns-2 Inv-loop μ-loop
 returns-2 c = says-yes (judge-end (c .before .loop .inv) (c .loop-test .left))
@@ -55,11 +41,11 @@ ports-spec =
     Inv-loop
     μ-loop
     loop-holds
-    mul-port-good
-    array-read-port-good
-    port-good-requires
+    (λ c. search needs)
+    (λ c. search needs)
+    (λ c κs. search needs)
     returns
-    add-port
-    loop-less
+    (λ c. search needs)
+    (λ c. search needs)
     loop-again
     returns-2)

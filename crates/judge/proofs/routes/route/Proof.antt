@@ -19,14 +19,15 @@ returns-2 : tie.Need-returns-2
 returns-2 c = says-no (λ g. failed (c .before .caches .ensures) (c .if2 .taken) (g .cache))
 
 ports-requires : tie.Need-ports-requires
-ports-requires c κs = c .before .before .before .before .before .before .before .before .before .before .pre .3 .known-vms
+ports-requires c κs = c .before .before .before .before .before .before .before .before .before .before .before .pre .3 .known-vms
 
 returns-3 : tie.Need-returns-3
 returns-3 c =
-    let m = passed (c .before .before .before .before .maps .ensures) (c .before .before .before .if1 .left) in
+    let c4 = c .before .before .before .before in
+    let m = passed (c4 .before .before .maps .ensures) (c4 .before .if1 .left) in
     decides-as
-    (decides-and (c .ports .ensures) (decides-less _ _))
-    (λ q. record { map = m .map; walker = m .walker; same = m .same; cache = passed (c .before .before .caches .ensures) (c .before .if2 .left); ports = q .0; hand = q .1 })
+    (decides-and (c .before .ports .ensures) (decides-less _ _))
+    (λ q. record { map = m .map; walker = m .walker; same = m .same; cache = passed (c4 .caches .ensures) (c .before .before .before .if2 .left); ports = q .0; hand = q .1 })
     (λ g. (g .ports, g .hand))
 
 pub route-spec : {M : Type 1} → statement M

@@ -4,12 +4,6 @@ use Rattle.judge.specs.DecideLaws.{decides-unless-empty}
 use Rattle.judge.proofs.routes.slot_packed.Statement.{statement}
 use Rattle.judge.proofs.routes.slot_packed.Tie as tie
 
-port-of-requires : tie.Need-port-of-requires
-port-of-requires c κs = search needs
-
-filled-of-requires : tie.Need-filled-of-requires
-filled-of-requires c κs = search needs
-
 returns : tie.Need-returns
 returns c =
     rw (c .before .port-of .ensures, c .filled-of .ensures)
@@ -17,4 +11,4 @@ returns c =
     (decides-as (decides-and (decides-less _ _) (decides-equal _ _)) (λ p. record { port = p .0; filled = p .1 }) (λ s. (s .port, s .filled))))
 
 pub slot-packed-spec : {M : Type 1} → statement M
-slot-packed-spec = tie.close (tie.spec port-of-requires filled-of-requires returns)
+slot-packed-spec = tie.close (tie.spec (λ c κs. search needs) (λ c κs. search needs) returns)

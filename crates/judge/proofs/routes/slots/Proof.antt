@@ -16,23 +16,8 @@ abbrev μ-loop : tie.MeasureT-loop
 loop-holds : tie.Need-loop-holds Inv-loop μ-loop
 loop-holds c = judge-start
 
-mul-slot-packed : tie.Need-mul-slot-packed Inv-loop μ-loop
-mul-slot-packed c = search needs
-
-shared-slice-read-slot-packed : tie.Need-shared-slice-read-slot-packed Inv-loop μ-loop
-shared-slice-read-slot-packed c = search needs
-
-slot-packed-requires : tie.Need-slot-packed-requires Inv-loop μ-loop
-slot-packed-requires c κs = search needs
-
 returns : tie.Need-returns Inv-loop μ-loop
 returns c = says-no (λ all. failed (c .before .slot-packed .ensures) (c .if1 .taken) (each-place _ _ all _ (c .before .before .before .loop-test .taken)))
-
-add-i : tie.Need-add-i Inv-loop μ-loop
-add-i c = search needs
-
-loop-less : tie.Need-loop-less Inv-loop μ-loop
-loop-less c = search needs
 
 loop-again : tie.Need-loop-again Inv-loop μ-loop
 loop-again c = judge-next (c .before .before .before .before .loop .inv) (c .before .before .before .loop-test .taken) (passed (c .before .slot-packed .ensures) (c .if1 .left))
@@ -47,11 +32,11 @@ slots-spec =
     Inv-loop
     μ-loop
     loop-holds
-    mul-slot-packed
-    shared-slice-read-slot-packed
-    slot-packed-requires
+    (λ c. search needs)
+    (λ c. search needs)
+    (λ c κs. search needs)
     returns
-    add-i
-    loop-less
+    (λ c. search needs)
+    (λ c. search needs)
     loop-again
     returns-2)

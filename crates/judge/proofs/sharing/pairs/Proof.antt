@@ -15,36 +15,22 @@ abbrev μ-loop : tie.MeasureT-loop
 loop-holds : tie.Need-loop-holds Inv-loop μ-loop
 loop-holds c = let p = c .before .before .before .pre in mark-start _ _ _ (p .2) (p .3) (p .4) _ _ (p .1)
 
-mul-mark-pair : tie.Need-mul-mark-pair Inv-loop μ-loop
-mul-mark-pair c = search needs
-
-shared-slice-read-mark-pair : tie.Need-shared-slice-read-mark-pair Inv-loop μ-loop
-shared-slice-read-mark-pair c = search needs
-
 mark-pair-requires : tie.Need-mark-pair-requires Inv-loop μ-loop
 mark-pair-requires c κs = let p = c .before .before .before .before .before .before .before .pre in (p .0, c .before .before .before .loop .inv .marks .size, p .2, p .3)
 
-same-length : tie.Need-same-length Inv-loop μ-loop
-same-length c = search needs
-
 returns : tie.Need-returns Inv-loop μ-loop
 returns c =
-    let p = c .before .before .before .before .before .before .before .before .before .before .before .pre in
-    mark-stop _ _ _ (p .2) (p .3) (p .4) _ _ _ _ _ (c .before .before .before .before .before .before .before .loop .inv) (c .before .before .before .before .before .before .loop-test .taken) (c .before .before .before .mark-pair .ensures) (c .if1 .taken)
-
-add-i : tie.Need-add-i Inv-loop μ-loop
-add-i c = search needs
-
-loop-less : tie.Need-loop-less Inv-loop μ-loop
-loop-less c = search needs
+    let c3 = c .before .before .before in
+    let c6 = c3 .before .before .before in
+    let p = c6 .before .before .before .before .before .pre in
+    mark-stop _ _ _ (p .2) (p .3) (p .4) _ _ _ _ _ (c6 .before .loop .inv) (c6 .loop-test .taken) (c3 .mark-pair .ensures) (c .if1 .taken)
 
 loop-again : tie.Need-loop-again Inv-loop μ-loop
 loop-again c =
-    let p = c .before .before .before .before .before .before .before .before .before .before .before .pre in
-    mark-next _ _ _ (p .2) (p .3) (p .4) _ _ _ _ _ (c .before .before .before .before .before .before .before .loop .inv) (c .before .before .before .before .before .before .loop-test .taken) (c .before .before .before .mark-pair .ensures) (c .if1 .left)
-
-same-length-2 : tie.Need-same-length-2 Inv-loop μ-loop
-same-length-2 c = search needs
+    let c3 = c .before .before .before in
+    let c6 = c3 .before .before .before in
+    let p = c6 .before .before .before .before .before .pre in
+    mark-next _ _ _ (p .2) (p .3) (p .4) _ _ _ _ _ (c6 .before .loop .inv) (c6 .loop-test .taken) (c3 .mark-pair .ensures) (c .if1 .left)
 
 returns-2 : tie.Need-returns-2 Inv-loop μ-loop
 returns-2 c =
@@ -58,13 +44,13 @@ pairs-spec =
     Inv-loop
     μ-loop
     loop-holds
-    mul-mark-pair
-    shared-slice-read-mark-pair
+    (λ c. search needs)
+    (λ c. search needs)
     mark-pair-requires
-    same-length
+    (λ c. search needs)
     returns
-    add-i
-    loop-less
+    (λ c. search needs)
+    (λ c. search needs)
     loop-again
-    same-length-2
+    (λ c. search needs)
     returns-2)

@@ -19,27 +19,6 @@ abbrev μ-loop : tie.MeasureT-loop
 loop-holds : tie.Need-loop-holds Inv-loop μ-loop
 loop-holds c = wipe-start _ _
 
-mul-pair-key-of : tie.Need-mul-pair-key-of Inv-loop μ-loop
-mul-pair-key-of c = search needs
-
-slice-read-pair-key-of : tie.Need-slice-read-pair-key-of Inv-loop μ-loop
-slice-read-pair-key-of c = search needs
-
-pair-key-of-requires : tie.Need-pair-key-of-requires Inv-loop μ-loop
-pair-key-of-requires c κs = search needs
-
-mul-pairs : tie.Need-mul-pairs Inv-loop μ-loop
-mul-pairs c = search needs
-
-slice-write-pairs : tie.Need-slice-write-pairs Inv-loop μ-loop
-slice-write-pairs c = search needs
-
-add-i : tie.Need-add-i Inv-loop μ-loop
-add-i c = search needs
-
-loop-less : tie.Need-loop-less Inv-loop μ-loop
-loop-less c = search needs
-
 loop-again : tie.Need-loop-again Inv-loop μ-loop
 loop-again c =
     let r = c .before .before .before .before .loop .inv in
@@ -48,9 +27,6 @@ loop-again c =
     ⊎-elim (λ w. rw (w .1) (wipe-hit _ _ _ _ r l (eq-eqb _ _ (sym e ∙ w .0 .taken))))
     (λ w. rw (w .1) (wipe-miss _ _ _ _ r l (ne-eqb _ _ (λ q. w .0 .left (e ∙ q)))))
     (c .if1 .came)
-
-same-length : tie.Need-same-length Inv-loop μ-loop
-same-length c = search needs
 
 returns : tie.Need-returns Inv-loop μ-loop
 unfolding erase
@@ -63,13 +39,13 @@ erase-pair-spec =
     Inv-loop
     μ-loop
     loop-holds
-    mul-pair-key-of
-    slice-read-pair-key-of
-    pair-key-of-requires
-    mul-pairs
-    slice-write-pairs
-    add-i
-    loop-less
+    (λ c. search needs)
+    (λ c. search needs)
+    (λ c κs. search needs)
+    (λ c. search needs)
+    (λ c. search needs)
+    (λ c. search needs)
+    (λ c. search needs)
     loop-again
-    same-length
+    (λ c. search needs)
     returns)

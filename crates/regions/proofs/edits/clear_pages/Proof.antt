@@ -15,24 +15,6 @@ abbrev μ-loop : tie.MeasureT-loop
 loop-holds : tie.Need-loop-holds Inv-loop μ-loop
 loop-holds c = clear-start _ _ _ _
 
-page-in-requires : tie.Need-page-in-requires Inv-loop μ-loop
-page-in-requires c κs = search needs
-
-other-side-requires : tie.Need-other-side-requires Inv-loop μ-loop
-other-side-requires c κs = search needs
-
-claims-requires : tie.Need-claims-requires Inv-loop μ-loop
-claims-requires c κs = search needs
-
-clear-page-requires : tie.Need-clear-page-requires Inv-loop μ-loop
-clear-page-requires c κs = search needs
-
-add-k : tie.Need-add-k Inv-loop μ-loop
-add-k c = search needs
-
-loop-less : tie.Need-loop-less Inv-loop μ-loop
-loop-less c = search needs
-
 loop-again : tie.Need-loop-again Inv-loop μ-loop
 loop-again c =
     let g = c .before .before .before in
@@ -44,9 +26,6 @@ loop-again c =
     (λ w. rw (w .1) (clear-miss _ _ _ _ _ _ r h (rw (← g .page-in .ensures, ← c .before .before .other-side .ensures, ← c .before .claims .ensures) (not-false _ (w .0 .left)))))
     (c .if2 .came)
 
-same-length : tie.Need-same-length Inv-loop μ-loop
-same-length c = search needs
-
 returns : tie.Need-returns Inv-loop μ-loop
 returns c = clear-end _ _ _ _ _ _ (c .before .before .loop .inv) (c .if1 .left)
 
@@ -57,12 +36,12 @@ clear-pages-spec =
     Inv-loop
     μ-loop
     loop-holds
-    page-in-requires
-    other-side-requires
-    claims-requires
-    clear-page-requires
-    add-k
-    loop-less
+    (λ c κs. search needs)
+    (λ c κs. search needs)
+    (λ c κs. search needs)
+    (λ c κs. search needs)
+    (λ c. search needs)
+    (λ c. search needs)
     loop-again
-    same-length
+    (λ c. search needs)
     returns)

@@ -17,29 +17,11 @@ abbrev μ-loop : tie.MeasureT-loop
 loop-holds : tie.Need-loop-holds Inv-loop μ-loop
 loop-holds c = sweep-start _ _ _
 
-key-in-requires : tie.Need-key-in-requires Inv-loop μ-loop
-key-in-requires c κs = search needs
-
-entry-in-requires : tie.Need-entry-in-requires Inv-loop μ-loop
-entry-in-requires c κs = search needs
-
-put-requires : tie.Need-put-requires Inv-loop μ-loop
-put-requires c κs = search needs
-
-add-k : tie.Need-add-k Inv-loop μ-loop
-add-k c = search needs
-
-loop-less : tie.Need-loop-less Inv-loop μ-loop
-loop-less c = search needs
-
 loop-again : tie.Need-loop-again Inv-loop μ-loop
 loop-again c =
     let p = c .before .before in
     let t = p .before .before .before .before in
     sweep-next _ _ _ _ _ _ (t .before .before .loop .inv) (t .if1 .taken) (rw (p .put .ensures, p .before .before .key-in .ensures, p .before .entry-in .ensures)) (p .put .kept .0)
-
-same-length : tie.Need-same-length Inv-loop μ-loop
-same-length c = search needs
 
 returns : tie.Need-returns Inv-loop μ-loop
 unfolding insertTable
@@ -52,11 +34,11 @@ install-spec =
     Inv-loop
     μ-loop
     loop-holds
-    key-in-requires
-    entry-in-requires
-    put-requires
-    add-k
-    loop-less
+    (λ c κs. search needs)
+    (λ c κs. search needs)
+    (λ c κs. search needs)
+    (λ c. search needs)
+    (λ c. search needs)
     loop-again
-    same-length
+    (λ c. search needs)
     returns)

@@ -14,26 +14,11 @@ abbrev μ-loop : tie.MeasureT-loop
 loop-holds : tie.Need-loop-holds Inv-loop μ-loop
 loop-holds c = sweep-start _ _ _
 
-page-in-requires : tie.Need-page-in-requires Inv-loop μ-loop
-page-in-requires c κs = search needs
-
-return-page-requires : tie.Need-return-page-requires Inv-loop μ-loop
-return-page-requires c κs = search needs
-
-add-k : tie.Need-add-k Inv-loop μ-loop
-add-k c = search needs
-
-loop-less : tie.Need-loop-less Inv-loop μ-loop
-loop-less c = search needs
-
 loop-again : tie.Need-loop-again Inv-loop μ-loop
 loop-again c =
     let p = c .before .before in
     let t = p .before .before .before in
     sweep-next _ _ _ _ _ _ (t .before .before .loop .inv) (t .if1 .taken) (rw (p .return-page .ensures, p .before .page-in .ensures)) (p .return-page .kept .1 .0)
-
-same-length : tie.Need-same-length Inv-loop μ-loop
-same-length c = search needs
 
 returns : tie.Need-returns Inv-loop μ-loop
 unfolding removeSets
@@ -46,10 +31,10 @@ return-pages-spec =
     Inv-loop
     μ-loop
     loop-holds
-    page-in-requires
-    return-page-requires
-    add-k
-    loop-less
+    (λ c κs. search needs)
+    (λ c κs. search needs)
+    (λ c. search needs)
+    (λ c. search needs)
     loop-again
-    same-length
+    (λ c. search needs)
     returns)

@@ -18,30 +18,6 @@ abbrev μ-loop : tie.MeasureT-loop
 loop-holds : tie.Need-loop-holds Inv-loop μ-loop
 loop-holds c = (wipe-start _ _, tally-start _ _)
 
-mul-in-region : tie.Need-mul-in-region Inv-loop μ-loop
-mul-in-region c = search needs
-
-slice-read-in-region : tie.Need-slice-read-in-region Inv-loop μ-loop
-slice-read-in-region c = search needs
-
-in-region-requires : tie.Need-in-region-requires Inv-loop μ-loop
-in-region-requires c κs = search needs
-
-mul-words : tie.Need-mul-words Inv-loop μ-loop
-mul-words c = search needs
-
-slice-write-words : tie.Need-slice-write-words Inv-loop μ-loop
-slice-write-words c = search needs
-
-add-swept : tie.Need-add-swept Inv-loop μ-loop
-add-swept c = search needs
-
-add-i : tie.Need-add-i Inv-loop μ-loop
-add-i c = search needs
-
-loop-less : tie.Need-loop-less Inv-loop μ-loop
-loop-less c = search needs
-
 loop-again : tie.Need-loop-again Inv-loop μ-loop
 loop-again c =
     let r = c .before .before .before .before .loop .inv in
@@ -52,14 +28,11 @@ loop-again c =
     (λ w. let t = e ∙ w .0 .left in rw (w .1, w .2) (wipe-miss _ _ _ _ (r .0) l t, tally-miss _ _ _ _ (r .1) (omega arith) (rw s at t)))
     (c .if1 .came)
 
-same-length : tie.Need-same-length Inv-loop μ-loop
-same-length c = search needs
-
 returns : tie.Need-returns Inv-loop μ-loop
 unfolding removeTable
 returns c =
     let r = c .before .loop .inv in
-    (tally-end _ _ _ _ (r .1) (omega arith), wipe-end _ _ _ _ (r .0) (c .loop-test .left))
+    record { dropped = tally-end _ _ _ _ (r .1) (omega arith); words = wipe-end _ _ _ _ (r .0) (c .loop-test .left) }
 
 pub sweep-spec : {M : Type 1} → statement M
 sweep-spec =
@@ -68,14 +41,14 @@ sweep-spec =
     Inv-loop
     μ-loop
     loop-holds
-    mul-in-region
-    slice-read-in-region
-    in-region-requires
-    mul-words
-    slice-write-words
-    add-swept
-    add-i
-    loop-less
+    (λ c. search needs)
+    (λ c. search needs)
+    (λ c κs. search needs)
+    (λ c. search needs)
+    (λ c. search needs)
+    (λ c. search needs)
+    (λ c. search needs)
+    (λ c. search needs)
     loop-again
-    same-length
+    (λ c. search needs)
     returns)

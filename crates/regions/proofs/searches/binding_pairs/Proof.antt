@@ -6,12 +6,6 @@ use lib.ListN.{length}
 use Rattle.regions.proofs.searches.binding_pairs.Statement.{statement}
 use Rattle.regions.proofs.searches.binding_pairs.Tie as tie
 
-enum-told : tie.Need-enum-told
-enum-told c = search needs
-
-enum-told-2 : tie.Need-enum-told-2
-enum-told-2 c = search needs
-
 returns : tie.Need-returns
 returns c =
     let pairs = c .before .before .args .pairs .now in
@@ -21,4 +15,4 @@ returns-2 : tie.Need-returns-2
 returns-2 c = rw (c .enum-told2 .given .1) (record { few = search needs; part = refl })
 
 pub binding-pairs-spec : {M : Type 1} → statement M
-binding-pairs-spec = tie.close (tie.spec enum-told enum-told-2 returns returns-2)
+binding-pairs-spec = tie.close (tie.spec (λ c. search needs) (λ c. search needs) returns returns-2)

@@ -36,55 +36,30 @@ found x =
 region-holds : tie.Need-region-holds Inv-entry μ-entry Inv-region μ-region
 region-holds c = rise-start _ _
 
-key-in-requires : tie.Need-key-in-requires Inv-entry μ-entry Inv-region μ-region
-key-in-requires c κs = search needs
-
 entry-holds : tie.Need-entry-holds Inv-entry μ-entry Inv-region μ-region
 entry-holds c = seek-start _ _
-
-mul-w : tie.Need-mul-w Inv-entry μ-entry Inv-region μ-region
-mul-w c = search needs
-
-shared-slice-read-w : tie.Need-shared-slice-read-w Inv-entry μ-entry Inv-region μ-region
-shared-slice-read-w c = search needs
-
-key-of-requires : tie.Need-key-of-requires Inv-entry μ-entry Inv-region μ-region
-key-of-requires c κs = search needs
-
-add-spot : tie.Need-add-spot Inv-entry μ-entry Inv-region μ-region
-add-spot c = search needs
-
-entry-less : tie.Need-entry-less Inv-entry μ-entry Inv-region μ-region
-entry-less c = search needs
 
 entry-again : tie.Need-entry-again Inv-entry μ-entry Inv-region μ-region
 entry-again c =
     let t = c .before .before .before in
     seek-next _ _ _ (t .before .entry .inv) (t .if2 .left) (ne-eqb _ _ (λ q. c .if3 .left (c .before .key-of .ensures ∙ q)))
 
-entry-in-requires : tie.Need-entry-in-requires Inv-entry μ-entry Inv-region μ-region
-entry-in-requires c κs = search needs
-
-add-k : tie.Need-add-k Inv-entry μ-entry Inv-region μ-region
-add-k c = search needs
-
-region-less : tie.Need-region-less Inv-entry μ-entry Inv-region μ-region
-region-less c = search needs
-
 region-again : tie.Need-region-again Inv-entry μ-entry Inv-region μ-region
 region-again c =
-    let t = c .before .before .before .before .before in
+    let c4 = c .before .before .before .before in
+    let t = c4 .before in
     rise-next _ _ _ (t .before .before .region .inv) (t .if1 .left)
-    (rw (← c .before .before .before .before .key-in .ensures, ← found (c .before .before), ← c .before .entry-in .ensures, eq-eqb _ _ (c .if4 .left)))
+    (rw (← c4 .key-in .ensures, ← found (c .before .before), ← c .before .entry-in .ensures, eq-eqb _ _ (c .if4 .left)))
 
 returns : tie.Need-returns Inv-entry μ-entry Inv-region μ-region
 returns c = rise-none _ _ _ (c .before .before .region .inv) (c .if1 .taken)
 
 returns-2 : tie.Need-returns-2 Inv-entry μ-entry Inv-region μ-region
 returns-2 c =
-    let t = c .before .before .before .before .before in
+    let c4 = c .before .before .before .before in
+    let t = c4 .before in
     rise-found _ _ _ (t .before .before .region .inv) (t .if1 .left)
-    (rw (← c .before .before .before .before .key-in .ensures, ← found (c .before .before), ← c .before .entry-in .ensures, ne-eqb _ _ (c .if4 .taken)))
+    (rw (← c4 .key-in .ensures, ← found (c .before .before), ← c .before .entry-in .ensures, ne-eqb _ _ (c .if4 .taken)))
 
 pub lowest-differs-spec : {M : Type 1} → statement M
 lowest-differs-spec =
@@ -95,17 +70,17 @@ lowest-differs-spec =
     Inv-region
     μ-region
     region-holds
-    key-in-requires
+    (λ c κs. search needs)
     entry-holds
-    mul-w
-    shared-slice-read-w
-    key-of-requires
-    add-spot
-    entry-less
+    (λ c. search needs)
+    (λ c. search needs)
+    (λ c κs. search needs)
+    (λ c. search needs)
+    (λ c. search needs)
     entry-again
-    entry-in-requires
-    add-k
-    region-less
+    (λ c κs. search needs)
+    (λ c. search needs)
+    (λ c. search needs)
     region-again
     returns
     returns-2)

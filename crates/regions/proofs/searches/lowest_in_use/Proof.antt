@@ -36,40 +36,16 @@ binding-pairs-requires c κs = search needs
 region-holds : tie.Need-region-holds Inv-loop μ-loop Inv-loop2 μ-loop2 Inv-region μ-region
 region-holds c = rise-start _ _
 
-page-in-requires : tie.Need-page-in-requires Inv-loop μ-loop Inv-loop2 μ-loop2 Inv-region μ-region
-page-in-requires c κs = search needs
-
-key-in-requires : tie.Need-key-in-requires Inv-loop μ-loop Inv-loop2 μ-loop2 Inv-region μ-region
-key-in-requires c κs = search needs
-
 loop-holds : tie.Need-loop-holds Inv-loop μ-loop Inv-loop2 μ-loop2 Inv-region μ-region
 loop-holds c = ask-start _ _
-
-mul-key-of : tie.Need-mul-key-of Inv-loop μ-loop Inv-loop2 μ-loop2 Inv-region μ-region
-mul-key-of c = search needs
 
 shared-slice-read-key-of :
     tie.Need-shared-slice-read-key-of Inv-loop μ-loop Inv-loop2 μ-loop2 Inv-region μ-region
 shared-slice-read-key-of c = search needs
 
-key-of-requires : tie.Need-key-of-requires Inv-loop μ-loop Inv-loop2 μ-loop2 Inv-region μ-region
-key-of-requires c κs = search needs
-
-mul-on-page : tie.Need-mul-on-page Inv-loop μ-loop Inv-loop2 μ-loop2 Inv-region μ-region
-mul-on-page c = search needs
-
 shared-slice-read-on-page :
     tie.Need-shared-slice-read-on-page Inv-loop μ-loop Inv-loop2 μ-loop2 Inv-region μ-region
 shared-slice-read-on-page c = search needs
-
-on-page-requires : tie.Need-on-page-requires Inv-loop μ-loop Inv-loop2 μ-loop2 Inv-region μ-region
-on-page-requires c κs = search needs
-
-add-i : tie.Need-add-i Inv-loop μ-loop Inv-loop2 μ-loop2 Inv-region μ-region
-add-i c = search needs
-
-loop-less : tie.Need-loop-less Inv-loop μ-loop Inv-loop2 μ-loop2 Inv-region μ-region
-loop-less c = search needs
 
 loop-again : tie.Need-loop-again Inv-loop μ-loop Inv-loop2 μ-loop2 Inv-region μ-region
 loop-again c =
@@ -79,9 +55,6 @@ loop-again c =
 loop2-holds : tie.Need-loop2-holds Inv-loop μ-loop Inv-loop2 μ-loop2 Inv-region μ-region
 loop2-holds c = ask-start _ _
 
-mul-on-page-2 : tie.Need-mul-on-page-2 Inv-loop μ-loop Inv-loop2 μ-loop2 Inv-region μ-region
-mul-on-page-2 c = search needs
-
 shared-slice-read-on-page-2 :
     tie.Need-shared-slice-read-on-page-2 Inv-loop μ-loop Inv-loop2 μ-loop2 Inv-region μ-region
 shared-slice-read-on-page-2 c = search needs
@@ -90,23 +63,11 @@ on-page-requires-2 :
     tie.Need-on-page-requires-2 Inv-loop μ-loop Inv-loop2 μ-loop2 Inv-region μ-region
 on-page-requires-2 c κs = search needs
 
-add-j : tie.Need-add-j Inv-loop μ-loop Inv-loop2 μ-loop2 Inv-region μ-region
-add-j c = search needs
-
-loop2-less : tie.Need-loop2-less Inv-loop μ-loop Inv-loop2 μ-loop2 Inv-region μ-region
-loop2-less c = search needs
-
 loop2-again : tie.Need-loop2-again Inv-loop μ-loop Inv-loop2 μ-loop2 Inv-region μ-region
 loop2-again c =
     let t = c .before .before .before in
     let b = t .before .before .before .before .before .before .before .before .before in
     part-next _ (b .binding-pairs .ensures) _ (t .before .loop2 .inv) (t .loop2-test .taken) (rw (← c .before .on-page2 .ensures) (c .if3 .left))
-
-add-k : tie.Need-add-k Inv-loop μ-loop Inv-loop2 μ-loop2 Inv-region μ-region
-add-k c = search needs
-
-region-less : tie.Need-region-less Inv-loop μ-loop Inv-loop2 μ-loop2 Inv-region μ-region
-region-less c = search needs
 
 region-again : tie.Need-region-again Inv-loop μ-loop Inv-loop2 μ-loop2 Inv-region μ-region
 unfolding targeted edgeOn
@@ -163,27 +124,27 @@ lowest-in-use-spec =
     μ-region
     binding-pairs-requires
     region-holds
-    page-in-requires
-    key-in-requires
+    (λ c κs. search needs)
+    (λ c κs. search needs)
     loop-holds
-    mul-key-of
+    (λ c. search needs)
     shared-slice-read-key-of
-    key-of-requires
-    mul-on-page
+    (λ c κs. search needs)
+    (λ c. search needs)
     shared-slice-read-on-page
-    on-page-requires
-    add-i
-    loop-less
+    (λ c κs. search needs)
+    (λ c. search needs)
+    (λ c. search needs)
     loop-again
     loop2-holds
-    mul-on-page-2
+    (λ c. search needs)
     shared-slice-read-on-page-2
     on-page-requires-2
-    add-j
-    loop2-less
+    (λ c. search needs)
+    (λ c. search needs)
     loop2-again
-    add-k
-    region-less
+    (λ c. search needs)
+    (λ c. search needs)
     region-again
     returns
     returns-2

@@ -15,15 +15,6 @@ abbrev μ-region : tie.MeasureT-region
 region-holds : tie.Need-region-holds Inv-region μ-region
 region-holds c = rise-start _ _
 
-not-free-requires : tie.Need-not-free-requires Inv-region μ-region
-not-free-requires c κs = search needs
-
-add-k : tie.Need-add-k Inv-region μ-region
-add-k c = search needs
-
-region-less : tie.Need-region-less Inv-region μ-region
-region-less c = search needs
-
 region-again : tie.Need-region-again Inv-region μ-region
 region-again c = rise-next _ _ _ (c .before .before .before .before .region .inv) (c .before .before .if1 .left) (sym (c .before .not-free .ensures) ∙ c .if2 .left)
 
@@ -40,9 +31,9 @@ lowest-not-free-spec =
     Inv-region
     μ-region
     region-holds
-    not-free-requires
-    add-k
-    region-less
+    (λ c κs. search needs)
+    (λ c. search needs)
+    (λ c. search needs)
     region-again
     returns
     returns-2)

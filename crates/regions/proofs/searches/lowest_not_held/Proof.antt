@@ -14,18 +14,6 @@ abbrev μ-region : tie.MeasureT-region
 region-holds : tie.Need-region-holds Inv-region μ-region
 region-holds c = rise-start _ _
 
-page-in-requires : tie.Need-page-in-requires Inv-region μ-region
-page-in-requires c κs = search needs
-
-claims-requires : tie.Need-claims-requires Inv-region μ-region
-claims-requires c κs = search needs
-
-add-k : tie.Need-add-k Inv-region μ-region
-add-k c = search needs
-
-region-less : tie.Need-region-less Inv-region μ-region
-region-less c = search needs
-
 region-again : tie.Need-region-again Inv-region μ-region
 region-again c = rise-next _ _ _ (c .before .before .before .before .before .region .inv) (c .before .before .before .if1 .left) (rw (← c .before .before .page-in .ensures, ← c .before .claims .ensures) (c .if2 .left))
 
@@ -42,10 +30,10 @@ lowest-not-held-spec =
     Inv-region
     μ-region
     region-holds
-    page-in-requires
-    claims-requires
-    add-k
-    region-less
+    (λ c κs. search needs)
+    (λ c κs. search needs)
+    (λ c. search needs)
+    (λ c. search needs)
     region-again
     returns
     returns-2)

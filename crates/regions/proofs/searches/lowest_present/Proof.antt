@@ -25,35 +25,11 @@ abbrev μ-region : tie.MeasureT-region
 region-holds : tie.Need-region-holds Inv-loop μ-loop Inv-region μ-region
 region-holds c = rise-start _ _
 
-key-in-requires : tie.Need-key-in-requires Inv-loop μ-loop Inv-region μ-region
-key-in-requires c κs = search needs
-
 loop-holds : tie.Need-loop-holds Inv-loop μ-loop Inv-region μ-region
 loop-holds c = seek-start _ _
 
-mul-key-of : tie.Need-mul-key-of Inv-loop μ-loop Inv-region μ-region
-mul-key-of c = search needs
-
-shared-slice-read-key-of : tie.Need-shared-slice-read-key-of Inv-loop μ-loop Inv-region μ-region
-shared-slice-read-key-of c = search needs
-
-key-of-requires : tie.Need-key-of-requires Inv-loop μ-loop Inv-region μ-region
-key-of-requires c κs = search needs
-
-add-i : tie.Need-add-i Inv-loop μ-loop Inv-region μ-region
-add-i c = search needs
-
-loop-less : tie.Need-loop-less Inv-loop μ-loop Inv-region μ-region
-loop-less c = search needs
-
 loop-again : tie.Need-loop-again Inv-loop μ-loop Inv-region μ-region
 loop-again c = seek-next _ _ _ (c .before .before .before .before .loop .inv) (c .before .before .before .loop-test .taken) (ne-eqb _ _ (λ q. c .if2 .left (c .before .key-of .ensures ∙ q)))
-
-add-k : tie.Need-add-k Inv-loop μ-loop Inv-region μ-region
-add-k c = search needs
-
-region-less : tie.Need-region-less Inv-loop μ-loop Inv-region μ-region
-region-less c = search needs
 
 region-again : tie.Need-region-again Inv-loop μ-loop Inv-region μ-region
 unfolding find
@@ -64,8 +40,11 @@ returns c = rise-none _ _ _ (c .before .before .region .inv) (c .if1 .taken)
 
 returns-2 : tie.Need-returns-2 Inv-loop μ-loop Inv-region μ-region
 unfolding find
-returns-2 c = rise-found _ _ _ (c .before .before .before .before .before .before .before .before .region .inv) (c .before .before .before .before .before .before .if1 .left)
-    (rw (← c .before .before .before .before .before .key-in .ensures, ← seek-found _ _ _ (c .before .before .before .before .loop .inv) (c .before .before .before .loop-test .taken) (eq-eqb _ _ (sym (c .before .key-of .ensures) ∙ c .if2 .taken))))
+returns-2 c =
+    let c1 = c .before in
+    let c3 = c1 .before .before in
+    rise-found _ _ _ (c3 .before .before .before .before .before .region .inv) (c3 .before .before .before .if1 .left)
+    (rw (← c3 .before .before .key-in .ensures, ← seek-found _ _ _ (c3 .before .loop .inv) (c3 .loop-test .taken) (eq-eqb _ _ (sym (c1 .key-of .ensures) ∙ c .if2 .taken))))
 
 pub lowest-present-spec : {M : Type 1} → statement M
 lowest-present-spec =
@@ -76,16 +55,16 @@ lowest-present-spec =
     Inv-region
     μ-region
     region-holds
-    key-in-requires
+    (λ c κs. search needs)
     loop-holds
-    mul-key-of
-    shared-slice-read-key-of
-    key-of-requires
-    add-i
-    loop-less
+    (λ c. search needs)
+    (λ c. search needs)
+    (λ c κs. search needs)
+    (λ c. search needs)
+    (λ c. search needs)
     loop-again
-    add-k
-    region-less
+    (λ c. search needs)
+    (λ c. search needs)
     region-again
     returns
     returns-2)

@@ -1,0 +1,384 @@
+//! The sides against each other, thing by thing.
+
+use crate::c::Header;
+use crate::manual::Told;
+use crate::rattle::Source;
+use crate::side::{Function, Kind, Named, Side};
+use crate::tokens::words;
+use std::collections::{BTreeMap, BTreeSet};
+use std::fmt::Display;
+
+const HEADER: &str = "include/tiligormis.h";
+const RUST: &str = "bindings/rust/src";
+
+/// How many things agree, and what does not.
+#[derive(Default)]
+pub struct Report {
+    pub passed: usize,
+    pub failed: Vec<String>,
+}
+
+impl Report {
+    /// One thing, and what two sides say of it; a side that does not have it says nothing.
+    fn same<T: Display + PartialEq>(
+        &mut self,
+        thing: &str,
+        one: (&str, Option<T>),
+        other: (&str, Option<T>),
+    ) {
+        if one.1.is_some() && one.1 == other.1 {
+            self.passed += 1;
+            return;
+        }
+        let said = |side: Option<T>| side.map_or("nothing".to_string(), |said| format!("`{said}`"));
+        self.failed.push(format!(
+            "{thing}: {} has {}, {} has {}",
+            one.0,
+            said(one.1),
+            other.0,
+            said(other.1)
+        ));
+    }
+}
+
+pub struct Sides {
+    pub header: Header,
+    pub rust: Side,
+    pub source: Source,
+    pub manual: BTreeMap<u64, Told>,
+    /// The crates that the library is made of.
+    pub crates: Vec<String>,
+}
+
+pub fn compare(sides: &Sides) -> Report {
+    let mut report = Report::default();
+    exporting(sides, &mut report);
+    functions(sides, &mut report);
+    numbers(sides, &mut report);
+    refusals(sides, &mut report);
+    marks(sides, &mut report);
+    operations(sides, &mut report);
+    structs(sides, &mut report);
+    places(sides, &mut report);
+    lent(sides, &mut report);
+    lengths(sides, &mut report);
+    report
+}
+
+/// The library's list has every crate that has functions for C, and no other.
+fn exporting(sides: &Sides, report: &mut Report) {
+    let listed: BTreeSet<&String> = sides.crates.iter().collect();
+    let exporting: BTreeSet<&String> = sides.source.exporting.values().collect();
+    for name in listed.union(&exporting) {
+        let has = |side: &BTreeSet<&String>| side.contains(name).then_some("functions for C");
+        report.same(
+            &format!("crate {name}"),
+            ("library/crates.txt", has(&listed)),
+            ("crates/", has(&exporting)),
+        );
+    }
+}
+
+fn functions(sides: &Sides, report: &mut Report) {
+    let (c, rust, source) =
+        (&sides.header.side.functions, &sides.rust.functions, &sides.source.side.functions);
+    let names: BTreeSet<&String> = c.keys().chain(rust.keys()).chain(source.keys()).collect();
+    for name in names {
+        let place =
+            format!("crates/{}", sides.source.exporting.get(name).map_or("", String::as_str));
+        let crossing = c.get(name).map(|function| crossing(function, &sides.header.side));
+        function(name, (HEADER, c.get(name)), (RUST, rust.get(name)), report);
+        function(name, (HEADER, crossing.as_ref()), (&place, source.get(name)), report);
+    }
+}
+
+/// One function of two sides: that both have it, its result, and its parameters one by one.
+fn function(
+    name: &str,
+    one: (&str, Option<&Function>),
+    other: (&str, Option<&Function>),
+    report: &mut Report,
+) {
+    let result = |function: Option<&Function>| function.map(|function| function.result.to_string());
+    report.same(&format!("{name}, result"), (one.0, result(one.1)), (other.0, result(other.1)));
+    let list = |function: Option<&Function>| {
+        function.map_or(vec![], |function| function.parameters.clone())
+    };
+    let (mine, theirs) = (list(one.1), list(other.1));
+    for at in 0..mine.len().max(theirs.len()) {
+        let thing = format!("{name}, parameter {}", at + 1);
+        let said = |list: &[Named]| list.get(at).map(Named::to_string);
+        report.same(&thing, (one.0, said(&mine)), (other.0, said(&theirs)));
+    }
+}
+
+/// A function of the header as the source has it: a struct of numbers is a slice of them, of which
+/// the length is how many there are. Its name is then `.._numbers`, after the first word of the
+/// pointer's.
+fn crossing(function: &Function, side: &Side) -> Function {
+    let mut parameters = function.parameters.clone();
+    for at in 0..parameters.len() {
+        let Kind::Pointer { to, .. } = &mut parameters[at].kind else { continue };
+        if side.of_numbers(to) {
+            *to = "u64".to_string();
+            let name = parameters[at].name.clone();
+            let first = name.split('_').next().unwrap_or("");
+            if let Some(length) =
+                parameters.get_mut(at + 1).filter(|next| next.name == format!("{first}_numbers"))
+            {
+                length.name = format!("{name}_length");
+            }
+        }
+    }
+    Function { parameters, result: function.result.clone() }
+}
+
+/// Every number of the header in Rust, and every limit in the source. Refusals, marks and
+/// operations are no constants there; of the access bits the machine knows two, and the third is
+/// what is left of the accesses.
+fn numbers(sides: &Sides, report: &mut Report) {
+    let (c, rust, source) =
+        (&sides.header.side.numbers, &sides.rust.numbers, &sides.source.side.numbers);
+    for name in c.keys().chain(rust.keys()).collect::<BTreeSet<_>>() {
+        report.same(name, (HEADER, c.get(name)), (RUST, rust.get(name)));
+    }
+    let other: BTreeSet<&String> = sides.header.refusals.iter().map(|(name, _)| name).collect();
+    let operations: BTreeSet<&String> =
+        sides.header.operations.iter().map(|operation| &operation.name).collect();
+    for (name, value) in c {
+        if name == "EXECUTE" {
+            let left = [source.get("ACCESSES"), source.get("READ"), source.get("WRITE")];
+            let left = if let [Some(all), Some(read), Some(write)] = left {
+                all.checked_sub(1 + read + write)
+            } else {
+                None
+            };
+            report.same(name, (HEADER, Some(*value)), ("crates/", left));
+        } else if !other.contains(name) && !operations.contains(name) && !name.starts_with("MARK_")
+        {
+            report.same(name, (HEADER, Some(value)), ("crates/", source.get(name)));
+        }
+    }
+}
+
+/// The refusals by their numbers: the header's enum, the order of the source's, and the number that
+/// it gives each.
+fn refusals(sides: &Sides, report: &mut Report) {
+    let said: BTreeMap<u64, &String> =
+        sides.header.refusals.iter().map(|(name, value)| (*value, name)).collect();
+    let accepted = sides.header.side.numbers.get("ACCEPTED").copied();
+    report.same("ACCEPTED", (HEADER, accepted), ("answer_numbers", sides.source.accepted));
+    let count = sides.source.refusals.len();
+    report.same(
+        "refusals",
+        (HEADER, Some(sides.header.refusals.len())),
+        ("crates/numbers", Some(count + 1)),
+    );
+    for (at, case) in sides.source.refusals.iter().enumerate() {
+        let number = at as u64 + 1;
+        let name = words(case).join("_").to_uppercase();
+        report.same(
+            &format!("refusal {number}"),
+            (HEADER, said.get(&number).copied()),
+            ("crates/numbers", Some(&name)),
+        );
+        let given = sides.source.refusal_numbers.get(case).copied();
+        report.same(
+            &name,
+            (HEADER, sides.header.side.numbers.get(&name).copied()),
+            ("refusal_number", given),
+        );
+    }
+}
+
+fn marks(sides: &Sides, report: &mut Report) {
+    let mark = |name: &String| name.strip_prefix("MARK_").map(String::from);
+    let said: BTreeSet<String> = sides.header.side.numbers.keys().filter_map(mark).collect();
+    let given: BTreeMap<String, u64> = sides
+        .source
+        .mark_numbers
+        .iter()
+        .map(|(case, value)| (case.to_uppercase(), *value))
+        .collect();
+    for name in said.iter().chain(given.keys()).collect::<BTreeSet<_>>() {
+        let header = sides.header.side.numbers.get(&format!("MARK_{name}"));
+        report.same(&format!("MARK_{name}"), (HEADER, header), ("crates/units", given.get(name)));
+    }
+}
+
+/// The operations by their numbers: what the header and the manual call each, and the arguments
+/// that these list and the source reads.
+fn operations(sides: &Sides, report: &mut Report) {
+    let said: BTreeMap<u64, _> =
+        sides.header.operations.iter().map(|operation| (operation.number, operation)).collect();
+    report.same(
+        "operations",
+        (HEADER, Some(sides.header.operations.len())),
+        ("crates/rows", Some(sides.source.operations.len())),
+    );
+    let numbers = said.keys().chain(sides.source.operations.keys()).chain(sides.manual.keys());
+    for number in numbers.copied().collect::<BTreeSet<u64>>() {
+        let thing = format!("operation {number}, arguments");
+        let header = said.get(&number).map(|operation| operation.arguments);
+        let manual = sides.manual.get(&number).map(|told| told.arguments);
+        // an operation's arguments are the first of a, b, c, ..
+        let read = sides.source.operations.get(&number).map(|letters| {
+            letters.iter().next_back().map_or(0, |last| *last as usize - 'a' as usize + 1)
+        });
+        report.same(&thing, (HEADER, header), ("docs/MACHINE.md", manual));
+        report.same(&thing, (HEADER, header), ("crates/rows", read));
+        let name = said.get(&number).map(|operation| operation.name.clone());
+        let known = name.as_ref().map_or(vec![], |name| words(name));
+        let told = sides.manual.get(&number).map(|told| {
+            if told.words.iter().all(|word| known.contains(word)) {
+                name.clone().unwrap_or_default()
+            } else {
+                told.words.join(" ")
+            }
+        });
+        report.same(&format!("operation {number}"), (HEADER, name), ("docs/MACHINE.md", told));
+    }
+}
+
+/// The structs field by field, and that each has as many numbers as the source says. A slot is the
+/// source's own struct; of a unit the source has the same fields.
+fn structs(sides: &Sides, report: &mut Report) {
+    let (c, rust, source) = (&sides.header.side, &sides.rust, &sides.source.side);
+    for name in c
+        .structs
+        .keys()
+        .chain(rust.structs.keys())
+        .filter(|name| *name != "Box")
+        .collect::<BTreeSet<_>>()
+    {
+        fields(name, (HEADER, c.structs.get(name)), (RUST, rust.structs.get(name)), true, report);
+    }
+    fields(
+        "Slot",
+        (HEADER, c.structs.get("Slot")),
+        ("crates/slots", source.structs.get("Slot")),
+        true,
+        report,
+    );
+    fields(
+        "Unit",
+        (HEADER, c.structs.get("Unit")),
+        ("crates/units", source.structs.get("Unit")),
+        false,
+        report,
+    );
+    for (name, numbers) in [
+        ("Machine", "MACHINE_NUMBERS"),
+        ("Unit", "UNIT_NUMBERS"),
+        ("Answer", "ANSWER_NUMBERS"),
+        ("FreePages", "FREE_NUMBERS"),
+    ] {
+        let bytes = source.numbers.get(numbers).map(|count| 8 * count);
+        report.same(&format!("bytes of {name}"), (HEADER, c.place(name, None)), ("crates/", bytes));
+    }
+    report.same(
+        "bytes of Slot",
+        (HEADER, c.place("Slot", None)),
+        ("crates/slots", source.place("Slot", None)),
+    );
+}
+
+fn fields(
+    name: &str,
+    one: (&str, Option<&Vec<Named>>),
+    other: (&str, Option<&Vec<Named>>),
+    kinds: bool,
+    report: &mut Report,
+) {
+    let count = |list: Option<&Vec<Named>>| list.map_or(0, Vec::len);
+    for at in 0..count(one.1).max(count(other.1)).max(1) {
+        let said = |list: Option<&Vec<Named>>| {
+            let field = list?.get(at)?;
+            Some(if kinds { field.to_string() } else { field.name.clone() })
+        };
+        report.same(
+            &format!("{name}, field {}", at + 1),
+            (one.0, said(one.1)),
+            (other.0, said(other.1)),
+        );
+    }
+}
+
+/// Where the source finds the numbers of a header, and of a unit the mark, in numbers from the
+/// first.
+fn places(sides: &Sides, report: &mut Report) {
+    for (name, field, place) in [
+        ("Machine", "pages", None),
+        ("Machine", "unit_count", Some("UNIT_COUNT_AT")),
+        ("Machine", "known", Some("KNOWN_AT")),
+        ("Machine", "cpus", Some("CPUS_AT")),
+        ("Machine", "devices", Some("DEVICES_AT")),
+        ("Machine", "units", Some("UNITS_AT")),
+        ("Unit", "mark", Some("MARK_AT")),
+    ] {
+        let header = sides.header.side.place(name, Some(field)).map(|byte| byte / 8);
+        let source = place.map_or(Some(0), |place| sides.source.side.numbers.get(place).copied());
+        report.same(
+            &format!("place of {name}.{field}"),
+            (HEADER, header),
+            ("crates/header", source),
+        );
+    }
+}
+
+/// The box in C: it has what every entry takes first, which is all that `tiligormis_valid` takes,
+/// and the macro hands on all of its fields in order.
+fn lent(sides: &Sides, report: &mut Report) {
+    let none = vec![];
+    let fields = sides.header.side.structs.get("Box").unwrap_or(&none);
+    let whole = sides
+        .header
+        .side
+        .functions
+        .get("tiligormis_valid")
+        .map_or(0, |valid| valid.parameters.len());
+    let list = |parts: &[Named], kinds: bool| {
+        let said =
+            parts.iter().map(|part| if kinds { part.to_string() } else { part.name.clone() });
+        Some(said.collect::<Vec<_>>().join(", "))
+    };
+    for (name, function) in &sides.header.side.functions {
+        if function.parameters.first().is_some_and(|first| first.name == "machine") {
+            // what an entry only reads is const there, and not in the box
+            let kinds = name == "tiligormis_start";
+            let first = &function.parameters[..whole.min(function.parameters.len())];
+            report.same(
+                &format!("{name}, box"),
+                ("tiligormis_box", list(fields, kinds)),
+                (name, list(first, kinds)),
+            );
+        }
+    }
+    for at in 0..fields.len().max(sides.header.lent.len()) {
+        let field = fields.get(at).map(|field| &field.name);
+        let handed = sides.header.lent.get(at);
+        report.same(
+            &format!("TILIGORMIS_LENT, {}", at + 1),
+            ("tiligormis_box", field),
+            ("TILIGORMIS_LENT", handed),
+        );
+    }
+}
+
+/// Each length of the box is said to be what the judgement asks for; both sides of the machine have
+/// theirs from one function.
+fn lengths(sides: &Sides, report: &mut Report) {
+    for (name, said) in &sides.header.lengths {
+        let list = name.trim_end_matches("_length");
+        let one = list.strip_prefix("cpu_").or(list.strip_prefix("dma_")).unwrap_or(list);
+        let asked = match one {
+            "machine_numbers" => Some("MACHINE_NUMBERS".to_string()),
+            one => sides.source.lengths.get(one).cloned(),
+        };
+        report.same(
+            &format!("{name} of the box"),
+            (HEADER, Some(said.clone())),
+            ("crates/judge", asked),
+        );
+    }
+}
