@@ -3,6 +3,7 @@ ghost use Rattle.start.specs.Begun.{told};
 ghost use Rattle.cores.specs.Boxes.{box};
 ghost use Rattle.cores.specs.Given.{Judgement, startGives, startGiven, startRefused, HeaderWhole};
 ghost use Rattle.slots.specs.Slots.{words, slotsOf};
+use numbers::SLOTS;
 use slots::Slot;
 
 // Start. Refused, it leaves all that is lent as it was, and the header says the empty machine.
@@ -31,8 +32,8 @@ pub extern "C" fn tiligormis_start(
 {
     let cpu_slots = cpu_cache.len();
     let dma_slots = dma_cache.len();
-    let cpu_words = slots::load(&*cpu_cache);
-    let dma_words = slots::load(&*dma_cache);
+    let cpu_words = slots::load(&*cpu_cache, SLOTS as usize);
+    let dma_words = slots::load(&*dma_cache, SLOTS as usize);
     let out = cores::start(
         machine,
         sets,
@@ -51,7 +52,7 @@ pub extern "C" fn tiligormis_start(
         cpu_words,
         dma_words,
     );
-    slots::store(cpu_cache, out.cpu);
-    slots::store(dma_cache, out.dma);
+    slots::store(cpu_cache, out.cpu, out.number);
+    slots::store(dma_cache, out.dma, out.number);
     out.number
 }

@@ -2,6 +2,7 @@
 // stores them again where it may change them.
 ghost use mathlib.Core.Path.{_≡_};
 ghost use Rattle.slots.specs.Calls.{findSlot, change, fillSlot, emptySlot};
+use numbers::SLOTS;
 use slots::Slot;
 
 // The lowest filled slot, of the first 64, that holds this port, VM and guest page; 64 where there is none.
@@ -9,7 +10,8 @@ use slots::Slot;
 pub extern "C" fn tiligormis_find_slot(slots: &[Slot], port: u64, vm: u64, guest: u64) -> usize
     ensures { λ r. ⌜ r ≡ findSlot (now (slots .entry)) port vm guest ⌝ }
 {
-    let words = slots::load(slots);
+    let count = slots.len();
+    let words = slots::load(slots, count);
     slots::find(words, port, vm, guest)
 }
 
@@ -28,7 +30,7 @@ pub extern "C" fn tiligormis_fill_slot(
     ensures { λ r. ⌜ change r (now (slots .exit)) ≡ fillSlot (now (slots .entry)) place port vm guest page access generation ⌝ }
 {
     let count = slots.len();
-    let words = slots::load(&*slots);
+    let words = slots::load(&*slots, SLOTS as usize);
     let out = slots::fill(
         count,
         words,
@@ -40,7 +42,7 @@ pub extern "C" fn tiligormis_fill_slot(
         access,
         generation,
     );
-    slots::store(slots, out.words);
+    slots::store(slots, out.words, out.number);
     out.number
 }
 
@@ -50,8 +52,8 @@ pub extern "C" fn tiligormis_empty_slot(slots: &mut [Slot], place: u64) -> u64
     ensures { λ r. ⌜ change r (now (slots .exit)) ≡ emptySlot (now (slots .entry)) place ⌝ }
 {
     let count = slots.len();
-    let words = slots::load(&*slots);
+    let words = slots::load(&*slots, SLOTS as usize);
     let out = slots::empty(count, words, place);
-    slots::store(slots, out.words);
+    slots::store(slots, out.words, out.number);
     out.number
 }

@@ -5,6 +5,7 @@ ghost use Rattle.model.specs.Start.{freeRefused};
 ghost use Rattle.cores.specs.Boxes.{box, BoxValid};
 ghost use Rattle.cores.specs.Given.{Judgement, given, operationGives, operationRefused, OperationAsked, sequenceGives, refusedWhole, freeGives, freeTold, freeGiven, FreeAsked};
 ghost use Rattle.slots.specs.Slots.{words, slotsOf};
+use numbers::SLOTS;
 use slots::Slot;
 
 // Whether a box is valid.
@@ -26,8 +27,8 @@ pub extern "C" fn tiligormis_valid(
 {
     let cpu_slots = cpu_cache.len();
     let dma_slots = dma_cache.len();
-    let cpu_words = slots::load(cpu_cache);
-    let dma_words = slots::load(dma_cache);
+    let cpu_words = slots::load(cpu_cache, SLOTS as usize);
+    let dma_words = slots::load(dma_cache, SLOTS as usize);
     cores::valid(
         machine,
         sets,
@@ -69,8 +70,8 @@ pub extern "C" fn tiligormis_operation(
 {
     let cpu_slots = cpu_cache.len();
     let dma_slots = dma_cache.len();
-    let cpu_words = slots::load(&*cpu_cache);
-    let dma_words = slots::load(&*dma_cache);
+    let cpu_words = slots::load(&*cpu_cache, SLOTS as usize);
+    let dma_words = slots::load(&*dma_cache, SLOTS as usize);
     let out = cores::operation(
         machine,
         sets,
@@ -87,8 +88,8 @@ pub extern "C" fn tiligormis_operation(
         cpu_words,
         dma_words,
     );
-    slots::store(cpu_cache, out.cpu);
-    slots::store(dma_cache, out.dma);
+    slots::store(cpu_cache, out.cpu, out.number);
+    slots::store(dma_cache, out.dma, out.number);
     out.number
 }
 
@@ -116,8 +117,8 @@ pub extern "C" fn tiligormis_sequence(
 {
     let cpu_slots = cpu_cache.len();
     let dma_slots = dma_cache.len();
-    let cpu_words = slots::load(&*cpu_cache);
-    let dma_words = slots::load(&*dma_cache);
+    let cpu_words = slots::load(&*cpu_cache, SLOTS as usize);
+    let dma_words = slots::load(&*dma_cache, SLOTS as usize);
     let out = cores::sequence(
         machine,
         sets,
@@ -134,8 +135,8 @@ pub extern "C" fn tiligormis_sequence(
         cpu_words,
         dma_words,
     );
-    slots::store(cpu_cache, out.cpu);
-    slots::store(dma_cache, out.dma);
+    slots::store(cpu_cache, out.cpu, out.number);
+    slots::store(dma_cache, out.dma, out.number);
     out.number
 }
 
@@ -163,8 +164,8 @@ pub extern "C" fn tiligormis_free(
 {
     let cpu_slots = cpu_cache.len();
     let dma_slots = dma_cache.len();
-    let cpu_words = slots::load(cpu_cache);
-    let dma_words = slots::load(dma_cache);
+    let cpu_words = slots::load(cpu_cache, SLOTS as usize);
+    let dma_words = slots::load(dma_cache, SLOTS as usize);
     cores::free(
         machine,
         sets,

@@ -1,0 +1,180 @@
+/*
+ * What a call copies, and what it takes until a cache of a wrong length is refused. The library's memcpy is wrapped here
+ * (-Wl,--wrap=memcpy), so that the bytes that each call copies can be counted. A copy of UNITS bytes or more holds the
+ * header's units and is counted apart; of the rest no call may copy more than MOST. A time is the least of many. Before that,
+ * calls that are refused are made on a cache that cannot be written, or not even read.
+ */
+#define _DEFAULT_SOURCE
+#include "tiligormis.h"
+
+#include <stdio.h>
+#include <stdlib.h>
+#include <sys/mman.h>
+#include <time.h>
+
+enum { MACHINE_PAGES = 16, MANY = 1 << 22, MOST = 4096, UNITS = sizeof(tiligormis_unit) * TILIGORMIS_UNITS };
+
+static size_t small, large;
+
+void *__real_memcpy(void *to, const void *from, size_t bytes);
+
+void *__wrap_memcpy(void *to, const void *from, size_t bytes) {
+    *(bytes < UNITS ? &small : &large) += bytes;
+    return __real_memcpy(to, from, bytes);
+}
+
+/* ---- The box. */
+static tiligormis_machine machine;
+static uint64_t sets[TILIGORMIS_SETS * TILIGORMIS_SET_WORDS], pairs[TILIGORMIS_PAIRS];
+static uint64_t cpu_map[TILIGORMIS_ENTRIES], cpu_walker[TILIGORMIS_ENTRIES];
+static uint64_t dma_map[TILIGORMIS_ENTRIES], dma_walker[TILIGORMIS_ENTRIES];
+static uint64_t memory[TILIGORMIS_PAGE_WORDS * MACHINE_PAGES];
+static tiligormis_slot dma_cache[TILIGORMIS_SLOTS];
+static tiligormis_box box = {&machine, TILIGORMIS_MACHINE_NUMBERS, sets, TILIGORMIS_SETS * TILIGORMIS_SET_WORDS,
+                             pairs, TILIGORMIS_PAIRS, cpu_map, TILIGORMIS_ENTRIES, cpu_walker, TILIGORMIS_ENTRIES,
+                             NULL, TILIGORMIS_SLOTS, dma_map, TILIGORMIS_ENTRIES, dma_walker, TILIGORMIS_ENTRIES,
+                             dma_cache, TILIGORMIS_SLOTS, memory, TILIGORMIS_PAGE_WORDS * MACHINE_PAGES};
+
+/* ---- The calls. */
+static const uint64_t units[] = {1, 0, 2, 2, TILIGORMIS_READ, TILIGORMIS_MARK_BOTH};
+static const uint64_t barrier[TILIGORMIS_ROW_NUMBERS] = {TILIGORMIS_DATA_BARRIER}, nothing[TILIGORMIS_ROW_NUMBERS] = {0};
+static tiligormis_answer answer;
+static tiligormis_free_pages free_pages;
+
+static uint64_t row(const uint64_t *numbers) {
+    return tiligormis_operation(TILIGORMIS_LENT(&box), numbers, TILIGORMIS_ROW_NUMBERS, &answer, TILIGORMIS_ANSWER_NUMBERS);
+}
+static uint64_t rows(size_t length) {
+    return tiligormis_sequence(TILIGORMIS_LENT(&box), barrier, length, &answer.number, TILIGORMIS_ANSWER_NUMBERS);
+}
+static uint64_t start(void) { return tiligormis_start(TILIGORMIS_LENT(&box), MACHINE_PAGES, 12, 4, units, 6); }
+static uint64_t valid(void) { return !tiligormis_valid(TILIGORMIS_LENT(&box)); }
+static uint64_t accepted(void) { return row(barrier); }
+static uint64_t refused(void) { return row(nothing); }
+static uint64_t sequence(void) { return rows(TILIGORMIS_ROW_NUMBERS); }
+static uint64_t no_rows(void) { return rows(1); }
+static uint64_t free_query(void) { return tiligormis_free(TILIGORMIS_LENT(&box), &free_pages, TILIGORMIS_FREE_NUMBERS); }
+static uint64_t fill_at(uint64_t place) {
+    return tiligormis_fill_slot(box.cpu_cache, box.cpu_cache_length, place, 7, 15, place, 0, TILIGORMIS_READ, 0);
+}
+static uint64_t fill(void) { return fill_at(63); }
+static uint64_t fill_none(void) { return fill_at(64); }
+static uint64_t empty(void) { return tiligormis_empty_slot(box.cpu_cache, box.cpu_cache_length, 0); }
+static uint64_t find(void) { return tiligormis_find_slot(box.cpu_cache, box.cpu_cache_length, 7, 15, 63); }
+
+static void expect(const char *name, uint64_t answered, uint64_t number) {
+    if (answered != number) {
+        fprintf(stderr, "%s answers %llu, not %llu\n", name, (unsigned long long)answered, (unsigned long long)number);
+        exit(1);
+    }
+}
+
+/* ---- What is refused touches no slot: a byte that is would end the program. */
+static void protect(int how) {
+    if (mprotect(box.cpu_cache, MANY * sizeof(tiligormis_slot), how) != 0) {
+        perror("mprotect");
+        exit(1);
+    }
+}
+
+static void untouched(void) {
+    static const size_t wrong[] = {0, 63, 65, 4096, MANY};
+    protect(PROT_NONE);
+    for (size_t n = 0; n < sizeof wrong / sizeof *wrong; n++) {
+        box.cpu_cache_length = wrong[n];
+        expect("operation", accepted(), TILIGORMIS_STATE_NOT_VALID);
+        expect("sequence", sequence(), TILIGORMIS_STATE_NOT_VALID);
+        expect("free", free_query(), TILIGORMIS_STATE_NOT_VALID);
+        expect("valid", valid(), 1);
+        expect("fill_slot", fill(), TILIGORMIS_STATE_NOT_VALID);
+        expect("empty_slot", empty(), TILIGORMIS_STATE_NOT_VALID);
+    }
+    protect(PROT_READ);
+    box.cpu_cache_length = TILIGORMIS_SLOTS;
+    expect("operation", refused(), TILIGORMIS_OUT_OF_RANGE);
+    expect("sequence", no_rows(), TILIGORMIS_OUT_OF_RANGE);
+    expect("fill_slot", fill_none(), TILIGORMIS_OUT_OF_RANGE);
+    protect(PROT_READ | PROT_WRITE);
+}
+
+/* ---- Bytes and times. */
+static void copies(const char *name, uint64_t (*call)(void), uint64_t number) {
+    small = large = 0;
+    uint64_t answered = call();
+    size_t bytes = small, of_units = large;
+    expect(name, answered, number);
+    printf("%-32s%10zu%10zu\n", name, bytes, of_units);
+    if (bytes > MOST) {
+        fprintf(stderr, "%s copies more than %d bytes\n", name, MOST);
+        exit(1);
+    }
+}
+
+static double now(void) {
+    struct timespec at;
+    clock_gettime(CLOCK_MONOTONIC, &at);
+    return 1e9 * (double)at.tv_sec + (double)at.tv_nsec;
+}
+
+/* So many calls in a row, in nanoseconds. */
+static double calls(const char *name, uint64_t (*call)(void), uint64_t number, int count) {
+    uint64_t wrong = 0;
+    double from = now();
+    for (int n = 0; n < count; n++)
+        wrong |= call() ^ number;
+    double took = now() - from;
+    expect(name, wrong, 0);
+    return took;
+}
+
+/* The least of 200 rows of calls, each of about 20 microseconds; of fewer where one call takes long. */
+static void takes(const char *name, uint64_t (*call)(void), uint64_t number) {
+    double one = calls(name, call, number, 1), least = one;
+    int count = one < 20e3 ? (int)(20e3 / (one + 1)) + 1 : 1;
+    for (double began = now(), n = 0; n < 200 && now() - began < 2e9; n++) {
+        double took = calls(name, call, number, count) / count;
+        least = took < least ? took : least;
+    }
+    printf("%-32s%10.0f\n", name, least);
+}
+
+static void cache_of(const char *name, size_t slots) {
+    box.cpu_cache_length = slots;
+    takes(name, accepted, TILIGORMIS_STATE_NOT_VALID);
+    box.cpu_cache_length = TILIGORMIS_SLOTS;
+}
+
+int main(void) {
+    box.cpu_cache = mmap(NULL, MANY * sizeof(tiligormis_slot), PROT_READ | PROT_WRITE, MAP_PRIVATE | MAP_ANONYMOUS, -1, 0);
+    expect("mmap", box.cpu_cache == MAP_FAILED, 0);
+    expect("start", start(), 0);
+    untouched();
+
+    printf("%-32s%10s%10s\n", "bytes that a call copies", "", "units");
+    copies("start", start, 0);
+    copies("valid", valid, 0);
+    copies("operation, accepted", accepted, 0);
+    copies("operation, refused", refused, TILIGORMIS_OUT_OF_RANGE);
+    copies("sequence of one row", sequence, 0);
+    copies("free", free_query, 0);
+    copies("fill_slot", fill, 0);
+    copies("find_slot", find, 63);
+    copies("empty_slot", empty, 0);
+    box.cpu_cache_length = MANY;
+    copies("operation, 2^22 slots", accepted, TILIGORMIS_STATE_NOT_VALID);
+    box.cpu_cache_length = TILIGORMIS_SLOTS;
+
+    printf("\n%-32s%10s\n", "what a call takes", "ns");
+    for (uint64_t place = 0; place < TILIGORMIS_SLOTS; place++)
+        expect("fill_slot", fill_at(place), 0);
+    takes("find_slot, the last of 64", find, 63);
+    expect("start", start(), 0);
+    takes("operation, accepted", accepted, 0);
+    cache_of("operation, 0 slots", 0);
+    cache_of("operation, 63 slots", 63);
+    cache_of("operation, 4096 slots", 4096);
+    cache_of("operation, 2^22 slots", MANY);
+    box.pairs_length--;
+    takes("operation, 127 pairs", accepted, TILIGORMIS_STATE_NOT_VALID);
+    return 0;
+}
