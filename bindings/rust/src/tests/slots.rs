@@ -52,7 +52,7 @@ fn translations_out_of_range_are_refused() {
         Translation { access: ACCESSES, ..MOST },
         Translation { generation: GENERATIONS, ..MOST },
     ] {
-        assert_eq!(fill_slot(&mut slots, 0, over), Err(OUT_OF_RANGE));
+        assert_eq!(fill_slot(&mut slots, 0, over), Err(Refusal::OutOfRange));
     }
     assert_eq!(slots, [Slot::default(); SLOTS]);
 }
@@ -62,12 +62,12 @@ fn places_out_of_range_are_refused() {
     let filled = Slot { port: 1, vm: 1, guest: 1, entry: 1 << 31 };
     let mut slots = [filled; SLOTS + 1];
     for place in [SLOTS, usize::MAX] {
-        assert_eq!(fill_slot(&mut slots[..SLOTS], place, MOST), Err(OUT_OF_RANGE));
-        assert_eq!(empty_slot(&mut slots[..SLOTS], place), Err(OUT_OF_RANGE));
+        assert_eq!(fill_slot(&mut slots[..SLOTS], place, MOST), Err(Refusal::OutOfRange));
+        assert_eq!(empty_slot(&mut slots[..SLOTS], place), Err(Refusal::OutOfRange));
     }
     for length in [0, SLOTS - 1, SLOTS + 1] {
-        assert_eq!(fill_slot(&mut slots[..length], 0, MOST), Err(STATE_NOT_VALID));
-        assert_eq!(empty_slot(&mut slots[..length], 0), Err(STATE_NOT_VALID));
+        assert_eq!(fill_slot(&mut slots[..length], 0, MOST), Err(Refusal::StateNotValid));
+        assert_eq!(empty_slot(&mut slots[..length], 0), Err(Refusal::StateNotValid));
     }
     assert_eq!(slots, [filled; SLOTS + 1]);
 }
