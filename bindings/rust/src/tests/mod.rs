@@ -2,6 +2,7 @@
 //! that are no whole rows or units, is tested in bindings/c.
 
 mod boxes;
+mod documented;
 mod lengths;
 mod no_std;
 mod numbers;
