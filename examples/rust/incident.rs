@@ -84,14 +84,13 @@ fn free_pages(ingest: &Owned) {
     });
 }
 
-/// Where the reader's translation of A's first guest page is cached, and the page that it goes to:
-/// bits 19 to 30 of the entry.
+/// Where the reader's translation of A's first guest page is cached, and the page that it goes to.
 fn reader_slot(ingest: &Owned) {
-    let text = match find_slot(&ingest.dma_cache, READER_OF_A, A, GUEST_OF_A) {
+    let place = find_slot(&ingest.dma_cache, READER_OF_A, A, GUEST_OF_A);
+    let held = place.and_then(|place| Some((place, ingest.dma_cache[place].translation()?)));
+    let text = match held {
         None => "none".to_string(),
-        Some(place) => {
-            format!("slot {place}, onto page {}", ingest.dma_cache[place].entry >> 19 & 0xfff)
-        }
+        Some((place, held)) => format!("slot {place}, onto page {}", held.page),
     };
     say("which slot holds the reader's translation?", &text);
 }

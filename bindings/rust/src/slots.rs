@@ -18,6 +18,24 @@ pub struct Translation {
     pub generation: u64,
 }
 
+impl Slot {
+    /// What the slot holds, if it is filled.
+    pub const fn translation(self) -> Option<Translation> {
+        let entry = self.entry as u64;
+        if entry >> 31 == 0 {
+            return None;
+        }
+        Some(Translation {
+            port: self.port as u64,
+            vm: self.vm as u64,
+            guest: self.guest as u64,
+            page: entry >> 19 & 0xfff,
+            access: entry >> 16 & 0x7,
+            generation: entry & 0xffff,
+        })
+    }
+}
+
 /// The lowest filled slot, of the first [`SLOTS`], that holds this port, VM and guest page.
 pub fn find_slot(slots: &[Slot], port: u64, vm: u64, guest: u64) -> Option<usize> {
     // SAFETY: the pointer and the length are those of a slice.

@@ -42,6 +42,26 @@ fn slots_are_filled_and_emptied() {
 }
 
 #[test]
+fn slots_say_what_they_hold() {
+    let mut slots = [Slot::default(); SLOTS];
+    assert_eq!(slots[0].translation(), None);
+    let none = Translation::default();
+    for held in [
+        none,
+        MOST,
+        Translation { port: MOST.port, ..none },
+        Translation { vm: MOST.vm, ..none },
+        Translation { guest: MOST.guest, ..none },
+        Translation { page: MOST.page, ..none },
+        Translation { access: MOST.access, ..none },
+        Translation { generation: MOST.generation, ..none },
+    ] {
+        fill_slot(&mut slots, 0, held).unwrap();
+        assert_eq!(slots[0].translation(), Some(held));
+    }
+}
+
+#[test]
 fn translations_out_of_range_are_refused() {
     let mut slots = [Slot::default(); SLOTS];
     for over in [
