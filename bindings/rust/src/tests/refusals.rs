@@ -6,11 +6,11 @@ use crate::numbers::REFUSALS;
 use std::format;
 use std::string::{String, ToString};
 
-const UNLISTED: u64 = 17;
+/// The first number that is no refusal.
+const UNLISTED: u64 = REFUSALS.len() as u64 + 1;
 
 #[test]
 fn every_refusal_has_its_number() {
-    assert_eq!(REFUSALS.len(), 16);
     for (at, &(name, refusal, number)) in REFUSALS.iter().enumerate() {
         assert_eq!(number, at as u64 + 1);
         assert_eq!(refusal.number(), number, "{name}");
