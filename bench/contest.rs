@@ -3,7 +3,7 @@
 use std::hint::black_box;
 use std::time::Instant;
 
-use tiligormis::{Answer, Owned, Row, Unit};
+use tiligormis::{Answer, Owned, Refusal, Row, Unit};
 
 use crate::rows::{numbers, Setup, PAGES};
 use crate::{bounded, idiomatic};
@@ -35,11 +35,12 @@ impl Machine for Library {
         };
         let units: Vec<Unit> = setup.units.iter().map(unit).collect();
         let span = (setup.shared_base as u64, setup.shared_count as u64);
-        self.owned.lent().start(setup.pages as u64, span.0, span.1, &units).err().unwrap_or(0)
+        let started = self.owned.lent().start(setup.pages as u64, span.0, span.1, &units);
+        started.err().map_or(0, Refusal::number)
     }
 
     fn sequence(&mut self, rows: &[Row]) -> u64 {
-        self.owned.lent().sequence(rows, &mut self.answers).err().unwrap_or(0)
+        self.owned.lent().sequence(rows, &mut self.answers).err().map_or(0, Refusal::number)
     }
 
     fn answer(&self, k: usize) -> [u64; 4] {
