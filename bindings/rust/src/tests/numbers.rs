@@ -17,6 +17,9 @@ fn numbers_are_the_headers() {
             digits => digits.trim_end_matches(['u', ',']).parse(),
         });
         let Some(Ok(value)) = value else { continue };
+        if name.starts_with("VERSION") {
+            continue; // the crate's is in Cargo.toml
+        }
         assert!(NAMED.contains(&(name, value)), "{name} is {value} in the header");
         named += 1;
     }
