@@ -57,16 +57,17 @@
  *
  * How a VM is retired. Remove VM wants nothing left of it; this order gets there.
  *
- *   1  its CPUs and devices    switch CPU and bind device to TILIGORMIS_IDLE; at the latest before step 6
- *   2  mappings made one by    CPU unmap and DMA unmap; also what other VMs CPU-map of the pages that it lends. The entries
- *      one                     that insert region and DMA insert region made stay
- *   3  its pairs               unshare page, whichever end it is
- *   4  its CPU pages           remove region for what came by insert region, reclaim page for every other
- *   5  its DMA pages           DMA remove region. One of its entries that was unmapped or replaced is first put back, by DMA
- *                              map with the region's access and generation 0: nothing else ends the claim
- *   6  the VM                  remove VM
+ *   1  CPUs, devices  switch CPU and bind device to TILIGORMIS_IDLE; at the latest before step 6
+ *   2  mappings       CPU unmap and DMA unmap for what CPU map and DMA map made, and for what other VMs CPU-map of the pages
+ *                     that it lends. What insert region and DMA insert region made stays
+ *   3  pairs          unshare page, whichever end it is
+ *   4  CPU pages      remove region for what came by insert region, reclaim page for every other. A region of which a mapping
+ *                     is gone or replaced goes page by page: the rest of its mappings by CPU unmap, then reclaim page
+ *   5  DMA pages      DMA remove region. One of its mappings that is gone or replaced is first put back, by DMA map with the
+ *                     region's access and generation 0: nothing else ends the claim
+ *   6  the VM         remove VM
  *
- * Steps 4 and 5 may be in either order. A page is cleared when the VM's last claim on it ends, and slots are dropped with the
+ * Step 5 may come before 3 and 4. A page is cleared when the VM's last claim on it ends, and slots are dropped with the
  * mappings that they hold.
  *
  * What is promised, and proved, for every content and every length of what is lent: the call ends, does nothing undefined, and
@@ -249,11 +250,11 @@ typedef struct tiligormis_slot {
     uint32_t entry;
 } tiligormis_slot;
 
-/* Of an entry whether it is filled, its page, access and generation. Of a word w of a map the entry is (uint32_t)w. */
+/* Of an entry whether it is filled, and its page, access and generation. Of a word w of a map the entry is (uint32_t)w. */
 static inline bool tiligormis_entry_filled(uint32_t entry) { return ((entry >> 31) & 0x1) != 0; }
 static inline uint32_t tiligormis_entry_page(uint32_t entry) { return (entry >> 19) & 0xfff; }
 static inline uint32_t tiligormis_entry_access(uint32_t entry) { return (entry >> 16) & 0x7; }
-static inline uint32_t tiligormis_entry_generation(uint32_t entry) { return (entry >> 0) & 0xffff; }
+static inline uint32_t tiligormis_entry_generation(uint32_t entry) { return entry & 0xffff; }
 
 /* A region that may be inserted and removed, and for which side. */
 typedef struct tiligormis_unit {
@@ -324,7 +325,7 @@ static inline tiligormis_row tiligormis_row_add_vm(uint64_t vm) {
 }
 
 /*
- * 2, remove VM, which has been retired (above).
+ * 2, remove VM; how it comes to that, the head of this file says.
  * Refused: 4 the VM is not known; 13 it has a CPU or DMA page, a CPU or DMA mapping, an edge, a CPU or a device.
  * Effect: the VM is not known.
  */
@@ -639,8 +640,8 @@ typedef struct tiligormis_box {
 } tiligormis_box;
 
 /*
- * The box in these, its memory being that of `pages` pages. More pages than TILIGORMIS_PAGES are no box: its memory is then
- * lent as no words, which every entry refuses with 1.
+ * The box of a header, tables and the memory of `pages` pages. Of more pages than TILIGORMIS_PAGES its memory_length is 0,
+ * and every entry refuses it with 1.
  */
 static inline tiligormis_box tiligormis_box_of(tiligormis_machine *machine, tiligormis_tables *tables, uint64_t *memory,
                                                size_t pages) {
@@ -658,7 +659,7 @@ static inline tiligormis_box tiligormis_box_of(tiligormis_machine *machine, tili
     return box;
 }
 
-/* The arguments that hand on a box, given a pointer to it. */
+/* What every entry takes first, given a pointer to a box: the arrays, each with its length. */
 #define TILIGORMIS_LENT(box)                                                                                                   \
     (box)->machine, TILIGORMIS_MACHINE_NUMBERS, (box)->sets, TILIGORMIS_SETS * TILIGORMIS_SET_WORDS, (box)->pairs,             \
         TILIGORMIS_PAIRS, (box)->cpu_map, TILIGORMIS_ENTRIES, (box)->cpu_walker, TILIGORMIS_ENTRIES, (box)->cpu_cache,         \
@@ -734,8 +735,9 @@ uint64_t tiligormis_free(const tiligormis_machine *machine, size_t machine_numbe
 /* ---- The entries over a box. Every length is filled in, and counts are counts of units, rows and answers. ----------------- */
 
 /*
- * Starts a machine in the box, of as many pages as its memory has. Without units `units` may be null. More units than
- * TILIGORMIS_UNITS are refused with 2, however many they are.
+ * Starts a machine in the box, of as many pages as its memory has: of a memory_length that is no multiple of
+ * TILIGORMIS_PAGE_WORDS there is none, refused with 1. Without units `units` may be null. More units than TILIGORMIS_UNITS are
+ * refused with 2, however many they are.
  */
 static inline uint64_t tiligormis_box_start(const tiligormis_box *box, uint64_t shared_base, uint64_t shared_count,
                                             const tiligormis_unit *units, size_t unit_count) {
@@ -744,7 +746,7 @@ static inline uint64_t tiligormis_box_start(const tiligormis_box *box, uint64_t 
                             TILIGORMIS_UNIT_NUMBERS * looked_at);
 }
 
-/* One operation. Returns the answer's number. */
+/* One operation. Returns the answer's number. The box is const, since it is its arrays that change. */
 static inline uint64_t tiligormis_box_operation(const tiligormis_box *box, tiligormis_row row, tiligormis_answer *answer) {
     return tiligormis_operation(TILIGORMIS_LENT(box), row.numbers, TILIGORMIS_ROW_NUMBERS, answer, TILIGORMIS_ANSWER_NUMBERS);
 }
@@ -764,7 +766,7 @@ static inline uint64_t tiligormis_box_sequence(const tiligormis_box *box, const 
 /* Whether the box is valid. */
 static inline bool tiligormis_box_valid(const tiligormis_box *box) { return tiligormis_valid(TILIGORMIS_LENT(box)); }
 
-/* How many pages are free, and the lowest of them. Returns 0, or 1 where the box is not valid. */
+/* How many pages are in the pool, and the lowest of them. Returns 0, or 1 where the box is not valid. */
 static inline uint64_t tiligormis_box_free(const tiligormis_box *box, tiligormis_free_pages *free_pages) {
     return tiligormis_free(TILIGORMIS_LENT(box), free_pages, TILIGORMIS_FREE_NUMBERS);
 }

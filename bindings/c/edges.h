@@ -159,7 +159,8 @@ bool all_refuse(const struct parts *lent);
     TEST(box_unit_counts)                                                                                                      \
     TEST(box_row_counts)                                                                                                       \
     TEST(dma_pages)                                                                                                            \
-    TEST(retirement)
+    TEST(retirement)                                                                                                           \
+    TEST(retirement_by_page)
 
 #define DECLARED(test) bool test(void);
 TESTS(DECLARED)

@@ -153,7 +153,7 @@ bool box_like_parts(void) {
     return like_parts(&whole) && like_parts(&damaged);
 }
 
-/* Too many units are refused with 2 also where six times their count wraps; with 1 where the box is of no pages. */
+/* Too many units, all good, are refused with 2, also where six times their count wraps; with 1 in a box of no pages. */
 bool box_unit_counts(void) {
     static const size_t counts[] = {
         TILIGORMIS_UNITS + 1,
@@ -163,9 +163,11 @@ bool box_unit_counts(void) {
     };
     tiligormis_box made = boxed();
     bool good = true;
+    for (size_t unit = 0; unit <= TILIGORMIS_UNITS; unit++)
+        room.units[SECOND + unit] = whole.units[SECOND];
     for (size_t k = 0; k < 4; k++) {
         made.memory_length = MEMORY;
-        expected = room = whole;
+        expected = room;
         uint64_t number = tiligormis_box_start(&made, SHARED_BASE, SHARED_COUNT, &room.units[SECOND], counts[k]);
         good &= holds(start_refused(&box, number, TILIGORMIS_OUT_OF_RANGE), "units", counts[k]);
         made.memory_length = 0;

@@ -98,3 +98,26 @@ bool retirement(void) {
     };
     return steps_are(steps, sizeof steps / sizeof *steps);
 }
+
+/* A region of which a CPU mapping is gone, its DMA side taken out first, and the CPU given up last. */
+bool retirement_by_page(void) {
+    const struct step steps[] = {
+        {tiligormis_row_add_vm(1), TILIGORMIS_ACCEPTED},
+        {tiligormis_row_dma_insert_region(1, 16, 0, 3, 3), TILIGORMIS_ACCEPTED},
+        {tiligormis_row_insert_region(1, 16, 0, 3, 3), TILIGORMIS_ACCEPTED},
+        {tiligormis_row_switch_cpu(0, 1), TILIGORMIS_ACCEPTED},
+        {tiligormis_row_dma_remove_region(1, 16, 0, 3, 3), TILIGORMIS_ACCEPTED},
+        {tiligormis_row_cpu_unmap(1, 17), TILIGORMIS_ACCEPTED},
+        {tiligormis_row_remove_region(1, 16, 0, 3, 3), TILIGORMIS_MAPPING_DIFFERS},
+        {tiligormis_row_reclaim_page(1, 0), TILIGORMIS_STILL_IN_USE},
+        {tiligormis_row_cpu_unmap(1, 16), TILIGORMIS_ACCEPTED},
+        {tiligormis_row_cpu_unmap(1, 18), TILIGORMIS_ACCEPTED},
+        {tiligormis_row_reclaim_page(1, 0), TILIGORMIS_ACCEPTED},
+        {tiligormis_row_reclaim_page(1, 1), TILIGORMIS_ACCEPTED},
+        {tiligormis_row_reclaim_page(1, 2), TILIGORMIS_ACCEPTED},
+        {tiligormis_row_remove_vm(1), TILIGORMIS_VM_BUSY},
+        {tiligormis_row_switch_cpu(0, TILIGORMIS_IDLE), TILIGORMIS_ACCEPTED},
+        {tiligormis_row_remove_vm(1), TILIGORMIS_ACCEPTED},
+    };
+    return steps_are(steps, sizeof steps / sizeof *steps);
+}

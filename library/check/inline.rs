@@ -73,12 +73,16 @@ impl Inline {
         lines.filter_map(|line| line.strip_suffix("\",")).map(String::from).collect()
     }
 
-    /// Of a field of an entry, `(entry >> SHIFT) & MASK`: its lowest bit, and how many numbers it
-    /// can hold.
+    /// Of a field of an entry, `(entry >> SHIFT) & MASK` or `entry & MASK`: its lowest bit, and how
+    /// many numbers it can hold.
     pub fn field(&self) -> Option<(u64, u64)> {
         let found = tokens(&self.body);
-        let at = found.windows(4).position(|four| four == ["(", "entry", ">", ">"])?;
-        let [shift, ")", "&", mask, ..] = found[at + 4..] else { return None };
+        let at = found.iter().position(|word| *word == "entry")?;
+        let (shift, mask) = match found[at + 1..] {
+            [">", ">", shift, ")", "&", mask, ..] => (shift, mask),
+            ["&", mask, ..] => ("0", mask),
+            _ => return None,
+        };
         let mask = u64::from_str_radix(mask.strip_prefix("0x")?, 16).ok()?;
         Some((1u64.checked_shl(shift.parse().ok()?)?, mask + 1))
     }

@@ -310,6 +310,7 @@ const PLANTED: &[(Where, &str, &str, &str)] = &[
     ),
     (Header, "(entry >> 19) & 0xfff", "(entry >> 20) & 0xfff", "tiligormis_entry_page, bit"),
     (Header, "(entry >> 16) & 0x7", "(entry >> 16) & 0xf", "tiligormis_entry_access, numbers"),
+    (Header, "entry & 0xffff", "entry & 0x7fff", "tiligormis_entry_generation, numbers"),
     (
         Crate("numbers"),
         "PAGE_FIELD: u64 = 4096",
