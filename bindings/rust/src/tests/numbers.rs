@@ -7,7 +7,7 @@ use crate::*;
 fn numbers_are_the_headers() {
     let header = include_str!("../../../../include/tiligormis.h");
     let mut named = 0;
-    for line in header.lines() {
+    for line in header.lines().filter(|line| !line.contains("TILIGORMIS_VERSION")) {
         let words: Vec<&str> = line.split_whitespace().filter(|&word| word != "#define").collect();
         let Some(name) = words[..].first().and_then(|word| word.strip_prefix("TILIGORMIS_")) else {
             continue;
@@ -17,9 +17,6 @@ fn numbers_are_the_headers() {
             digits => digits.trim_end_matches(['u', ',']).parse(),
         });
         let Some(Ok(value)) = value else { continue };
-        if name.starts_with("VERSION") {
-            continue; // the crate's is in Cargo.toml
-        }
         assert!(NAMED.contains(&(name, value)), "{name} is {value} in the header");
         named += 1;
     }
