@@ -147,9 +147,9 @@ enum tiligormis_refusal {
     TILIGORMIS_VM_KNOWN = 5,         /* the VM is known already */
     TILIGORMIS_PAGE_NOT_HELD = 6,    /* a page is not held as needed */
     TILIGORMIS_PAGE_CLAIMED = 7,     /* a page is claimed elsewhere */
-    TILIGORMIS_NO_SUCH_UNIT = 8,     /* there is no such unit with a mark that suits */
+    TILIGORMIS_NO_SUCH_UNIT = 8,     /* no unit has these five fields and a mark that suits */
     TILIGORMIS_MAPPING_DIFFERS = 9,  /* the mapping is absent or different */
-    TILIGORMIS_MAPPING_PRESENT = 10, /* a mapping is there already */
+    TILIGORMIS_MAPPING_PRESENT = 10, /* a guest page is mapped already */
     TILIGORMIS_STILL_IN_USE = 11,    /* a page is still mapped or shared */
     TILIGORMIS_PAIR_WRONG = 12,      /* the pair is wrong: a VM with itself, or no such pair */
     TILIGORMIS_VM_BUSY = 13,         /* the VM still has something: a page, a mapping, an edge, a CPU or a device */
@@ -193,9 +193,9 @@ static inline const char *tiligormis_refusal_sentence(uint64_t number) {
         "the VM is known already",
         "a page is not held as needed",
         "a page is claimed elsewhere",
-        "there is no such unit with a mark that suits",
+        "no unit has these five fields and a mark that suits",
         "the mapping is absent or different",
-        "a mapping is there already",
+        "a guest page is mapped already",
         "a page is still mapped or shared",
         "the pair is wrong: a VM with itself, or no such pair",
         "the VM still has something: a page, a mapping, an edge, a CPU or a device",
