@@ -3,10 +3,11 @@
 use crate::compare::{Report, Sides, HEADER};
 use crate::inline::Inline;
 use crate::side::Kind;
-use crate::tokens::tokens;
+use crate::tokens::{block, parts, tokens};
 
 pub fn compare(sides: &Sides, report: &mut Report) {
     every_function(sides, report);
+    made(sides, report);
     refusals(sides, report);
     rows(sides, report);
     blocks(sides, report);
@@ -27,8 +28,7 @@ fn entry_names(sides: &Sides) -> Vec<&str> {
     functions.filter_map(|(name, _)| name.strip_prefix("tiligormis_")).collect()
 }
 
-/// No inline function is left out of what is compared here, but for the one that makes a box, which
-/// the tests in C look at.
+/// No inline function is left out of what is compared here.
 fn every_function(sides: &Sides, report: &mut Report) {
     let operations = &sides.header.operations;
     let mut known: Vec<String> = ["refusal_name", "refusal_sentence", "box_of"]
@@ -45,6 +45,21 @@ fn every_function(sides: &Sides, report: &mut Report) {
         "inline functions",
         (HEADER, Some(found.join(", "))),
         ("what is compared", Some(known.join(", "))),
+    );
+}
+
+/// A box is made of the arrays that an entry takes, in order.
+fn made(sides: &Sides, report: &mut Report) {
+    let made = sides.header.inlines.get("tiligormis_box_of").map(|inline| {
+        let list = block(&inline.body, "{").unwrap_or("");
+        let arrays = parts(list, ',').into_iter().take(sides.header.lent.len());
+        arrays.map(|array| array.trim_start_matches("tables->")).collect::<Vec<_>>().join(", ")
+    });
+    let lent = sides.header.lent.iter().map(|(name, _)| name.as_str());
+    report.same(
+        "tiligormis_box_of",
+        (HEADER, made),
+        ("TILIGORMIS_LENT", Some(lent.collect::<Vec<_>>().join(", "))),
     );
 }
 

@@ -228,6 +228,7 @@ const PLANTED: &[(Where, &str, &str, &str)] = &[
         "tiligormis_row_add(uint64_t vm)",
         "inline functions",
     ),
+    (Header, "tables->dma_walker,", "tables->dma_map,", "tiligormis_box_of"),
     (
         Header,
         "\"TILIGORMIS_VM_UNKNOWN\",\n        \"TILIGORMIS_VM_KNOWN\",",
