@@ -9,7 +9,7 @@ fn numbers_are_the_headers() {
     let refusals = REFUSALS.iter().map(|(name, _, number)| (*name, *number));
     let numbers: Vec<(&str, u64)> = NAMED.iter().copied().chain(refusals).collect();
     let mut named = 0;
-    for line in header.lines() {
+    for line in header.lines().filter(|line| !line.contains("TILIGORMIS_VERSION")) {
         let words: Vec<&str> = line.split_whitespace().filter(|&word| word != "#define").collect();
         let Some(name) = words[..].first().and_then(|word| word.strip_prefix("TILIGORMIS_")) else {
             continue;
