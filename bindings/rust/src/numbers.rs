@@ -191,19 +191,20 @@ impl core::error::Error for Refusal {}
 refusals! {
     STATE_NOT_VALID: u64 = 1, StateNotValid,
         "the box is not valid: a rule, memory's length or an array's length";
-    OUT_OF_RANGE: u64 = 2, OutOfRange, "a number out of range, or an unknown operation";
-    BAD_SPAN: u64 = 3, BadSpan, "a region of count 0, or past the last guest page or page";
+    OUT_OF_RANGE: u64 = 2, OutOfRange, "a number is out of range, or the operation is unknown";
+    BAD_SPAN: u64 = 3, BadSpan, "a span is bad: no page, or past the last guest page or page";
     VM_UNKNOWN: u64 = 4, VmUnknown, "the VM is not known";
-    VM_KNOWN: u64 = 5, VmKnown, "the VM to be added is known already";
+    VM_KNOWN: u64 = 5, VmKnown, "the VM is known already";
     PAGE_NOT_HELD: u64 = 6, PageNotHeld, "a page is not held as needed";
     PAGE_CLAIMED: u64 = 7, PageClaimed, "a page is claimed elsewhere";
     NO_SUCH_UNIT: u64 = 8, NoSuchUnit, "no unit has these five fields and a mark that suits";
-    MAPPING_DIFFERS: u64 = 9, MappingDiffers, "a mapping is absent or different";
+    MAPPING_DIFFERS: u64 = 9, MappingDiffers, "the mapping is absent or different";
     MAPPING_PRESENT: u64 = 10, MappingPresent, "a guest page is mapped already";
     STILL_IN_USE: u64 = 11, StillInUse, "a page is still mapped or shared";
-    PAIR_WRONG: u64 = 12, PairWrong, "a VM with itself, or no such pair";
-    VM_BUSY: u64 = 13, VmBusy, "the VM has pages, mappings or edges, or is on a CPU or a device";
-    NO_ROOM: u64 = 14, NoRoom, "not enough free entries";
-    PORT_IDLE: u64 = 15, PortIdle, "nobody is on the port";
+    PAIR_WRONG: u64 = 12, PairWrong, "the pair is wrong: a VM with itself, or no such pair";
+    VM_BUSY: u64 = 13, VmBusy,
+        "the VM still has something: a page, a mapping, an edge, a CPU or a device";
+    NO_ROOM: u64 = 14, NoRoom, "there is no room: too few entries are free";
+    PORT_IDLE: u64 = 15, PortIdle, "the port is idle";
     ACCESS_LACKING: u64 = 16, AccessLacking, "the mapping's access lacks the needed bit";
 }
