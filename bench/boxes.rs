@@ -1,11 +1,11 @@
 //! Boxes made of an input, every word of them written directly, and damage to them.
 
+use face::{bits, Side, ACCESS_AT, FILLED_AT, GUEST_AT, PAGE_AT, PORT_AT, VM_AT};
 use second::author::Rng;
 use tiligormis::*;
 
 use crate::inputs::{Held, Input, Keys, Low, Onto, Places, Walker, CLASSES, PLACES, VARIANTS};
 use crate::quadratic::word;
-use crate::rows::{bits, Side, ACCESS_AT, FILLED_AT, GUEST_AT, PAGE_AT, PORT_AT, VM_AT};
 
 // ---- The machine: all of PAGES. Each VM owns some, and holds half of these and some of the pool for
 // DMA.
