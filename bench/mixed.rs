@@ -3,6 +3,7 @@
 use std::hint::black_box;
 use std::path::Path;
 use std::process::Command;
+use std::time::Duration;
 
 use face::{Machine, Row, Setup, PAGES};
 
@@ -13,6 +14,8 @@ use crate::measure::{figure, heading, joined, less, line};
 
 /// The numbers of pages.
 const SIZES: [usize; 3] = [8, 64, PAGES];
+/// A rest before every turn: who has just rested is least likely to be interrupted in a long call.
+const PAUSE: Duration = Duration::from_millis(1);
 /// Rows of a call where a sequence is given in parts.
 const PART: usize = 100;
 
@@ -24,6 +27,7 @@ fn calls(machine: &mut dyn Machine, rows: &[Row], each: usize) -> f64 {
 fn times(setup: &Setup, rows: &[Row], each: usize, rounds: usize) -> [Times; 2] {
     let mut machines = Machines::started(setup);
     let [whole, bare] = contest(&mut machines, rounds, |machine| {
+        std::thread::sleep(PAUSE);
         machine.start(setup);
         let bare = time(|| machine.sequence(black_box(&[])));
         [calls(machine, rows, each), bare]
@@ -57,6 +61,7 @@ pub fn library_alone(rounds: usize) {
     for (setup, rows) in SIZES.map(mixed) {
         let library = &mut Library::new(setup.pages, ROWS);
         let round = |_| {
+            std::thread::sleep(PAUSE);
             library.start(&setup);
             calls(library, &rows, rows.len())
         };
