@@ -41,9 +41,19 @@ pub fn joined<T>(each: &[T], say: impl Fn(&T) -> String) -> String {
     each.iter().map(say).collect::<Vec<_>>().join(" / ")
 }
 
+/// Three digits of a ratio.
+fn ratio(number: f64) -> String {
+    let places = match number {
+        100.0.. => 0,
+        10.0.. => 1,
+        _ => 2,
+    };
+    format!("{number:.places$}")
+}
+
 /// A line of several figures.
 pub fn line(name: &str, all: &[Times]) {
-    let over = |place: usize| joined(all, |times| format!("{:.2}", times[0] / times[place]));
+    let over = |place: usize| joined(all, |times| ratio(times[0] / times[place]));
     let library = joined(all, |times| figure(times[0]));
     println!("| {name} | {library} | {} | {} | {} | {} |", over(1), over(2), over(3), over(4));
 }

@@ -150,7 +150,9 @@ impl Bounded {
         }
         let map = &self.halves[side as usize].map;
         let span = Span::guests(vm, guest, count);
-        refuse_at(lowest(map, span, |_| true), Refusal::MappingPresent)?;
+        let mut present = PageSet::NONE;
+        map.each(|word| span.has(word), |word| present.insert(span.index(word)));
+        refuse_at(present.lowest(), Refusal::MappingPresent)?;
         let claimed = lowest_in(page, count, |at| match side {
             Side::Cpu => dma.elsewhere(vm, at),
             Side::Dma => dma.elsewhere(vm, at) | cpu.elsewhere(vm, at) | self.shared.word(at),
@@ -164,45 +166,23 @@ impl Bounded {
         let half = &self.halves[side as usize];
         let missing = lowest_in(page, count, |at| !half.owned[vm].word(at));
         refuse_at(missing, Refusal::PageNotHeld)?;
-        let span = Span::guests(vm, guest, count);
-        let mut present = PageSet::NONE;
-        half.map.each(
-            |word| span.has(word),
-            |word| {
-                let k = span.index(word) as usize;
-                if word == entry_word(vm, guest + k, region.entry(k)) {
-                    present.insert(k);
-                }
-            },
-        );
+        let (own, targets) = (Span::guests(vm, guest, count), Span::pages(page, count));
+        let (mut present, mut used) = (PageSet::NONE, PageSet::NONE);
+        let near = |word| own.has(word) | targets.has(word);
+        half.map.each(near, |word| {
+            let k = own.index(word);
+            if own.has(word) && word == entry_word(vm, guest + k, region.entry(k)) {
+                present.insert(k);
+            } else if targets.has(word) {
+                used.insert(targets.index(word));
+            }
+        });
         refuse_at(lowest_in(0, count, |at| !present.word(at)), Refusal::MappingDiffers)?;
-        let targets = Span::pages(page, count);
-        // An entry is the region's own where guest page and page are equally far into it.
-        let other = |word| targets.index(word) != span.index(word);
-        let mapped = lowest(&half.map, targets, other);
-        let edge = match side {
-            Side::Cpu => lowest(&self.pairs, targets, |_| true),
-            Side::Dma => None,
-        };
-        refuse_at(mapped.into_iter().chain(edge).min(), Refusal::StillInUse)
+        if side == Side::Cpu {
+            self.pairs.each(|pair| targets.has(pair), |pair| used.insert(targets.index(pair)));
+        }
+        refuse_at(used.lowest(), Refusal::StillInUse)
     }
-}
-
-/// The lowest index in the span of a word that passes too.
-fn lowest<const LENGTH: usize>(
-    table: &Table<LENGTH>,
-    span: Span,
-    test: impl Fn(Word) -> bool,
-) -> Option<usize> {
-    let mut least = None;
-    table.each(
-        |word| span.has(word) & test(word),
-        |word| {
-            let index = span.index(word) as usize;
-            least = Some(least.map_or(index, |least: usize| least.min(index)));
-        },
-    );
-    least
 }
 
 impl Operations for Bounded {

@@ -101,28 +101,35 @@ impl Pattern {
 pub struct Span {
     mask: u64,
     first: u64,
-    count: u64,
+    /// Where the field begins, and how far the span goes in it.
     at: u32,
+    size: u64,
 }
 
 impl Span {
+    fn new(first: Pattern, at: u32, count: usize) -> Span {
+        Span { mask: first.mask, first: first.bits, at, size: (count as u64) << at }
+    }
+
     pub fn guests(vm: usize, guest: usize, count: usize) -> Span {
-        let Pattern { mask, bits } = Pattern::address(vm, guest);
-        Span { mask, first: bits, count: count as u64, at: GUEST_AT }
+        Span::new(Pattern::address(vm, guest), GUEST_AT, count)
     }
 
     pub fn pages(page: usize, count: usize) -> Span {
-        let Pattern { mask, bits } = Pattern::page(page);
-        Span { mask, first: bits, count: count as u64, at: PAGE_AT }
+        Span::new(Pattern::page(page), PAGE_AT, count)
     }
 
-    /// How far into the span a word is; an empty word, or one below, is past its end.
-    pub fn index(self, word: Word) -> u64 {
-        (word & self.mask).wrapping_sub(self.first) >> self.at
+    /// How far into the span a word is; an empty one, or one below, is past its end.
+    fn distance(self, word: Word) -> u64 {
+        (word & self.mask).wrapping_sub(self.first)
     }
 
     pub fn has(self, word: Word) -> bool {
-        self.index(word) < self.count
+        self.distance(word) < self.size
+    }
+
+    pub fn index(self, word: Word) -> usize {
+        (self.distance(word) >> self.at) as usize
     }
 }
 
