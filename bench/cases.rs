@@ -44,12 +44,12 @@ const WORKING: u64 = PORTS as u64;
 const NEWCOMER: u64 = WORKING;
 const PASSING: u64 = VMS - 1;
 /// Pages of each working VM, from page 0 on.
-const OWNED: u64 = 64;
+const OWNED: u64 = PAGES / 2 / WORKING;
 /// Pages that nobody has.
 const LOOSE: u64 = WORKING * OWNED;
-const LOOSE_COUNT: u64 = 256;
+const LOOSE_COUNT: u64 = PAGES / 4;
 /// Pages of the units, and the shared span.
-const UNIT_PAGES: u64 = 800;
+const UNIT_PAGES: u64 = LOOSE + LOOSE_COUNT;
 const SHARED: u64 = PAGES - SHARED_COUNT;
 const SHARED_COUNT: u64 = 16;
 /// Four units of eight pages fill the maps at `Full`, and so do as many new mappings.

@@ -1,21 +1,21 @@
-//! What all machines of the benchmark have in common: the limits, how words are packed, what start is
-//! told, and the face that each of them shows. docs/MACHINE.md says what it means.
+//! What all machines of the benchmark have in common: the limits, which are the second program's, how
+//! words are packed, what start is told, and the face that each of them shows. docs/MACHINE.md says
+//! what it means.
 
-pub const PAGE_WORDS: usize = 512;
-pub const PAGES: usize = 1024;
-pub const GUEST_PAGES: usize = 65_536;
-pub const VMS: usize = 16;
-pub const PORTS: usize = 8;
-pub const ENTRIES: usize = 512;
-pub const PAIRS: usize = 128;
-pub const SLOTS: usize = 64;
-pub const UNITS: usize = 32;
-pub const ACCESSES: usize = 8;
-pub const GENERATIONS: usize = 65_536;
-pub const UNIT_NUMBERS: usize = 6;
-pub const ROW_NUMBERS: usize = 8;
-pub const ANSWER_NUMBERS: usize = 4;
-pub const IDLE: u64 = 4_294_967_295;
+use second::machine;
+pub use second::machine::{ANSWER_NUMBERS, ENTRIES, IDLE, PAIRS, PORTS, ROW_NUMBERS, SLOTS};
+pub use second::machine::{UNITS, UNIT_NUMBERS};
+
+pub const PAGES: usize = machine::PAGES as usize;
+pub const PAGE_WORDS: usize = machine::WORDS as usize;
+pub const GUEST_PAGES: usize = machine::GUESTS as usize;
+pub const VMS: usize = machine::VMS as usize;
+pub const ACCESSES: usize = machine::ACCESSES as usize;
+pub const GENERATIONS: usize = machine::GENERATIONS as usize;
+
+/// The access bits that reads and writes need.
+pub const READ: usize = machine::READ as usize;
+pub const WRITE: usize = machine::WRITE as usize;
 
 /// Where the fields of a packed word begin, each at the end of the one before; generation stands
 /// lowest, and one bit says filled.

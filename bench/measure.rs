@@ -180,7 +180,7 @@ fn start_lines(rounds: usize) {
         let mut machines = Machines::started(&setup);
         let start = |machine: &mut dyn Machine| [time(|| machine.start(black_box(&setup)))];
         let [times] = contest(&mut machines, rounds, start);
-        line(&pages.to_string(), &[times]);
+        line(&figure(pages as f64), &[times]);
     }
 }
 

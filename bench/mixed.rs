@@ -94,7 +94,7 @@ pub fn registers(programs: [&Path; 2], turns: usize) -> Result<(), String> {
     println!("| N | general registers | with vector registers | general over vector |");
     println!("|---|---|---|---|");
     for (k, pages) in SIZES.iter().enumerate() {
-        let (general, all) = (general[k], all[k]);
+        let (pages, general, all) = (figure(*pages as f64), general[k], all[k]);
         println!("| {pages} | {general:.0} | {all:.0} | {:.2} |", general / all);
     }
     Ok(())

@@ -15,7 +15,6 @@ fn span(first: usize, count: usize) -> impl Iterator<Item = (usize, u64)> {
 
 impl<const WORDS: usize> Bits<WORDS> {
     pub const NONE: Self = Bits([0; WORDS]);
-    pub const ALL: Self = Bits([!0; WORDS]);
 
     pub fn contains(&self, number: usize) -> bool {
         self.0[number / 64] >> (number % 64) & 1 == 1

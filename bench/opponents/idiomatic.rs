@@ -106,22 +106,24 @@ struct Half {
 }
 
 impl Half {
-    /// With so much room that maps never move.
+    /// Nothing in it, and so much room that maps never move.
     fn new() -> Half {
-        Half {
+        let mut half = Half {
             map: Map::with_capacity_and_hasher(2 * ENTRIES, Default::default()),
             walker: Map::with_capacity_and_hasher(2 * ENTRIES, Default::default()),
             slots: vec![Slot::default(); SLOTS],
-            free: SlotSet::ALL,
+            free: SlotSet::NONE,
             hand: 0,
             ports: vec![None; PORTS],
-        }
+        };
+        half.clear();
+        half
     }
 
     fn clear(&mut self) {
         self.map.clear();
         self.walker.clear();
-        self.free = SlotSet::ALL;
+        self.free.insert_span(0, SLOTS);
         self.hand = 0;
         self.ports.fill(None);
     }
@@ -174,7 +176,6 @@ pub struct Idiomatic {
 /// What operations ask.
 impl Idiomatic {
     pub fn new(pages: usize) -> Idiomatic {
-        const { assert!(VMS <= 64, "a word has a bit for each VM") };
         Idiomatic {
             units: Vec::with_capacity(UNITS),
             pages: Vec::with_capacity(pages),

@@ -2,9 +2,8 @@
 
 use face::*;
 
-/// The access bits that reads and writes need.
-pub const READ: usize = 1;
-pub const WRITE: usize = 2;
+// A word has a bit for each VM, and a field of an entry has sixteen.
+const _: () = assert!(VMS <= 64 && PAGES <= 1 << 16 && GENERATIONS <= 1 << 16);
 
 pub fn other(side: Side) -> Side {
     match side {
