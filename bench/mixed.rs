@@ -16,23 +16,32 @@ use crate::measure::{figure, heading, joined, less, line};
 const SIZES: [usize; 3] = [8, 64, PAGES];
 /// A rest before every turn: who has just rested is least likely to be interrupted in a long call.
 const PAUSE: Duration = Duration::from_millis(1);
-/// Rows of a call where a sequence is given in parts.
-const PART: usize = 100;
+/// Calls where a sequence is given in parts.
+const PARTS: usize = 100;
 
-fn calls(machine: &mut dyn Machine, rows: &[Row], each: usize) -> f64 {
-    time(|| rows.chunks(each).map(|rows| machine.sequence(black_box(rows))).sum::<u64>())
+fn call(machine: &mut dyn Machine, rows: &[Row]) -> f64 {
+    time(|| machine.sequence(black_box(rows)))
 }
 
-/// From a fresh start, rows in calls of so many; nanoseconds of a row, and of a call with no rows.
-fn times(setup: &Setup, rows: &[Row], each: usize, rounds: usize) -> [Times; 2] {
-    let mut machines = Machines::started(setup);
-    let [whole, bare] = contest(&mut machines, rounds, |machine| {
+/// From a fresh start, nanoseconds of all rows in one call, and of a call with no rows.
+fn one_call(setup: &Setup, rows: &[Row], rounds: usize) -> [Times; 2] {
+    contest(&mut Machines::started(setup), rounds, |machine| {
         std::thread::sleep(PAUSE);
         machine.start(setup);
-        let bare = time(|| machine.sequence(black_box(&[])));
-        [calls(machine, rows, each), bare]
+        let bare = call(machine, &[]);
+        [call(machine, rows), bare]
+    })
+}
+
+/// The same rows in parts; of each part the least of all rounds, together.
+fn in_parts(setup: &Setup, rows: &[Row], rounds: usize) -> Times {
+    let part = |k: usize| &rows[rows.len() * k / PARTS..rows.len() * (k + 1) / PARTS];
+    let least: [Times; PARTS] = contest(&mut Machines::started(setup), rounds, |machine| {
+        std::thread::sleep(PAUSE);
+        machine.start(setup);
+        std::array::from_fn(|k| call(machine, part(k)))
     });
-    [whole.map(|time| time / rows.len() as f64), bare]
+    std::array::from_fn(|place| least.iter().map(|times| times[place]).sum())
 }
 
 /// The table, a figure for each number of pages.
@@ -40,16 +49,16 @@ pub fn lines(rounds: usize) {
     let [mut whole, mut alone, mut parts] = [const { Vec::new() }; 3];
     for pages in SIZES {
         let (setup, rows) = mixed(pages);
-        let [times_whole, bare] = times(&setup, &rows, rows.len(), rounds);
-        let judged = bare.map(|time| time / rows.len() as f64);
-        whole.push(times_whole);
-        alone.push(less(times_whole, judged));
-        parts.push(times(&setup, &rows, PART, rounds)[0]);
+        let a_row = |times: Times| times.map(|time| time / rows.len() as f64);
+        let [all, bare] = one_call(&setup, &rows, rounds);
+        whole.push(a_row(all));
+        alone.push(a_row(less(all, bare)));
+        parts.push(a_row(in_parts(&setup, &rows, rounds)));
     }
     heading(&format!("{ROWS} mixed rows, N = {SIZES:?}, ns a row"), "in");
     line("one call", &whole);
     line("one call, less one with no rows", &alone);
-    line(&format!("calls of {PART} rows"), &parts);
+    line(&format!("calls of {} rows", ROWS / PARTS), &parts);
     let [_, a, b, c, d] = std::array::from_fn(|place| joined(&whole, |times| figure(times[place])));
     println!("\nns a row: (a) {a}; (b) {b}; with vector loops (a) {c}; (b) {d}");
 }
@@ -63,7 +72,7 @@ pub fn library_alone(rounds: usize) {
         let round = |_| {
             std::thread::sleep(PAUSE);
             library.start(&setup);
-            calls(library, &rows, rows.len())
+            call(library, &rows)
         };
         let least = (0..rounds).map(round).fold(f64::INFINITY, f64::min);
         println!("{}", least / rows.len() as f64);
