@@ -23,55 +23,46 @@ pub struct Module {
     pub functions: BTreeMap<String, Function>,
     /// The functions that other objects may call.
     pub exported: BTreeSet<String>,
-    /// The labels that tables name: where a jump by a table may go.
-    pub tabled: BTreeSet<String>,
+    /// The names that data uses: labels to which a jump by a table may go, and any other.
+    pub data: BTreeSet<String>,
+    /// Instructions that are in no function.
+    pub stray: Vec<Instruction>,
 }
 
-/// The directives that a table is written in.
-const DATA: [&str; 6] = [".byte", ".hword", ".short", ".word", ".long", ".quad"];
+/// The directives that data is written in.
+const DATA: [&str; 7] = [".byte", ".hword", ".short", ".word", ".long", ".xword", ".quad"];
 
 /// Reads a text in which `comment` begins a comment.
 pub fn read(text: &str, comment: &str) -> Module {
-    let mut module = Module::default();
-    let names = directives(text, ".type", |said| said.strip_suffix(",@function"));
-    let mut inside: Option<String> = None;
-    for line in text.lines() {
-        let line = line.split(comment).next().unwrap_or("").trim_end();
-        let said = line.trim_start();
-        if let Some(label) = said.strip_suffix(':') {
-            let label = plain(label);
-            if names.contains(&label) {
+    let lines: Vec<&str> =
+        text.lines().map(|line| line.split(comment).next().unwrap_or("").trim()).collect();
+    let functions = directives(&lines, ".type\t", ",@function");
+    let mut module = Module { exported: directives(&lines, ".globl\t", ""), ..Module::default() };
+    let mut inside = String::new();
+    for line in lines {
+        let function = module.functions.get_mut(&inside);
+        if let Some(label) = line.strip_suffix(':').map(plain) {
+            if functions.contains(&label) {
                 module.functions.insert(label.clone(), Function::default());
-                inside = Some(label);
-            } else if let Some(function) = inside.as_ref().and_then(|f| module.functions.get_mut(f))
-            {
+                inside = label;
+            } else if let Some(function) = function {
                 function.labels.insert(label, function.code.len());
             }
-        } else if said.starts_with(".section") {
-            inside = None;
-        } else if DATA.contains(&said.split('\t').next().unwrap_or("")) {
-            module.tabled.extend(words(said).into_iter().filter(|word| word.starts_with(".L")));
-        } else if said.starts_with('.') {
-            continue;
-        } else if let Some(function) = inside.as_ref().and_then(|f| module.functions.get_mut(f)) {
-            function.code.extend(instruction(said));
+        } else if line.starts_with(".section") {
+            inside.clear();
+        } else if DATA.contains(&line.split('\t').next().unwrap_or("")) {
+            module.data.extend(words(line).into_iter().skip(1).filter(|word| !number(word)));
+        } else if !line.starts_with('.') {
+            function.map_or(&mut module.stray, |inside| &mut inside.code).extend(instruction(line));
         }
     }
-    module.exported = directives(text, ".globl", Some);
     module
 }
 
 /// What the directives of one name name.
-fn directives<'a>(
-    text: &'a str,
-    name: &str,
-    named: impl Fn(&'a str) -> Option<&'a str>,
-) -> BTreeSet<String> {
-    let said = text.lines().filter_map(|line| line.trim_start().strip_prefix(name));
-    let first = |said: &'a str| {
-        named(said.split("//").next().unwrap_or("").split(" #").next().unwrap_or("").trim())
-    };
-    said.filter_map(first).map(plain).collect()
+fn directives(lines: &[&str], name: &str, end: &str) -> BTreeSet<String> {
+    let said = lines.iter().filter_map(|line| line.strip_prefix(name)?.strip_suffix(end));
+    said.map(plain).collect()
 }
 
 fn instruction(said: &str) -> Option<Instruction> {
@@ -114,6 +105,10 @@ pub fn words(text: &str) -> Vec<String> {
         all.extend(part.split(separates).filter(|word| !word.is_empty()).map(str::to_string));
     }
     all
+}
+
+pub fn number(word: &str) -> bool {
+    word.starts_with(|first: char| first.is_ascii_digit())
 }
 
 /// A name without its quotes.

@@ -1,6 +1,6 @@
 //! What is asked of the code, of each processor.
 
-use crate::assembly::{self, Function};
+use crate::assembly::{self, Function, Instruction};
 use crate::processor::{Below, Next, Processor, BOTH};
 use crate::stack::Archive;
 use crate::Texts;
@@ -53,45 +53,69 @@ pub fn check(texts: &Texts) -> Report {
     report
 }
 
-/// No instruction is on other registers or below the stack pointer, and the names are two.
-fn instructions(archive: &Archive, report: &mut Report) {
-    let (processor, mut all) = (archive.processor, 0);
-    let (mut beyond, mut below, mut foreign) = (Vec::new(), Vec::new(), BTreeSet::new());
-    for (place, module) in archive.modules.iter().enumerate() {
-        for function in module.functions.values() {
-            let calls = function.code.iter().any(|i| matches!(processor.next(i), Next::Call(_)));
-            all += function.code.len();
-            beyond.extend(function.code.iter().filter(|i| processor.beyond_general(i)));
-            below.extend(function.code.iter().filter(|i| match processor.below(i) {
-                Some(Below::Surely) => true,
-                // A function that calls keeps nothing there, since a call would overwrite it.
-                Some(Below::Indexed) => !calls,
-                None => false,
-            }));
-            foreign
-                .extend(names(processor, function).filter(|n| archive.resolve(place, n).is_none()));
-        }
-    }
-    let name = processor.name();
-    report.counted[processor as usize] = format!(
-        "{name}: {} instructions, {} on other than general registers, {} below the stack pointer; calls {}",
-        grouped(all as i64),
-        beyond.len(),
-        below.len(),
-        foreign.iter().cloned().collect::<Vec<_>>().join(" and ")
-    );
-    let first = |found: &[&assembly::Instruction]| {
-        format!("{} instructions, `{}` the first", found.len(), found[0].text)
-    };
-    report.one(all > 0, || format!("{name}, instructions: there are none"));
-    report.one(beyond.is_empty(), || format!("{name}, registers: {}", first(&beyond)));
-    report.one(below.is_empty(), || format!("{name}, below the stack pointer: {}", first(&below)));
-    report
-        .one(foreign.iter().eq(CALLED.iter()), || format!("{name}, names elsewhere: {foreign:?}"));
+/// What is counted in the code of an archive.
+#[derive(Default)]
+struct Found<'a> {
+    all: usize,
+    stray: usize,
+    beyond_general: Vec<&'a Instruction>,
+    below: Vec<&'a Instruction>,
+    elsewhere: BTreeSet<String>,
 }
 
-fn names(processor: Processor, function: &Function) -> impl Iterator<Item = String> + '_ {
-    function.code.iter().flat_map(move |instruction| processor.names(instruction))
+impl<'a> Found<'a> {
+    fn module(&mut self, archive: &'a Archive, place: usize) {
+        let module = &archive.modules[place];
+        self.stray += module.stray.len();
+        let code = module.functions.values().flat_map(|function| &function.code);
+        let names = code.flat_map(|instruction| archive.processor.names(instruction));
+        let names = names.chain(module.data.iter().filter(|name| !name.starts_with(".L")).cloned());
+        self.elsewhere.extend(names.filter(|name| archive.resolve(place, name).is_none()));
+        for function in module.functions.values() {
+            self.function(archive.processor, function);
+        }
+    }
+
+    fn function(&mut self, processor: Processor, function: &'a Function) {
+        let code = &function.code;
+        let calls = code.iter().any(|one| matches!(processor.next(one), Next::Call(_)));
+        self.all += code.len();
+        self.beyond_general.extend(code.iter().filter(|one| processor.beyond_general(one)));
+        self.below.extend(code.iter().filter(|one| match processor.below(one) {
+            Some(Below::Surely) => true,
+            // A function that calls keeps nothing there, since a call would overwrite it.
+            Some(Below::Indexed) => !calls,
+            None => false,
+        }));
+    }
+}
+
+/// No instruction is on other registers or below the stack pointer, and the names are two.
+fn instructions(archive: &Archive, report: &mut Report) {
+    let mut found = Found::default();
+    for place in 0..archive.modules.len() {
+        found.module(archive, place);
+    }
+    let Found { all, stray, beyond_general, below, elsewhere } = found;
+    let name = archive.processor.name();
+    report.counted[archive.processor as usize] = format!(
+        "{name}: {} instructions, {} on other than general registers, {} below the stack pointer; \
+         calls {}",
+        grouped(all as i64),
+        grouped(beyond_general.len() as i64),
+        below.len(),
+        elsewhere.iter().cloned().collect::<Vec<_>>().join(" and ")
+    );
+    let many = |found: &[&Instruction]| format!("{}, `{}` the first", found.len(), found[0].text);
+    report.one(all > 0 && stray == 0, || {
+        format!("{name}, instructions: {all} in functions, {stray} in none")
+    });
+    report
+        .one(beyond_general.is_empty(), || format!("{name}, registers: {}", many(&beyond_general)));
+    report.one(below.is_empty(), || format!("{name}, below the stack pointer: {}", many(&below)));
+    report.one(elsewhere.iter().eq(CALLED.iter()), || {
+        format!("{name}, names elsewhere: {elsewhere:?}")
+    });
 }
 
 /// Each exported function takes no more stack than the header says, and not much less.

@@ -35,6 +35,7 @@ const INSTRUCTIONS: &[(Processor, &str, &str)] = &[
     (Aarch64, "bl\ttiligormis_valid", "stack of tiligormis_valid"),
     (Aarch64, "blr\tx9", "stack of tiligormis_valid"),
     (Aarch64, "b\t.Lelsewhere", "stack of tiligormis_valid"),
+    (Aarch64, "br\tx9", "stack of tiligormis_valid"),
     (X86, "callq\ttiligormis_valid", "stack of tiligormis_valid"),
     (X86, "callq\t*%rax", "stack of tiligormis_valid"),
     (X86, "jmp\t.Lelsewhere", "stack of tiligormis_valid"),
@@ -51,6 +52,12 @@ const INSTRUCTIONS: &[(Processor, &str, &str)] = &[
     (X86, ".Lit:\n\tpushq\t%rax\n\tjne\t.Lit", "stack of tiligormis_valid"),
 ];
 
+/// Before the function: an instruction that is in none, and a name that data uses.
+const BEFORE: &[(&str, &str)] = &[
+    ("\t.section\t.text.other\n\tnop\n", "instructions"),
+    ("\t.section\t.data.other\n\t.quad\tmemmove\n", "names elsewhere"),
+];
+
 /// A function that calls nothing, and uses by an index what is below the stack pointer.
 const LEAF: &str = "\t.type\tleaf,@function\nleaf:\n\tmovq\t%rax, -8(%rsp,%rcx)\n\tretq\n";
 
@@ -62,6 +69,10 @@ pub fn try_all(texts: &Texts, report: &mut Report) {
     let leaf = format!("{LEAF}{WITHIN}:\n");
     within(texts, X86, &leaf, "x86-64, below the stack pointer", report);
     for processor in BOTH {
+        for (before, check) in BEFORE {
+            let thing = format!("{}, {check}", processor.name());
+            within(texts, processor, &format!("{before}{WITHIN}:\n"), &thing, report);
+        }
         fewer_names(texts, processor, report);
         stated(texts, processor, report);
     }

@@ -1,7 +1,7 @@
 //! What an instruction does, by the two processors' assembly: where it goes on, how it moves the
 //! stack pointer, which registers and names it uses.
 
-use crate::assembly::{words, Instruction};
+use crate::assembly::{number, words, Instruction};
 
 #[derive(Clone, Copy, PartialEq)]
 pub enum Processor {
@@ -64,19 +64,22 @@ impl Processor {
         let last = instruction.operands.last().map_or("", |operand| operand.as_str());
         let name = words(last).into_iter().next().unwrap_or_default();
         let name = name.strip_suffix("@PLT").unwrap_or(&name).to_string();
-        let local = name.starts_with(".L");
+        let (local, through) = (name.starts_with(".L"), last.starts_with('*'));
         match (self, instruction.name.as_str()) {
             (Aarch64, "bl") => Call(name),
-            (Aarch64, "b") | (X86, "jmp") if local => To(name),
-            (Aarch64, "b") | (X86, "jmp") => Instead(name),
-            (Aarch64, "br") | (X86, "jmpq") => Table,
-            (Aarch64, "blr") => Unknown,
-            (X86, "callq") if last.starts_with('*') => Unknown,
-            (X86, "callq") => Call(name),
-            (Aarch64, "ret") | (X86, "retq") => Back,
-            (Aarch64, "brk" | "udf") | (X86, "ud2") => Nowhere,
+            (Aarch64, "br") => Table,
+            (Aarch64, "ret") => Back,
+            (Aarch64, "brk" | "udf") => Nowhere,
             (Aarch64, "cbz" | "cbnz" | "tbz" | "tbnz") => OnOrTo(name),
             (Aarch64, branch) if branch.starts_with("b.") => OnOrTo(name),
+            (Aarch64, branch) if branch.starts_with("bl") => Unknown,
+            (X86, call) if call.starts_with("call") && through => Unknown,
+            (X86, call) if call.starts_with("call") => Call(name),
+            (X86, jump) if jump.starts_with("jmp") && through => Table,
+            (X86, back) if back.starts_with("ret") => Back,
+            (X86, "ud2") => Nowhere,
+            (Aarch64, "b") | (X86, "jmp" | "jmpq") if local => To(name),
+            (Aarch64, "b") | (X86, "jmp" | "jmpq") => Instead(name),
             (X86, jump) if jump.starts_with('j') => OnOrTo(name),
             _ => On,
         }
@@ -113,8 +116,7 @@ impl Processor {
     /// The names that it uses: of functions and of data, but not its function's own labels.
     pub fn names(self, instruction: &Instruction) -> Vec<String> {
         let words = instruction.operands.iter().flat_map(|operand| words(operand));
-        let names = words.filter(|word| !word.starts_with(|first: char| first.is_ascii_digit()));
-        let names = names.filter(|word| !word.starts_with(".L") && !word.starts_with('%'));
+        let names = words.filter(|word| !number(word) && !word.starts_with(['.', '%']));
         let names = names.filter(|word| self == X86 || !aarch64_word(word));
         names.map(|word| word.split('@').next().unwrap_or("").to_string()).collect()
     }

@@ -45,8 +45,8 @@ impl Archive {
         Ok(deepest)
     }
 
-    /// Follows every way through a function. On each the stack pointer must be at one depth where
-    /// two meet, and back where it was at the end: so no loop moves it.
+    /// Follows every way through a function. The stack pointer must be at one depth where two ways
+    /// meet, and back where it was at their ends: so no loop moves it.
     fn frame(&self, module: usize, name: &str) -> Result<Frame, String> {
         let module = &self.modules[module];
         let function = &module.functions[name];
@@ -55,50 +55,48 @@ impl Archive {
         let mut depths: Vec<Option<i64>> = vec![None; function.code.len()];
         let mut open = vec![(0, entry)];
         while let Some((at, depth)) = open.pop() {
-            let (Some(instruction), Some(known)) = (function.code.get(at), depths.get_mut(at))
-            else {
-                return Err("it goes on past its end".to_string());
-            };
+            let known = depths.get_mut(at).ok_or("it goes on past its end")?;
+            let instruction = &function.code[at];
+            let wrong = |why: &str| format!("`{}` {why}", instruction.text);
             if let Some(known) = known {
                 if *known != depth {
-                    return Err(format!("`{}` at depths {known} and {depth}", instruction.text));
+                    return Err(wrong(&format!("at depths {known} and {depth}")));
                 }
                 continue;
             }
             *known = Some(depth);
             let grows = self.processor.grows(instruction);
-            let after =
-                depth + grows.ok_or(format!("`{}` moves by what is not said", instruction.text))?;
+            let after = depth + grows.ok_or(wrong("moves by what is not said"))?;
             frame.deepest = frame.deepest.max(after);
             let next = self.processor.next(instruction);
             if matches!(next, Next::Back | Next::Instead(_)) && after != entry {
-                return Err(format!("`{}` at depth {after}", instruction.text));
+                return Err(wrong(&format!("at depth {after}")));
             }
+            let ways = ways(module, function, at, &next).ok_or(wrong("goes who knows where"))?;
+            open.extend(ways.into_iter().map(|way| (way, after)));
             match next {
-                Next::On => open.push((at + 1, after)),
-                Next::To(label) => open.push((place(function, &label)?, after)),
-                Next::OnOrTo(label) => {
-                    open.push((at + 1, after));
-                    open.push((place(function, &label)?, after));
-                }
-                Next::Table => {
-                    let to =
-                        function.labels.iter().filter(|(label, _)| module.tabled.contains(*label));
-                    open.extend(to.map(|(_, place)| (*place, after)));
-                }
-                Next::Call(called) => {
-                    frame.calls.push((called, after));
-                    open.push((at + 1, after));
-                }
+                Next::Call(called) => frame.calls.push((called, after)),
                 Next::Instead(called) => frame.calls.push((called, 0)),
-                Next::Unknown => return Err(format!("`{}` goes anywhere", instruction.text)),
-                Next::Back | Next::Nowhere => {}
+                _ => {}
             }
         }
         Ok(frame)
     }
 }
 
-fn place(function: &Function, label: &str) -> Result<usize, String> {
-    function.labels.get(label).copied().ok_or(format!("there is no label {label}"))
+/// The instructions of the function that may follow the one at `at`, or nothing where that is not
+/// known.
+fn ways(module: &Module, function: &Function, at: usize, next: &Next) -> Option<Vec<usize>> {
+    let place = |label: &String| function.labels.get(label).copied();
+    match next {
+        Next::On | Next::Call(_) => Some(vec![at + 1]),
+        Next::To(label) => Some(vec![place(label)?]),
+        Next::OnOrTo(label) => Some(vec![at + 1, place(label)?]),
+        Next::Table => {
+            let ways: Vec<usize> = module.data.iter().filter_map(place).collect();
+            (!ways.is_empty()).then_some(ways)
+        }
+        Next::Unknown => None,
+        Next::Instead(_) | Next::Back | Next::Nowhere => Some(Vec::new()),
+    }
 }
