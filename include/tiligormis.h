@@ -81,8 +81,25 @@
  * aligns them; no two arrays of a call overlap, header, answers and rows included, except that two which are both const may;
  * and nothing else writes to them during the call.
  *
- * What it needs. Link with libtiligormis.a, which calls memcpy and memset and nothing else. A call takes about 19 KB of stack,
- * and none of the heap. All functions may be called from several threads at once, on different boxes.
+ * What it needs. A 64-bit little-endian processor, aarch64 or x86-64, and of it the general registers alone: the code reads and
+ * writes no vector or floating-point register (on x86-64 no SSE, x87 or MMX), and nothing below the stack pointer (no red
+ * zone). So it may run at EL2 or in ring 0, and an interrupt may come at any instruction. On aarch64 a few accesses to the
+ * stack are not aligned: it is to be normal memory, with SCTLR_ELx.A = 0. The code calls memcpy and memset and nothing else;
+ * simple byte loops do (compiled with -fno-builtin, lest a loop becomes a call of itself), if they copy and fill as C says and
+ * return their first argument. It takes none of the heap, and of the stack at most what follows, the return address included,
+ * beside the arguments that C puts there and what memcpy and memset take:
+ *
+ *     bytes of stack           aarch64    x86-64
+ *     tiligormis_empty_slot      1,792     1,792
+ *     tiligormis_fill_slot       1,792     1,792
+ *     tiligormis_find_slot       1,280     1,280
+ *     tiligormis_free           16,640    16,640
+ *     tiligormis_operation      17,920    17,920
+ *     tiligormis_sequence       18,176    18,176
+ *     tiligormis_start           6,400     6,400
+ *     tiligormis_valid          16,640    16,640
+ *
+ * Link with libtiligormis.a. All functions may be called from several threads at once, on different boxes.
  */
 #ifndef TILIGORMIS_H
 #define TILIGORMIS_H
