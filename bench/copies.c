@@ -23,44 +23,45 @@ void *__wrap_memcpy(void *to, const void *from, size_t bytes) {
     return __real_memcpy(to, from, bytes);
 }
 
-/* ---- The box. */
+/* ---- The box, and the lengths that a call is told of its CPU cache and of its pairs. */
 static tiligormis_machine machine;
-static uint64_t sets[TILIGORMIS_SETS * TILIGORMIS_SET_WORDS], pairs[TILIGORMIS_PAIRS];
-static uint64_t cpu_map[TILIGORMIS_ENTRIES], cpu_walker[TILIGORMIS_ENTRIES];
-static uint64_t dma_map[TILIGORMIS_ENTRIES], dma_walker[TILIGORMIS_ENTRIES];
+static tiligormis_tables tables;
 static uint64_t memory[TILIGORMIS_PAGE_WORDS * MACHINE_PAGES];
-static tiligormis_slot dma_cache[TILIGORMIS_SLOTS];
-static tiligormis_box box = {&machine, TILIGORMIS_MACHINE_NUMBERS, sets, TILIGORMIS_SETS * TILIGORMIS_SET_WORDS,
-                             pairs, TILIGORMIS_PAIRS, cpu_map, TILIGORMIS_ENTRIES, cpu_walker, TILIGORMIS_ENTRIES,
-                             NULL, TILIGORMIS_SLOTS, dma_map, TILIGORMIS_ENTRIES, dma_walker, TILIGORMIS_ENTRIES,
-                             dma_cache, TILIGORMIS_SLOTS, memory, TILIGORMIS_PAGE_WORDS * MACHINE_PAGES};
+static tiligormis_slot *cpu_cache;
+static size_t cpu_slots = TILIGORMIS_SLOTS, pair_words = TILIGORMIS_PAIRS;
+
+#define PARTS                                                                                                              \
+    &machine, TILIGORMIS_MACHINE_NUMBERS, tables.sets, TILIGORMIS_SETS *TILIGORMIS_SET_WORDS, tables.pairs, pair_words,    \
+        tables.cpu_map, TILIGORMIS_ENTRIES, tables.cpu_walker, TILIGORMIS_ENTRIES, cpu_cache, cpu_slots, tables.dma_map,   \
+        TILIGORMIS_ENTRIES, tables.dma_walker, TILIGORMIS_ENTRIES, tables.dma_cache, TILIGORMIS_SLOTS, memory,             \
+        TILIGORMIS_PAGE_WORDS *MACHINE_PAGES
 
 /* ---- The calls. */
-static const uint64_t units[] = {1, 0, 2, 2, TILIGORMIS_READ, TILIGORMIS_MARK_BOTH};
+static const tiligormis_unit unit = {1, 0, 2, 2, TILIGORMIS_READ, TILIGORMIS_MARK_BOTH};
 static const uint64_t barrier[TILIGORMIS_ROW_NUMBERS] = {TILIGORMIS_DATA_BARRIER}, nothing[TILIGORMIS_ROW_NUMBERS] = {0};
 static tiligormis_answer answer;
 static tiligormis_free_pages free_pages;
 
 static uint64_t row(const uint64_t *numbers) {
-    return tiligormis_operation(TILIGORMIS_LENT(&box), numbers, TILIGORMIS_ROW_NUMBERS, &answer, TILIGORMIS_ANSWER_NUMBERS);
+    return tiligormis_operation(PARTS, numbers, TILIGORMIS_ROW_NUMBERS, &answer, TILIGORMIS_ANSWER_NUMBERS);
 }
 static uint64_t rows(size_t length) {
-    return tiligormis_sequence(TILIGORMIS_LENT(&box), barrier, length, &answer.number, TILIGORMIS_ANSWER_NUMBERS);
+    return tiligormis_sequence(PARTS, barrier, length, &answer, TILIGORMIS_ANSWER_NUMBERS);
 }
-static uint64_t start(void) { return tiligormis_start(TILIGORMIS_LENT(&box), MACHINE_PAGES, 12, 4, units, 6); }
-static uint64_t valid(void) { return !tiligormis_valid(TILIGORMIS_LENT(&box)); }
+static uint64_t start(void) { return tiligormis_start(PARTS, MACHINE_PAGES, 12, 4, &unit, TILIGORMIS_UNIT_NUMBERS); }
+static uint64_t valid(void) { return !tiligormis_valid(PARTS); }
 static uint64_t accepted(void) { return row(barrier); }
 static uint64_t refused(void) { return row(nothing); }
 static uint64_t sequence(void) { return rows(TILIGORMIS_ROW_NUMBERS); }
 static uint64_t no_rows(void) { return rows(1); }
-static uint64_t free_query(void) { return tiligormis_free(TILIGORMIS_LENT(&box), &free_pages, TILIGORMIS_FREE_NUMBERS); }
+static uint64_t free_query(void) { return tiligormis_free(PARTS, &free_pages, TILIGORMIS_FREE_NUMBERS); }
 static uint64_t fill_at(uint64_t place) {
-    return tiligormis_fill_slot(box.cpu_cache, box.cpu_cache_length, place, 7, 15, place, 0, TILIGORMIS_READ, 0);
+    return tiligormis_fill_slot(cpu_cache, cpu_slots, place, 7, 15, place, 0, TILIGORMIS_READ, 0);
 }
 static uint64_t fill(void) { return fill_at(63); }
 static uint64_t fill_none(void) { return fill_at(64); }
-static uint64_t empty(void) { return tiligormis_empty_slot(box.cpu_cache, box.cpu_cache_length, 0); }
-static uint64_t find(void) { return tiligormis_find_slot(box.cpu_cache, box.cpu_cache_length, 7, 15, 63); }
+static uint64_t empty(void) { return tiligormis_empty_slot(cpu_cache, cpu_slots, 0); }
+static uint64_t find(void) { return tiligormis_find_slot(cpu_cache, cpu_slots, 7, 15, 63); }
 
 static void expect(const char *name, uint64_t answered, uint64_t number) {
     if (answered != number) {
@@ -71,7 +72,7 @@ static void expect(const char *name, uint64_t answered, uint64_t number) {
 
 /* ---- What is refused touches no slot: a byte that is would end the program. */
 static void protect(int how) {
-    if (mprotect(box.cpu_cache, MANY * sizeof(tiligormis_slot), how) != 0) {
+    if (mprotect(cpu_cache, MANY * sizeof(tiligormis_slot), how) != 0) {
         perror("mprotect");
         exit(1);
     }
@@ -81,7 +82,7 @@ static void untouched(void) {
     static const size_t wrong[] = {0, 63, 65, 4096, MANY};
     protect(PROT_NONE);
     for (size_t n = 0; n < sizeof wrong / sizeof *wrong; n++) {
-        box.cpu_cache_length = wrong[n];
+        cpu_slots = wrong[n];
         expect("operation", accepted(), TILIGORMIS_STATE_NOT_VALID);
         expect("sequence", sequence(), TILIGORMIS_STATE_NOT_VALID);
         expect("free", free_query(), TILIGORMIS_STATE_NOT_VALID);
@@ -90,7 +91,7 @@ static void untouched(void) {
         expect("empty_slot", empty(), TILIGORMIS_STATE_NOT_VALID);
     }
     protect(PROT_READ);
-    box.cpu_cache_length = TILIGORMIS_SLOTS;
+    cpu_slots = TILIGORMIS_SLOTS;
     expect("operation", refused(), TILIGORMIS_OUT_OF_RANGE);
     expect("sequence", no_rows(), TILIGORMIS_OUT_OF_RANGE);
     expect("fill_slot", fill_none(), TILIGORMIS_OUT_OF_RANGE);
@@ -139,14 +140,14 @@ static void takes(const char *name, uint64_t (*call)(void), uint64_t number) {
 }
 
 static void cache_of(const char *name, size_t slots) {
-    box.cpu_cache_length = slots;
+    cpu_slots = slots;
     takes(name, accepted, TILIGORMIS_STATE_NOT_VALID);
-    box.cpu_cache_length = TILIGORMIS_SLOTS;
+    cpu_slots = TILIGORMIS_SLOTS;
 }
 
 int main(void) {
-    box.cpu_cache = mmap(NULL, MANY * sizeof(tiligormis_slot), PROT_READ | PROT_WRITE, MAP_PRIVATE | MAP_ANONYMOUS, -1, 0);
-    expect("mmap", box.cpu_cache == MAP_FAILED, 0);
+    cpu_cache = mmap(NULL, MANY * sizeof(tiligormis_slot), PROT_READ | PROT_WRITE, MAP_PRIVATE | MAP_ANONYMOUS, -1, 0);
+    expect("mmap", cpu_cache == MAP_FAILED, 0);
     expect("start", start(), 0);
     untouched();
 
@@ -160,9 +161,9 @@ int main(void) {
     copies("fill_slot", fill, 0);
     copies("find_slot", find, 63);
     copies("empty_slot", empty, 0);
-    box.cpu_cache_length = MANY;
+    cpu_slots = MANY;
     copies("operation, 2^22 slots", accepted, TILIGORMIS_STATE_NOT_VALID);
-    box.cpu_cache_length = TILIGORMIS_SLOTS;
+    cpu_slots = TILIGORMIS_SLOTS;
 
     printf("\n%-32s%10s\n", "what a call takes", "ns");
     for (uint64_t place = 0; place < TILIGORMIS_SLOTS; place++)
@@ -174,7 +175,7 @@ int main(void) {
     cache_of("operation, 63 slots", 63);
     cache_of("operation, 4096 slots", 4096);
     cache_of("operation, 2^22 slots", MANY);
-    box.pairs_length--;
+    pair_words--;
     takes("operation, 127 pairs", accepted, TILIGORMIS_STATE_NOT_VALID);
     return 0;
 }

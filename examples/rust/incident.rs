@@ -24,16 +24,9 @@ const ACCESS: u64 = READ | WRITE;
 const WORD: u64 = 0;
 const LINE: usize = 60;
 
-/// The refusals that the story meets, in its words; the crate's for any other.
+/// What a refusal means, without the details that follow its colon.
 fn meaning(refusal: Refusal) -> String {
-    match refusal {
-        Refusal::StateNotValid => "the box is not valid".to_string(),
-        Refusal::VmUnknown => "the VM is not known".to_string(),
-        Refusal::MappingDiffers => "the mapping is absent or different".to_string(),
-        Refusal::VmBusy => "the VM still has something".to_string(),
-        Refusal::PortIdle => "the port is idle".to_string(),
-        other => other.to_string(),
-    }
+    refusal.to_string().split(':').next().unwrap_or_default().to_string()
 }
 
 fn say(what: &str, answer: &str) {
