@@ -9,12 +9,17 @@
  *   static tiligormis_tables tables;
  *   static uint64_t memory[8 * TILIGORMIS_PAGE_WORDS];
  *
+ *   tiligormis_unit units[] = {{1, 16, 0, 3, TILIGORMIS_READ | TILIGORMIS_WRITE, TILIGORMIS_MARK_BOTH}};
  *   tiligormis_answer answer;
  *   tiligormis_box box = tiligormis_box_of(&machine, &tables, memory, 8);
- *   uint64_t number = tiligormis_box_start(&box, 7, 1, units, unit_count);
+ *   uint64_t number = tiligormis_box_start(&box, 7, 1, units, 1);
  *   number = tiligormis_box_operation(&box, tiligormis_row_add_vm(1), &answer);
  *   if (number != TILIGORMIS_ACCEPTED)
  *       print(tiligormis_refusal_sentence(number));
+ *
+ * It is bookkeeping: it programs no MMU and sends no invalidation. Walkers and caches are the machine's picture of what hardware
+ * walks and still holds, and the firmware does to the hardware what an accepted operation did to them. A read or a write goes
+ * to `memory`; where guests and devices reach their memory by themselves, it says what an access is answered.
  *
  * The functions named tiligormis_box_.. fill in every length. Under them stand the library's own, for whoever has the parts of
  * a box apart: there each array crosses as a pointer and a length, and a length is always a number of 64-bit words, of
@@ -46,14 +51,17 @@
  *   lent         a page is lent by its owner to another VM, by a pair; that VM may CPU-map it. An array is lent to a call.
  *   edge         one direction of a pair. A pair joins two VMs on a page; both its edges name the page.
  *   shared span  pages, fixed at start, that nobody claims and every VM may DMA-map. They are never cleared.
- *   unit         a region that start was told of. No other can be inserted or removed.
+ *   unit         a region that start was told of. No other, and no part of one, can be inserted or removed.
  *   generation   a number that is kept with a mapping and handed back; the machine makes nothing of it.
  *
  * Where DMA pages come from. A device reaches what the VM that it is bound to has DMA-mapped, and a VM may DMA-map its DMA
  * pages and the shared span. Assign page gives a CPU page, never a DMA page. What gives DMA pages is DMA insert region alone,
  * and its region must be a unit marked TILIGORMIS_MARK_DMA or _BOTH. So what devices may reach is settled at start: by units,
  * or by the shared span. CPUs reach a DMA page too where the VM also owns and CPU-maps it, by insert region (a unit marked
- * _BOTH, or another for CPUs) or by assign page and CPU map. The shared span cannot be CPU-mapped.
+ * _BOTH, or another for CPUs) or by assign page and CPU map. The shared span cannot be CPU-mapped. A unit marked _BOTH is
+ * inserted and removed for each side by itself, in whichever order. A unit names its VM: no other can ever have its pages by
+ * it. Units may overlap, repeat, and name pages that another's unit names; what is refused then is the insertion, while
+ * somebody else has a page.
  *
  * How a VM is retired. Remove VM wants nothing left of it; this order gets there.
  *
@@ -79,7 +87,8 @@
  *
  * What C must see to, since no library can: a pointer with a length other than 0 points to that many elements, aligned as C
  * aligns them; no two arrays of a call overlap, header, answers and rows included, except that two which are both const may;
- * and nothing else writes to them during the call.
+ * and nothing else writes to them during the call. Memory is one of them: a device that writes by itself is kept, while a call
+ * runs, off the pages that its operations read, write or clear. The code touches no other word of it; start writes all.
  *
  * What it needs. A 64-bit little-endian processor, aarch64 or x86-64, and of it the general registers alone: the code reads and
  * writes no vector or floating-point register (on x86-64 no SSE, x87 or MMX), and nothing below the stack pointer (no red
@@ -273,7 +282,7 @@ static inline uint32_t tiligormis_entry_page(uint32_t entry) { return (entry >> 
 static inline uint32_t tiligormis_entry_access(uint32_t entry) { return (entry >> 16) & 0x7; }
 static inline uint32_t tiligormis_entry_generation(uint32_t entry) { return entry & 0xffff; }
 
-/* A region that may be inserted and removed, and for which side. */
+/* A region that may be inserted and removed, all of it, with this access, and for which side. */
 typedef struct tiligormis_unit {
     uint64_t vm;
     uint64_t guest; /* the first guest page */
@@ -308,7 +317,7 @@ typedef struct tiligormis_row {
 typedef struct tiligormis_answer {
     uint64_t number;  /* 0, or the refusal number */
     uint64_t index;   /* of a region refused with 6, 7, 9, 10 or 11: where in it, from 0, its lowest failing page is; else 0 */
-    uint64_t dropped; /* cache slots that an unmapping, a replacement or the removal of a region dropped */
+    uint64_t dropped; /* cache slots that an unmapping, a replacement or the removal of a region dropped; else 0 */
     uint64_t word;    /* the word read; 0 except for an accepted read */
 } tiligormis_answer;
 
@@ -516,7 +525,7 @@ static inline tiligormis_row tiligormis_row_bind_device(uint64_t device, uint64_
  * 17, CPU fill.
  * Refused: 15 nobody is on the CPU; 9 its VM does not CPU-map the guest page.
  * Effect: a CPU slot holds the translation: the slot that held it already, else the lowest empty one, else the one at the
- *   hand, which moves on.
+ *   hand, which moves on. In a valid box a slot holds what the walker has, so a fill changes no later answer but `dropped`.
  */
 static inline tiligormis_row tiligormis_row_cpu_fill(uint64_t cpu, uint64_t guest) {
     tiligormis_row row = {{TILIGORMIS_CPU_FILL, cpu, guest}};
@@ -527,7 +536,7 @@ static inline tiligormis_row tiligormis_row_cpu_fill(uint64_t cpu, uint64_t gues
  * 18, DMA fill.
  * Refused: 15 the device is bound to nobody; 9 its VM does not DMA-map the guest page.
  * Effect: a DMA slot holds the translation: the slot that held it already, else the lowest empty one, else the one at the
- *   hand, which moves on.
+ *   hand, which moves on. In a valid box a slot holds what the walker has, so a fill changes no later answer but `dropped`.
  */
 static inline tiligormis_row tiligormis_row_dma_fill(uint64_t device, uint64_t guest) {
     tiligormis_row row = {{TILIGORMIS_DMA_FILL, device, guest}};
@@ -738,8 +747,9 @@ bool tiligormis_valid(const tiligormis_machine *machine, size_t machine_numbers,
                       const uint64_t *memory, size_t memory_length);
 
 /*
- * How many pages are free, that is in the pool, and the lowest of them. Returns 0, or 1 where the box is not valid, and then
- * `free_pages` has count 0 and TILIGORMIS_NO_PAGE. A `free_pages` that is not of 2 numbers is refused with 1 and not written.
+ * How many pages are free, that is in the pool, and the lowest of them; one that a VM holds for DMA can be assigned to that VM
+ * alone. Returns 0, or 1 where the box is not valid, and then `free_pages` has count 0 and TILIGORMIS_NO_PAGE. A `free_pages`
+ * that is not of 2 numbers is refused with 1 and not written.
  */
 uint64_t tiligormis_free(const tiligormis_machine *machine, size_t machine_numbers, const uint64_t *sets, size_t sets_length,
                          const uint64_t *pairs, size_t pairs_length, const uint64_t *cpu_map, size_t cpu_map_length,
