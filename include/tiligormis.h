@@ -93,10 +93,10 @@
  * What it needs. A 64-bit little-endian processor, aarch64 or x86-64, and of it the general registers alone: the code reads and
  * writes no vector or floating-point register (on x86-64 no SSE, x87 or MMX), and nothing below the stack pointer (no red
  * zone). So it may run at EL2 or in ring 0, and an interrupt may come at any instruction. On aarch64 a few accesses to the
- * stack are not aligned: it is to be normal memory, with SCTLR_ELx.A = 0. The code calls memcpy and memset and nothing else;
- * simple byte loops do (compiled with -fno-builtin, lest a loop becomes a call of itself), if they copy and fill as C says and
- * return their first argument. It takes none of the heap, and of the stack at most what follows, the return address included,
- * beside the arguments that C puts there and what memcpy and memset take:
+ * stack are not aligned: it is to be normal memory, with SCTLR_ELx.A = 0. The code calls memcpy and memset and nothing else.
+ * Simple byte loops do, if they copy and fill as C says and return their first argument (gcc -fno-tree-loop-distribute-patterns,
+ * clang -fno-builtin, lest such a loop becomes a call of itself). It takes none of the heap, and of the stack at most what
+ * follows, the return address included, beside the arguments that C puts there and what memcpy and memset take:
  *
  *     bytes of stack           aarch64    x86-64
  *     tiligormis_empty_slot      1,792     1,792
