@@ -64,7 +64,7 @@ impl<const WORDS: usize> Bits<WORDS> {
         })
     }
 
-    /// The word that has a number's bit.
+    /// The bits of 64 numbers, from 64 times `at` on.
     pub fn word(&self, at: usize) -> u64 {
         self.0[at]
     }
