@@ -2,8 +2,8 @@
 // calls the core over their words, and stores them again where it may change them. include/tiligormis.h is their manual.
 ghost use Rattle.numbers.specs.Decides.{Decides};
 ghost use Rattle.model.specs.Start.{freeRefused};
-ghost use Rattle.cores.specs.Boxes.{box, BoxValid};
-ghost use Rattle.cores.specs.Given.{Judgement, given, operationGives, operationRefused, OperationAsked, sequenceGives, refusedWhole, freeGives, freeTold, freeGiven, FreeAsked};
+ghost use Rattle.box_cores.specs.Boxes.{box, BoxValid};
+ghost use Rattle.box_cores.specs.Given.{Judgement, given, operationGives, operationRefused, OperationAsked, sequenceGives, refusedWhole, freeGives, freeTold, freeGiven, FreeAsked};
 ghost use Rattle.slots.specs.Slots.{words, slotsOf};
 use numbers::SLOTS;
 use slots::Slot;
@@ -29,7 +29,7 @@ pub extern "C" fn tiligormis_valid(
     let dma_slots = dma_cache.len();
     let cpu_words = slots::load(cpu_cache, SLOTS as usize);
     let dma_words = slots::load(dma_cache, SLOTS as usize);
-    cores::valid(
+    box_cores::valid(
         machine,
         sets,
         pairs,
@@ -72,7 +72,7 @@ pub extern "C" fn tiligormis_operation(
     let dma_slots = dma_cache.len();
     let cpu_words = slots::load(&*cpu_cache, SLOTS as usize);
     let dma_words = slots::load(&*dma_cache, SLOTS as usize);
-    let out = cores::operation(
+    let out = box_cores::operation(
         machine,
         sets,
         pairs,
@@ -119,7 +119,7 @@ pub extern "C" fn tiligormis_sequence(
     let dma_slots = dma_cache.len();
     let cpu_words = slots::load(&*cpu_cache, SLOTS as usize);
     let dma_words = slots::load(&*dma_cache, SLOTS as usize);
-    let out = cores::sequence(
+    let out = box_cores::sequence(
         machine,
         sets,
         pairs,
@@ -166,7 +166,7 @@ pub extern "C" fn tiligormis_free(
     let dma_slots = dma_cache.len();
     let cpu_words = slots::load(cpu_cache, SLOTS as usize);
     let dma_words = slots::load(dma_cache, SLOTS as usize);
-    cores::free(
+    box_cores::free(
         machine,
         sets,
         pairs,

@@ -40,18 +40,18 @@ use denote.Triple.Statement.{Contract, Triple}
 use denote.Triple.Table.{entered, cited}
 use denote.Triple.Walked.{says, Stays, gave-slice, stay-dropped, walkOf, Walks, ends-at, walked, goes-gave-slice, goes-dropped, walk-meets}
 use denote.Exit.{yes}
-use Rattle.cores.specs.Boxes.{box}
-use Rattle.cores.specs.Given.{Judgement, given, operationGives, operationRefused, OperationAsked, Whole, same}
-use Rattle.boxes.specs.BoxLaws.{operation-slots}
-use Rattle.cores.specs.declared.Finished.{Finished}
+use Rattle.box_cores.specs.Boxes.{box}
+use Rattle.box_cores.specs.Given.{Judgement, given, operationGives, operationRefused, OperationAsked, Whole, same}
+use Rattle.box_laws.specs.BoxLaws.{operation-slots}
+use Rattle.box_cores.specs.declared.Finished.{Finished}
 use Rattle.slots.specs.Slots.{stored}
 use Rattle.slots.specs.declared.Slot.{Slot}
 use Rattle.slots.proofs.AtOnce.{alloc-all, pass-all, free-all, apart, fapart, fwhole, last-eq}
 use Rattle.slots.proofs.SharedLoan.{SharedOut, lends-shared, shared-back}
 use Rattle.slots.proofs.Rows.{R, Row, held, fitting, under, field-row, row-makes, row-typed}
 use Rattle.slots.proofs.Cited.{Load, Store, to-load, to-store, goes-load, goes-store, Loaded, IsLoaded, loads, spelled}
-use Rattle.cores.proofs.Finished as O
-use Rattle.cores.proofs.Finished.Laws as O′
+use Rattle.box_cores.proofs.Finished as O
+use Rattle.box_cores.proofs.Finished.Laws as O′
 use Rattle.slots.proofs.load.Symbol as load-def
 use Rattle.slots.proofs.load.Symbol.{name as #load}
 use Rattle.slots.proofs.load.Met as load-thm
@@ -59,10 +59,10 @@ use Rattle.slots.proofs.store as store′
 use Rattle.slots.proofs.store.Symbol as store-def
 use Rattle.slots.proofs.store.Symbol.{name as #store}
 use Rattle.slots.proofs.store.Met as store-thm
-use Rattle.cores.proofs.operation as core′
-use Rattle.cores.proofs.operation.Symbol as core-def
-use Rattle.cores.proofs.operation.Symbol.{name as #core}
-use Rattle.cores.proofs.operation.Met as core-thm
+use Rattle.box_cores.proofs.operation as core′
+use Rattle.box_cores.proofs.operation.Symbol as core-def
+use Rattle.box_cores.proofs.operation.Symbol.{name as #core}
+use Rattle.box_cores.proofs.operation.Met as core-thm
 use Rattle.tiligormis.proofs.entries.tiligormis_operation.Key.{name as #entry}
 use Rattle.tiligormis.proofs.entries.tiligormis_operation as entry′
 use Rattle.tiligormis.proofs.entries.tiligormis_operation.Statement as stated
@@ -247,4 +247,4 @@ tiligormis-operation-spec 𝓤 H 𝓜 𝓖 𝓡 =
     (entry-meets 𝓤 H (𝓖 .A) (𝓜 .mem) (𝓡 .run) (givenOf 𝓤 H 𝓜 𝓖) (tablesOf 𝓤 H 𝓜 (tables 𝓤 H 𝓜 𝓡 code.env))
     (cited 𝓤 H (Load 𝓤 H (𝓖 .A) (𝓜 .mem) (𝓡 .run)) 𝓜 𝓡 code.env #load load-def.routine code.calls-slots·load (load-thm.met 𝓤 H 𝓜 𝓖 𝓡))
     (cited 𝓤 H (Store 𝓤 H (𝓖 .A) (𝓜 .mem) (𝓡 .run)) 𝓜 𝓡 code.env #store store-def.routine code.calls-slots·store (store-thm.met 𝓤 H 𝓜 𝓖 𝓡))
-    (cited 𝓤 H (Core 𝓤 H (𝓖 .A) (𝓜 .mem) (𝓡 .run)) 𝓜 𝓡 code.env #core core-def.routine code.calls-cores·operation (core-thm.met 𝓤 H 𝓜 𝓖 𝓡)))
+    (cited 𝓤 H (Core 𝓤 H (𝓖 .A) (𝓜 .mem) (𝓡 .run)) 𝓜 𝓡 code.env #core core-def.routine code.calls-box-cores·operation (core-thm.met 𝓤 H 𝓜 𝓖 𝓡)))
