@@ -1,8 +1,7 @@
 /*
  * What a call copies, and what it takes until a cache of a wrong length is refused. The library's memcpy is wrapped here
  * (-Wl,--wrap=memcpy), so that the bytes that each call copies can be counted. A copy of UNITS bytes or more holds the
- * header's units and is counted apart; of the rest no call may copy more than MOST. A time is the least of many. Before that,
- * calls that are refused are made on a cache that cannot be written, or not even read.
+ * header's units and is counted apart; of the rest no call may copy more than MOST. A time is the least of many.
  */
 #define _DEFAULT_SOURCE
 #include "tiligormis.h"
@@ -53,13 +52,11 @@ static uint64_t valid(void) { return !tiligormis_valid(PARTS); }
 static uint64_t accepted(void) { return row(barrier); }
 static uint64_t refused(void) { return row(nothing); }
 static uint64_t sequence(void) { return rows(TILIGORMIS_ROW_NUMBERS); }
-static uint64_t no_rows(void) { return rows(1); }
 static uint64_t free_query(void) { return tiligormis_free(PARTS, &free_pages, TILIGORMIS_FREE_NUMBERS); }
 static uint64_t fill_at(uint64_t place) {
     return tiligormis_fill_slot(cpu_cache, cpu_slots, place, 7, 15, place, 0, TILIGORMIS_READ, 0);
 }
 static uint64_t fill(void) { return fill_at(63); }
-static uint64_t fill_none(void) { return fill_at(64); }
 static uint64_t empty(void) { return tiligormis_empty_slot(cpu_cache, cpu_slots, 0); }
 static uint64_t find(void) { return tiligormis_find_slot(cpu_cache, cpu_slots, 7, 15, 63); }
 
@@ -68,34 +65,6 @@ static void expect(const char *name, uint64_t answered, uint64_t number) {
         fprintf(stderr, "%s answers %llu, not %llu\n", name, (unsigned long long)answered, (unsigned long long)number);
         exit(1);
     }
-}
-
-/* ---- What is refused touches no slot: a byte that is would end the program. */
-static void protect(int how) {
-    if (mprotect(cpu_cache, MANY * sizeof(tiligormis_slot), how) != 0) {
-        perror("mprotect");
-        exit(1);
-    }
-}
-
-static void untouched(void) {
-    static const size_t wrong[] = {0, 63, 65, 4096, MANY};
-    protect(PROT_NONE);
-    for (size_t n = 0; n < sizeof wrong / sizeof *wrong; n++) {
-        cpu_slots = wrong[n];
-        expect("operation", accepted(), TILIGORMIS_STATE_NOT_VALID);
-        expect("sequence", sequence(), TILIGORMIS_STATE_NOT_VALID);
-        expect("free", free_query(), TILIGORMIS_STATE_NOT_VALID);
-        expect("valid", valid(), 1);
-        expect("fill_slot", fill(), TILIGORMIS_STATE_NOT_VALID);
-        expect("empty_slot", empty(), TILIGORMIS_STATE_NOT_VALID);
-    }
-    protect(PROT_READ);
-    cpu_slots = TILIGORMIS_SLOTS;
-    expect("operation", refused(), TILIGORMIS_OUT_OF_RANGE);
-    expect("sequence", no_rows(), TILIGORMIS_OUT_OF_RANGE);
-    expect("fill_slot", fill_none(), TILIGORMIS_OUT_OF_RANGE);
-    protect(PROT_READ | PROT_WRITE);
 }
 
 /* ---- Bytes and times. */
@@ -149,7 +118,6 @@ int main(void) {
     cpu_cache = mmap(NULL, MANY * sizeof(tiligormis_slot), PROT_READ | PROT_WRITE, MAP_PRIVATE | MAP_ANONYMOUS, -1, 0);
     expect("mmap", cpu_cache == MAP_FAILED, 0);
     expect("start", start(), 0);
-    untouched();
 
     printf("%-32s%10s%10s\n", "bytes that a call copies", "", "units");
     copies("start", start, 0);

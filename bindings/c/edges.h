@@ -151,6 +151,8 @@ bool all_refuse(const struct parts *lent);
     TEST(find_slot)                                                                                                            \
     TEST(fill_slot)                                                                                                            \
     TEST(empty_slot)                                                                                                           \
+    TEST(wrong_cache_unread)                                                                                                   \
+    TEST(refusal_unwritten)                                                                                                    \
     TEST(row_constructors)                                                                                                     \
     TEST(refusal_names)                                                                                                        \
     TEST(entry_fields)                                                                                                         \
