@@ -358,7 +358,7 @@ fn places(sides: &Sides, report: &mut Report) {
         report.same(
             &format!("place of {name}.{field}"),
             (HEADER, header),
-            ("crates/header", source),
+            ("crates/box_header", source),
         );
     }
 }

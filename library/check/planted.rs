@@ -29,13 +29,13 @@ const PLANTED: &[(Where, &str, &str, &str)] = &[
     (Ffi, "pub fn tiligormis_empty_slot(", "pub fn tiligormis_drop_slot(", "tiligormis_empty_slot"),
     (Ffi, "const tiligormis_valid() -> bool;", "", "tiligormis_valid"),
     (
-        Crate("cache"),
+        Crate("box_cache"),
         "fn tiligormis_empty_slot(",
         "fn tiligormis_drop_slot(",
         "tiligormis_empty_slot",
     ),
     (
-        Crate("begin"),
+        Crate("box_start"),
         "extern \"C\" fn tiligormis_start(",
         "fn tiligormis_start(",
         "tiligormis_start",
@@ -109,10 +109,10 @@ const PLANTED: &[(Where, &str, &str, &str)] = &[
         "const tiligormis_sequence(",
         "tiligormis_sequence, parameter 1",
     ),
-    (Crate("begin"), "memory: &mut [u64]", "memory: &[u64]", "tiligormis_start, parameter 19"),
+    (Crate("box_start"), "memory: &mut [u64]", "memory: &[u64]", "tiligormis_start, parameter 19"),
     (Crate("tiligormis"), "row: &[u64]", "row: &mut [u64]", "tiligormis_operation, parameter 21"),
     (
-        Crate("cache"),
+        Crate("box_cache"),
         "slots: &[Slot], port: u64",
         "slots: &[Slot], port: usize",
         "tiligormis_find_slot, parameter 3",
@@ -125,7 +125,12 @@ const PLANTED: &[(Where, &str, &str, &str)] = &[
         "const tiligormis_valid() -> u64",
         "tiligormis_valid, result",
     ),
-    (Crate("cache"), "guest: u64) -> usize", "guest: u64) -> u64", "tiligormis_find_slot, result"),
+    (
+        Crate("box_cache"),
+        "guest: u64) -> usize",
+        "guest: u64) -> u64",
+        "tiligormis_find_slot, result",
+    ),
     // limits
     (Header, "TILIGORMIS_PAIRS 128", "TILIGORMIS_PAIRS 256", "PAIRS"),
     (Header, "#define TILIGORMIS_VMS 16", "", "VMS"),
@@ -134,7 +139,7 @@ const PLANTED: &[(Where, &str, &str, &str)] = &[
     (Crate("numbers"), "const SLOTS: u64 = ", "const SLOTS: u64 = 1 + ", "SLOTS"),
     (Crate("access"), "const WRITE: u64 = ", "const WRITE: u64 = 1 + ", "WRITE"),
     (
-        Crate("header"),
+        Crate("box_header"),
         "const NO_PAGE: u64 = 18446744073709551615",
         "const NO_PAGE: u64 = 0",
         "NO_PAGE",
@@ -168,13 +173,13 @@ const PLANTED: &[(Where, &str, &str, &str)] = &[
     (Structs, "pub known: u64", "pub vms: u64", "Machine, field 5"),
     (Crate("slots"), "pub vm: u8", "pub vm: u16", "Slot, field 2"),
     (
-        Crate("header"),
+        Crate("box_header"),
         "MACHINE_NUMBERS: usize = ",
         "MACHINE_NUMBERS: usize = 1 + ",
         "bytes of Machine",
     ),
     (
-        Crate("header"),
+        Crate("box_header"),
         "DEVICES_AT: usize = ",
         "DEVICES_AT: usize = 1 + ",
         "place of Machine.devices",
@@ -185,7 +190,12 @@ const PLANTED: &[(Where, &str, &str, &str)] = &[
         "ANSWER_NUMBERS: usize = 1 + ",
         "bytes of Answer",
     ),
-    (Crate("cores"), "FREE_NUMBERS: usize = ", "FREE_NUMBERS: usize = 1 + ", "bytes of FreePages"),
+    (
+        Crate("box_cores"),
+        "FREE_NUMBERS: usize = ",
+        "FREE_NUMBERS: usize = 1 + ",
+        "bytes of FreePages",
+    ),
     (Crate("start"), "UNIT_NUMBERS: usize = ", "UNIT_NUMBERS: usize = 1 + ", "bytes of Unit"),
     // the box
     (
@@ -327,8 +337,8 @@ const PLANTED: &[(Where, &str, &str, &str)] = &[
         "TILIGORMIS_VERSION",
     ),
     // the crates of the library
-    (List, "cache", "", "crate cache"),
-    (Crate("cores"), "pub fn valid(", "pub extern \"C\" fn valid(", "crate cores"),
+    (List, "box_cache", "", "crate box_cache"),
+    (Crate("box_cores"), "pub fn valid(", "pub extern \"C\" fn valid(", "crate box_cores"),
 ];
 
 /// Tries each change by itself, and counts it where something is found that names the thing.
