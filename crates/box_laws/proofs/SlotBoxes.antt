@@ -17,11 +17,11 @@ use Rattle.model.specs.Secrecy.{PrivateTo, Private}
 use Rattle.model.specs.Sequence.{rowAt, rowCount, stepRow, after, sequence}
 use Rattle.model.specs.Start.{Told, startAnswer, start}
 use Rattle.box_cores.specs.Boxes.{Box, BoxValid, stateIn, lentIn}
-use Rattle.box_cores.specs.BoxSecrecy.{BoxesAlike, Calls, AllAlike, OperationSecret, SequenceSecret, FreeSecret, OperationOwnWrite, SequenceOwnWrite}
+use Rattle.box_laws.specs.BoxSecrecy.{BoxesAlike, Calls, AllAlike, OperationSecret, SequenceSecret, FreeSecret, OperationOwnWrite, SequenceOwnWrite}
 use Rattle.box_cores.specs.Given.{Judgement, Given, OperationAsked, operationGives, operationRefused, sequenceGives, refusedWhole, startGives, HeaderWhole}
-use Rattle.box_cores.proofs.BoxesExact.{NumberListed, Answered, operation-exactly, operation-listed, operation-answered, sequence-exactly, sequence-answered}
-use Rattle.box_cores.proofs.BoxesKept.{operation-state, operation-box-valid, sequence-state, sequence-box-valid, start-state, start-box-valid, refused-box-not-valid}
-use Rattle.box_cores.proofs.BoxesSecret.{of-set, of-one, operation-secret, calls-secret, sequence-secret, free-secret, operation-own-write, sequence-own-write}
+use Rattle.box_laws.proofs.BoxesExact.{NumberListed, Answered, operation-exactly, operation-listed, operation-answered, sequence-exactly, sequence-answered}
+use Rattle.box_laws.proofs.BoxesKept.{operation-state, operation-box-valid, sequence-state, sequence-box-valid, start-state, start-box-valid, refused-box-not-valid}
+use Rattle.box_laws.proofs.BoxesSecret.{of-set, of-one, operation-secret, calls-secret, sequence-secret, free-secret, operation-own-write, sequence-own-write}
 use Rattle.slots.specs.SlotLaws.{word-of-slot}
 use Rattle.slots.specs.Slots.{words, slotsOf}
 use Rattle.slots.specs.declared.Slot.{Slot}

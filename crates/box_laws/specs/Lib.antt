@@ -1,2 +1,3 @@
--- Boxes of slots by the words of their caches.
+-- Secrecy said of boxes, and boxes of slots by the words of their caches.
+pub mod BoxSecrecy
 pub mod BoxLaws

@@ -27,11 +27,11 @@ use Rattle.model.proofs.Answers.{four, shape-accepted}
 use Rattle.model.proofs.Secrecy.{Unchanged, StepAlike, WrittenIn, secret-step, secrecy, own-write, own-writes, secret-step-one, secrecy-one, own-write-one, own-writes-one}
 use Rattle.model.proofs.SecrecyCalls.{valid-as, numbers-alike, CallsAlike, two-calls}
 use Rattle.box_header.specs.Numbers.{HeaderGood, changed, freeNumbers}
-use Rattle.box_cores.specs.BoxSecrecy.{WORD-AT, withMemory, BoxesAlike, SeenIn, Calls, done, call, AllAlike, OperationsAlike, SequencesAlike, FreesAlike, OperationSecret, SequenceSecret, FreeSecret, WordKept, WrittenBy, OperationOwnWrite, SequenceOwnWrite}
+use Rattle.box_laws.specs.BoxSecrecy.{WORD-AT, withMemory, BoxesAlike, SeenIn, Calls, done, call, AllAlike, OperationsAlike, SequencesAlike, FreesAlike, OperationSecret, SequenceSecret, FreeSecret, WordKept, WrittenBy, OperationOwnWrite, SequenceOwnWrite}
 use Rattle.box_cores.specs.CoreLaws.{answered-here, answered-other}
 use Rattle.box_cores.specs.Boxes.{Box, box, BoxValid, stateIn, boxOf, leftIn}
 use Rattle.box_cores.specs.Given.{Judgement, met, unmet, Given, notValid, OperationAsked, operationGives, operationRefused, sequenceGives, refusedWhole, FreeGiven, FREE-NUMBERS, FreeAsked, freeGives, freeTold}
-use Rattle.box_cores.proofs.BoxesKept.{operation-state, sequence-state}
+use Rattle.box_laws.proofs.BoxesKept.{operation-state, sequence-state}
 
 -- ---- what is proved of a reading of "private": two runs of a row and of rows, and a member's own write in one row and in rows
 pub record Reading (members : ℕ → Bool) (Secret : Tables → ℕ → Type 0) : Type 0 where
