@@ -1,16 +1,15 @@
-//! The three machines held to the same answers, and the mixed rows: both from the generator of
-//! the second program.
+//! All machines held to the same answers, and the mixed rows: both from the generator of the second
+//! program.
 
+use face::{Row, Setup};
 use second::generate;
 use second::script::{self, Event, Events};
-use tiligormis::Row;
 
-use crate::contest::{Three, ROWS};
-use crate::rows::Setup;
+use crate::contest::{Machines, MACHINES, NAMES, ROWS};
 
 /// Where a comparison stands.
 struct Comparison {
-    three: Three,
+    machines: Machines,
     /// Nothing before the first box, and after a start that is refused.
     running: bool,
     rows: Vec<Row>,
@@ -28,12 +27,12 @@ fn setup_of(told: &script::Setup) -> Setup {
 
 impl Comparison {
     fn start(&mut self, setup: &Setup) -> Result<(), String> {
-        self.three = Three::new(setup.pages);
-        let numbers = self.three.each().map(|machine| machine.start(setup));
+        self.machines = Machines::new(setup.pages);
+        let numbers = self.machines.each().map(|machine| machine.start(setup));
         self.running = numbers[0] == 0;
         match numbers.iter().all(|&number| number == numbers[0]) {
             true => Ok(()),
-            false => Err(format!("start {setup:?}: library, (a), (b) answer {numbers:?}")),
+            false => Err(format!("start {setup:?}: {NAMES} answer {numbers:?}")),
         }
     }
 
@@ -43,13 +42,13 @@ impl Comparison {
         if !self.running {
             return Ok(());
         }
-        if self.three.each().map(|machine| machine.sequence(&rows)) != [0; 3] {
+        if self.machines.each().map(|machine| machine.sequence(&rows)) != [0; MACHINES] {
             return Err("a sequence is refused as a whole".to_string());
         }
         for (k, row) in rows.iter().enumerate() {
-            let answers = self.three.each().map(|machine| machine.answer(k));
-            if answers != [answers[0]; 3] {
-                return Err(format!("row {row:?}: library, (a), (b) answer {answers:?}"));
+            let answers = self.machines.each().map(|machine| machine.answer(k));
+            if answers != [answers[0]; MACHINES] {
+                return Err(format!("row {row:?}: {NAMES} answer {answers:?}"));
             }
         }
         self.compared += rows.len();
@@ -77,7 +76,7 @@ impl Comparison {
 /// How many rows were compared, or the first at which the answers differ.
 pub fn compare(seed: u64, rows: u64) -> Result<usize, String> {
     let mut comparison =
-        Comparison { three: Three::new(1), running: false, rows: Vec::new(), compared: 0 };
+        Comparison { machines: Machines::new(1), running: false, rows: Vec::new(), compared: 0 };
     for (_, text) in generate::suite(seed, rows) {
         for event in Events::new(text.as_bytes()) {
             let (_, event) = event.map_err(|error| error.to_string())?;

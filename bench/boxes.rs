@@ -1,19 +1,19 @@
 //! Boxes made of an input, every word of them written directly, and damage to them.
 
+use face::{bits, Side, ACCESS_AT, FILLED_AT, GUEST_AT, PAGE_AT, PORT_AT, VM_AT};
 use second::author::Rng;
 use tiligormis::*;
 
 use crate::inputs::{Held, Input, Keys, Low, Onto, Places, Walker, CLASSES, PLACES, VARIANTS};
 use crate::quadratic::word;
-use crate::rows::{bits, Side, ACCESS_AT, FILLED_AT, GUEST_AT, PAGE_AT, PORT_AT, VM_AT};
 
 // ---- The machine: all of PAGES. Each VM owns some, and holds half of these and some of the pool for
 // DMA.
 
-const OWNED: u64 = 56;
+const OWNED: u64 = PAGES / 8 * 7 / VMS;
 const DMA_HELD: u64 = OWNED / 2;
 const POOL: u64 = VMS * OWNED;
-const SHARED: u64 = 960;
+const SHARED: u64 = PAGES / 16 * 15;
 const DMA_POOL: u64 = (SHARED - POOL) / VMS;
 const SHARED_COUNT: u64 = PAGES - SHARED;
 const ACCESS: u64 = READ + WRITE;

@@ -1,8 +1,7 @@
 //! The rows by which each operation is timed, at three levels of the tables.
 
+use face::Setup;
 use tiligormis::*;
-
-use crate::rows::Setup;
 
 /// How full the tables are before the timed rows. At `Full` these rows take what is still empty.
 #[derive(Clone, Copy, PartialEq, Eq)]
@@ -15,14 +14,6 @@ pub enum Level {
 pub const LEVELS: [Level; 3] = [Level::Empty, Level::Half, Level::Full];
 
 impl Level {
-    pub fn name(self) -> &'static str {
-        match self {
-            Level::Empty => "empty",
-            Level::Half => "half",
-            Level::Full => "full",
-        }
-    }
-
     /// Of each working VM: mappings on either side, pairs, and slots of either cache.
     fn each(self) -> (u64, u64, u64) {
         let (entries, pairs, slots) = (ENTRIES as u64, PAIRS as u64, SLOTS as u64);
@@ -53,12 +44,12 @@ const WORKING: u64 = PORTS as u64;
 const NEWCOMER: u64 = WORKING;
 const PASSING: u64 = VMS - 1;
 /// Pages of each working VM, from page 0 on.
-const OWNED: u64 = 64;
+const OWNED: u64 = PAGES / 2 / WORKING;
 /// Pages that nobody has.
 const LOOSE: u64 = WORKING * OWNED;
-const LOOSE_COUNT: u64 = 256;
+const LOOSE_COUNT: u64 = PAGES / 4;
 /// Pages of the units, and the shared span.
-const UNIT_PAGES: u64 = 800;
+const UNIT_PAGES: u64 = LOOSE + LOOSE_COUNT;
 const SHARED: u64 = PAGES - SHARED_COUNT;
 const SHARED_COUNT: u64 = 16;
 /// Four units of eight pages fill the maps at `Full`, and so do as many new mappings.
@@ -115,7 +106,7 @@ pub fn fill(level: Level) -> Vec<Row> {
 
 /// Guest page k of a VM, mapped for CPUs and for devices.
 fn mapping(vm: u64, k: u64) -> [Row; 2] {
-    let (own, shared) = (vm * OWNED + k, SHARED + k % SHARED_COUNT);
+    let (own, shared) = (vm * OWNED + k % OWNED, SHARED + k % SHARED_COUNT);
     [row([CPU_MAP, vm, k, own, READ_WRITE, 0]), row([DMA_MAP, vm, k, shared, READ_WRITE, 0])]
 }
 

@@ -1,120 +1,49 @@
-//! The three machines behind one face, and how they are timed.
+//! The library and its opponents side by side, and how they are timed.
 
 use std::hint::black_box;
 use std::time::Instant;
 
-use tiligormis::{Answer, Owned, Row, Unit};
+use face::{Machine, Row, Setup, PAGES};
 
-use crate::rows::{numbers, Setup, PAGES};
-use crate::{bounded, idiomatic};
-
-/// A machine with room for its answers.
-pub trait Machine {
-    /// The number of the refusal, or 0.
-    fn start(&mut self, setup: &Setup) -> u64;
-    /// The number of the refusal as a whole, or 0; the answers stand in the machine's own room.
-    fn sequence(&mut self, rows: &[Row]) -> u64;
-    fn answer(&self, k: usize) -> [u64; 4];
-    /// One row by itself; the number of its answer.
-    fn operation(&mut self, row: &Row) -> u64;
-}
+use crate::library::Library;
 
 /// The most rows of one sequence.
 pub const ROWS: usize = 10_000;
 
-pub struct Library {
-    pub owned: Owned,
-    answers: Vec<Answer>,
-}
+/// The library, then (a) and (b) without vector loops, then (a) and (b) with them.
+pub const MACHINES: usize = 5;
+pub const NAMES: &str = "library, (a), (b), and (a), (b) with vector loops,";
 
-impl Machine for Library {
-    fn start(&mut self, setup: &Setup) -> u64 {
-        let unit = |numbers: &[u64; 6]| {
-            let [vm, guest, page, count, access, mark] = *numbers;
-            Unit { vm, guest, page, count, access, mark }
-        };
-        let units: Vec<Unit> = setup.units.iter().map(unit).collect();
-        let span = (setup.shared_base as u64, setup.shared_count as u64);
-        self.owned.lent().start(setup.pages as u64, span.0, span.1, &units).err().unwrap_or(0)
-    }
-
-    fn sequence(&mut self, rows: &[Row]) -> u64 {
-        self.owned.lent().sequence(rows, &mut self.answers).err().unwrap_or(0)
-    }
-
-    fn answer(&self, k: usize) -> [u64; 4] {
-        let Answer { number, index, dropped, word } = self.answers[k];
-        [number, index, dropped, word]
-    }
-
-    fn operation(&mut self, row: &Row) -> u64 {
-        self.owned.lent().operation(*row).number
-    }
-}
-
-/// One of the two Rust versions.
-pub struct Rust<M> {
-    machine: M,
-    answers: Vec<[u64; 4]>,
-}
-
-macro_rules! rust_machine {
-    ($kind:ty) => {
-        impl Machine for Rust<$kind> {
-            fn start(&mut self, setup: &Setup) -> u64 {
-                self.machine.start(setup).err().unwrap_or(0)
-            }
-
-            fn sequence(&mut self, rows: &[Row]) -> u64 {
-                self.machine.sequence(rows, &mut self.answers)
-            }
-
-            fn answer(&self, k: usize) -> [u64; 4] {
-                self.answers[k]
-            }
-
-            fn operation(&mut self, row: &Row) -> u64 {
-                numbers(self.machine.operate(row))[0]
-            }
-        }
-    };
-}
-
-rust_machine!(Box<bounded::Machine>);
-rust_machine!(idiomatic::Machine);
-
-/// The library, (a) and (b), always in this order.
-pub struct Three {
+pub struct Machines {
     pub library: Library,
-    pub bounded: Rust<Box<bounded::Machine>>,
-    pub idiomatic: Rust<idiomatic::Machine>,
+    opponents: [Box<dyn Machine>; MACHINES - 1],
 }
 
-impl Three {
+impl Machines {
     /// Room for machines of so many pages; nothing is started.
-    pub fn new(pages: usize) -> Three {
+    pub fn new(pages: usize) -> Machines {
         let pages = pages.min(PAGES);
-        let answers = vec![[0; 4]; ROWS];
-        Three {
-            library: Library { owned: Owned::new(pages), answers: vec![Answer::default(); ROWS] },
-            bounded: Rust { machine: bounded::Machine::new(pages), answers: answers.clone() },
-            idiomatic: Rust { machine: idiomatic::Machine::new(pages), answers },
+        let opponents = [plain::bounded, plain::idiomatic, vector::bounded, vector::idiomatic];
+        Machines {
+            library: Library::new(pages, ROWS),
+            opponents: opponents.map(|opponent| opponent(pages, ROWS)),
         }
     }
 
-    pub fn each(&mut self) -> [&mut dyn Machine; 3] {
-        [&mut self.library, &mut self.bounded, &mut self.idiomatic]
+    pub fn each(&mut self) -> [&mut dyn Machine; MACHINES] {
+        let [a, b, c, d] = self.opponents.each_mut().map(|opponent| &mut **opponent);
+        [&mut self.library, a, b, c, d]
     }
 
-    pub fn started(setup: &Setup) -> Three {
-        let mut three = Three::new(setup.pages);
-        for machine in three.each() {
+    pub fn started(setup: &Setup) -> Machines {
+        let mut machines = Machines::new(setup.pages);
+        for machine in machines.each() {
             assert_eq!(machine.start(setup), 0, "start is accepted");
         }
-        three
+        machines
     }
 
-    /// Carries rows out that all three must accept.
+    /// Carries rows out that all of them must accept.
     pub fn accept(&mut self, rows: &[Row]) {
         for rows in rows.chunks(ROWS) {
             for machine in self.each() {
@@ -127,8 +56,8 @@ impl Three {
     }
 }
 
-/// Nanoseconds of the library, (a) and (b).
-pub type Times = [f64; 3];
+/// Nanoseconds of each machine.
+pub type Times = [f64; MACHINES];
 
 /// Nanoseconds of one call.
 pub fn time<R>(call: impl FnOnce() -> R) -> f64 {
@@ -140,13 +69,13 @@ pub fn time<R>(call: impl FnOnce() -> R) -> f64 {
 /// Each machine by turns, in every round; of each the least of all rounds. `turn` gives the times
 /// of one machine in one round.
 pub fn contest<const TIMES: usize>(
-    three: &mut Three,
+    machines: &mut Machines,
     rounds: usize,
     mut turn: impl FnMut(&mut dyn Machine) -> [f64; TIMES],
 ) -> [Times; TIMES] {
-    let mut least = [[f64::INFINITY; 3]; TIMES];
+    let mut least = [[f64::INFINITY; MACHINES]; TIMES];
     for _ in 0..rounds {
-        for (place, machine) in three.each().into_iter().enumerate() {
+        for (place, machine) in machines.each().into_iter().enumerate() {
             for (least, spent) in least.iter_mut().zip(turn(machine)) {
                 least[place] = least[place].min(spent);
             }

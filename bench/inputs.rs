@@ -137,7 +137,7 @@ pub fn generated(seed: u64) -> Input {
     let spread = [Keys::Blocks(classes), Keys::InTurn(classes), Keys::AtRandom(classes)];
     Input {
         name: "generated",
-        filled: pick(random, &[ENTRIES, ENTRIES, 448, 384, 256]),
+        filled: pick(random, &[8, 8, 7, 6, 4]) * ENTRIES / 8,
         places: pick(random, &[Places::First, Places::Scattered]),
         keys: pick(random, &spread),
         low: pick(random, &[Low::Consecutive, Low::Mixed]),

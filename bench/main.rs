@@ -1,75 +1,83 @@
-//! Times the library against two Rust versions of the machine and prints one table of ratios, or its
+//! Times the library against two Rust versions of the machine and prints tables of ratios, or its
 //! test for validity against a quadratic one. docs/SPEED.md says how.
 //!
-//!     bench [ROUNDS]          first compares answers, then measures
-//!     bench check             compares answers alone
-//!     bench valid [ROUNDS]    the test for validity: compares, then measures
+//!     bench [ROUNDS]                      first compares answers, then measures
+//!     bench check                         compares answers alone
+//!     bench mixed [ROUNDS]                compares, then measures mixed rows alone
+//!     bench valid [ROUNDS]                the test for validity: compares, then measures
+//!     bench registers ONE OTHER [TURNS]   mixed rows of the library in two programs, by turns
+//!     bench library [ROUNDS]              what such a program is asked for: its own mixed rows
 
 mod agree;
-mod bounded;
 mod boxes;
 mod cases;
 mod contest;
-mod idiomatic;
 mod inputs;
+mod library;
 mod measure;
+mod mixed;
 mod quadratic;
-mod rows;
 mod validity;
 
+use std::path::Path;
 use std::process::ExitCode;
 
-/// Rows of the suite by which the three machines are compared.
+/// Rows of the suite by which the machines are compared.
 const COMPARED: u64 = 100_000;
 const SEED: u64 = 1;
-/// Rounds of every line unless the command says otherwise.
+/// Rounds of every line, and turns of two programs, unless the command says otherwise.
 const ROUNDS: usize = 200;
+const TURNS: usize = 20;
 
-/// What is to be done, with how many rounds.
-enum Asked {
-    Operations(usize),
-    Check,
-    Validity(usize),
+const USAGE: &str = "usage: bench [ROUNDS] | bench check | bench mixed [ROUNDS] | \
+    bench valid [ROUNDS] | bench registers ONE OTHER [TURNS] | bench library [ROUNDS]";
+
+/// All machines held to the same answers.
+fn agreement() -> Result<(), String> {
+    let rows = agree::compare(SEED, COMPARED)?;
+    println!("{rows} generated rows: the library and both builds of (a) and (b) answer alike.");
+    Ok(())
 }
 
-/// `None` where the command is not understood.
-fn asked() -> Option<Asked> {
-    let rounds = |argument: Option<String>| argument.map_or(Some(ROUNDS), |a| a.parse().ok());
-    let mut arguments = std::env::args().skip(1).peekable();
-    match arguments.peek().map(String::as_str) {
-        Some("check") => Some(Asked::Check),
-        Some("valid") => rounds(arguments.nth(1)).map(Asked::Validity),
-        _ => rounds(arguments.next()).map(Asked::Operations),
-    }
+/// A number that may be left out.
+fn number(given: Option<&String>, otherwise: usize) -> Result<usize, String> {
+    given.map_or(Ok(otherwise), |text| text.parse().map_err(|_| USAGE.to_string()))
 }
 
-/// Says what was compared, and measures where nothing differs.
-fn compared(said: Result<String, String>, measure: impl FnOnce()) -> ExitCode {
-    match said {
-        Ok(compared) => {
-            println!("{compared}");
-            measure();
-            ExitCode::SUCCESS
+fn carry_out(words: &[String]) -> Result<(), String> {
+    let rounds = |at: usize| number(words.get(at), ROUNDS);
+    match words.first().map(String::as_str) {
+        Some("check") => agreement(),
+        Some("mixed") => {
+            let rounds = rounds(1)?;
+            agreement().map(|()| mixed::lines(rounds))
         }
-        Err(difference) => {
-            eprintln!("The answers differ, so nothing is measured.\n{difference}");
-            ExitCode::FAILURE
+        Some("valid") => {
+            let rounds = rounds(1)?;
+            println!("{}", validity::agree()?);
+            validity::table(rounds);
+            Ok(())
+        }
+        Some("registers") => {
+            let [_, one, other, rest @ ..] = words else { return Err(USAGE.to_string()) };
+            let programs = [one, other].map(Path::new);
+            mixed::registers(programs, number(rest.first(), TURNS)?)
+        }
+        Some("library") => rounds(1).map(mixed::library_alone),
+        _ => {
+            let rounds = rounds(0)?;
+            agreement().map(|()| measure::table(rounds))
         }
     }
 }
 
 fn main() -> ExitCode {
-    let rows = || {
-        let say = |rows| format!("{rows} generated rows: library, (a) and (b) answer alike.");
-        agree::compare(SEED, COMPARED).map(say)
-    };
-    match asked() {
-        Some(Asked::Operations(rounds)) => compared(rows(), || measure::table(rounds)),
-        Some(Asked::Check) => compared(rows(), || {}),
-        Some(Asked::Validity(rounds)) => compared(validity::agree(), || validity::table(rounds)),
-        None => {
-            eprintln!("usage: bench [ROUNDS] | bench check | bench valid [ROUNDS]");
-            ExitCode::from(2)
+    let words: Vec<String> = std::env::args().skip(1).collect();
+    match carry_out(&words) {
+        Ok(()) => ExitCode::SUCCESS,
+        Err(said) => {
+            eprintln!("{said}");
+            ExitCode::FAILURE
         }
     }
 }

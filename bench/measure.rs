@@ -1,13 +1,13 @@
-//! The table: what is timed, and the lines that are printed.
+//! The tables, printed as docs/SPEED.md has them: what is timed, and their lines.
 
+use std::cell::Cell;
 use std::hint::black_box;
 
-use tiligormis::Row;
+use face::{Machine, Setup, PAGES, PAGE_WORDS};
 
-use crate::agree::mixed;
 use crate::cases::{self, Case, Level, LEVELS};
-use crate::contest::{contest, time, Machine, Three, Times};
-use crate::rows::{Setup, PAGES, PAGE_WORDS};
+use crate::contest::{contest, time, Machines, Times};
+use crate::mixed;
 
 /// The aim: at most the time of (a), and at most twice that of (b).
 const AIM_BOUNDED: f64 = 1.0;
@@ -15,53 +15,69 @@ const AIM_IDIOMATIC: f64 = 2.0;
 /// Mixed rows take so long that they get only every other round.
 const MIXED_SHARE: usize = 2;
 
-fn heading(title: &str, columns: [&str; 5]) {
-    let [library, bounded, idiomatic, to_bounded, to_idiomatic] = columns;
-    println!("\n{title}");
+pub fn heading(title: &str, first: &str) {
+    println!("\n{title}\n");
     println!(
-        "{:<35} {:<6} {library:>10} {bounded:>10} {idiomatic:>10} \
-         {to_bounded:>8} {to_idiomatic:>8}",
-        "", "tables"
+        "| {first} | library | over (a) | over (b) | vector loops: over (a) | over (b) |\n\
+         |---|---|---|---|---|---|"
     );
 }
 
-const CONTEST: [&str; 5] = ["library ns", "(a) ns", "(b) ns", "lib/(a)", "lib/(b)"];
+/// A whole number, in threes.
+pub fn figure(number: f64) -> String {
+    let digits = format!("{number:.0}");
+    let mut figure = String::new();
+    for (place, digit) in digits.chars().enumerate() {
+        if place > 0 && (digits.len() - place) % 3 == 0 {
+            figure.push(',');
+        }
+        figure.push(digit);
+    }
+    figure
+}
 
-fn line(name: &str, level: &str, times: Times) {
-    let [library, bounded, idiomatic] = times;
-    let (to_bounded, to_idiomatic) = (library / bounded, library / idiomatic);
-    let mark = match (to_bounded > AIM_BOUNDED, to_idiomatic > AIM_IDIOMATIC) {
-        (false, false) => "",
-        (true, false) => "  over (a)",
-        (false, true) => "  over (b)",
-        (true, true) => "  over (a), (b)",
+/// What is said of each, one after the other.
+pub fn joined<T>(each: &[T], say: impl Fn(&T) -> String) -> String {
+    each.iter().map(say).collect::<Vec<_>>().join(" / ")
+}
+
+/// Three digits of a ratio.
+fn ratio(number: f64) -> String {
+    let places = match number {
+        100.0.. => 0,
+        10.0.. => 1,
+        _ => 2,
     };
-    println!(
-        "{name:<35} {level:<6} {library:>10.1} {bounded:>10.1} {idiomatic:>10.1} \
-         {to_bounded:>8.2} {to_idiomatic:>8.2}{mark}"
-    );
+    format!("{number:.places$}")
 }
 
-fn less(times: Times, part: Times) -> Times {
+/// A line of several figures.
+pub fn line(name: &str, all: &[Times]) {
+    let over = |place: usize| joined(all, |times| ratio(times[0] / times[place]));
+    let library = joined(all, |times| figure(times[0]));
+    println!("| {name} | {library} | {} | {} | {} | {} |", over(1), over(2), over(3), over(4));
+}
+
+pub fn less(times: Times, part: Times) -> Times {
     std::array::from_fn(|k| times[k] - part[k])
 }
 
 // ---- One operation, in a sequence.
 
 /// Machines of the level, with what the case asks for. The case has been carried out once.
-fn prepared(level: Level, case: &Case) -> Three {
-    let mut three = Three::started(&cases::setup());
+fn prepared(level: Level, case: &Case) -> Machines {
+    let mut machines = Machines::started(&cases::setup());
     for rows in [&cases::fill(level), &case.before, &case.timed, &case.undo] {
-        three.accept(rows);
+        machines.accept(rows);
     }
-    three
+    machines
 }
 
 /// Nanoseconds of one figure of the case: its rows as one sequence, less a sequence of no rows on
 /// the same state, which has all that a call costs beside its rows.
 fn case_times(level: Level, case: &Case, rounds: usize) -> Times {
-    let mut three = prepared(level, case);
-    let [bare, whole] = contest(&mut three, rounds, |machine| {
+    let mut machines = prepared(level, case);
+    let [bare, whole] = contest(&mut machines, rounds, |machine| {
         let bare = time(|| machine.sequence(black_box(&[])));
         let whole = time(|| machine.sequence(black_box(&case.timed)));
         machine.sequence(&case.undo);
@@ -76,48 +92,34 @@ fn case_of(level: Level, name: &str) -> Case {
     found.expect("every level has every case")
 }
 
+const AT_LEVELS: &str = "at empty / half-full / full tables, ns";
+
 fn operation_lines(rounds: usize) {
-    heading("Each operation in a sequence, ns", CONTEST);
+    heading(&format!("Each operation in a sequence, {AT_LEVELS}"), "operation");
+    let [all, within_bounded, within_idiomatic] = [const { Cell::new(0) }; 3];
+    let count = |cell: &Cell<usize>, yes: bool| cell.set(cell.get() + yes as usize);
     for name in cases::all(Level::Empty).iter().map(|case| case.name) {
-        for level in LEVELS {
-            line(name, level.name(), case_times(level, &case_of(level, name), rounds));
+        let times = LEVELS.map(|level| case_times(level, &case_of(level, name), rounds));
+        line(name, &times);
+        for [library, bounded, idiomatic, ..] in times {
+            count(&all, true);
+            count(&within_bounded, library <= AIM_BOUNDED * bounded);
+            count(&within_idiomatic, library <= AIM_IDIOMATIC * idiomatic);
         }
     }
-}
-
-// ---- Mixed rows.
-
-/// From a fresh start, rows in calls of so many; nanoseconds of a row, and of a call with no rows.
-fn mixed_times(setup: &Setup, rows: &[Row], each: usize, rounds: usize) -> [Times; 2] {
-    let mut three = Three::started(setup);
-    let [whole, bare] = contest(&mut three, rounds, |machine| {
-        machine.start(setup);
-        let bare = time(|| machine.sequence(black_box(&[])));
-        let calls = || rows.chunks(each).map(|rows| machine.sequence(black_box(rows))).sum::<u64>();
-        [time(calls), bare]
-    });
-    [whole.map(|time| time / rows.len() as f64), bare]
-}
-
-fn mixed_lines(rounds: usize) {
-    heading("Ten thousand mixed operations, ns a row", CONTEST);
-    let rounds = rounds.div_ceil(MIXED_SHARE);
-    for pages in [8, 64, PAGES] {
-        let (setup, rows) = mixed(pages);
-        let [whole, bare] = mixed_times(&setup, &rows, rows.len(), rounds);
-        let [hundreds, _] = mixed_times(&setup, &rows, 100, rounds);
-        let judged = bare.map(|time| time / rows.len() as f64);
-        line(&format!("N = {pages}, one call, judged"), "", whole);
-        line(&format!("N = {pages}, one call, rows alone"), "", less(whole, judged));
-        line(&format!("N = {pages}, calls of 100 rows, judged"), "", hundreds);
-    }
+    let [all, within_bounded, within_idiomatic] =
+        [all, within_bounded, within_idiomatic].map(Cell::into_inner);
+    println!(
+        "\nOf these {all} figures {within_bounded} are within (a) and {within_idiomatic} within \
+         twice (b)."
+    );
 }
 
 // ---- The one-operation entry.
 
 /// Nanoseconds of the library's one-operation entry, of the judgement in it, and of the operation
 /// in a sequence.
-fn entry_times(level: Level, case: &Case, rounds: usize) -> Times {
+fn entry_times(level: Level, case: &Case, rounds: usize) -> [f64; 3] {
     let [inside, ..] = case_times(level, case, rounds);
     let library = &mut prepared(level, case).library;
     let rows = &case.timed[..case.timed.len().min(64)];
@@ -131,18 +133,17 @@ fn entry_times(level: Level, case: &Case, rounds: usize) -> Times {
 }
 
 fn entry_lines(rounds: usize) {
-    let title = "The library's one-operation entry, and its judgement beside the operation itself";
-    heading(title, ["entry ns", "judge ns", "op ns", "jdg/ent", "ent/op"]);
+    println!("\nThe library's one-operation entry, {AT_LEVELS}\n");
+    println!(
+        "| operation | entry | of that, judgement | operation in a sequence | entry over operation |\n\
+         |---|---|---|---|---|"
+    );
     for name in ["7 CPU map, replaced", "21 CPU read", "25 data barrier"] {
-        for level in LEVELS {
-            let [entry, judged, inside] = entry_times(level, &case_of(level, name), rounds);
-            println!(
-                "{name:<35} {:<6} {entry:>10.1} {judged:>10.1} {inside:>10.1} {:>8.2} {:>8.1}",
-                level.name(),
-                judged / entry,
-                entry / inside
-            );
-        }
+        let times = LEVELS.map(|level| entry_times(level, &case_of(level, name), rounds));
+        let [entry, judged, inside] =
+            std::array::from_fn(|place| joined(&times, |times| figure(times[place])));
+        let over = joined(&times, |[entry, _, inside]| figure(entry / inside));
+        println!("| {name} | {entry} | {judged} | {inside} | {over} |");
     }
 }
 
@@ -157,36 +158,36 @@ fn fill_time(rounds: usize) -> f64 {
 }
 
 fn clearing_lines(rounds: usize) {
-    heading("A page given and taken back by turns", CONTEST);
+    heading("A page given and taken back by turns, at empty tables, ns", "");
     let [clears, keeps] = cases::clearing().map(|case| {
         let times = case_times(Level::Empty, &case, rounds);
-        line(case.name, "empty", times);
+        line(case.name, &[times]);
         times
     });
-    let (fill, [library, bounded, _]) = (fill_time(rounds), less(clears, keeps));
+    let (fill, [library, bounded, ..]) = (fill_time(rounds), less(clears, keeps));
     println!(
-        "Clearing 4 KiB, the difference: library {library:.1} ns, (a) {bounded:.1} ns; slice::fill \
-         {fill:.1} ns. Library over slice::fill: {:.2}",
+        "\nClearing 4 KiB, the difference: library {library:.1} ns, (a) {bounded:.1} ns; \
+         `slice::fill(0)` {fill:.1} ns. Library over `slice::fill`: {:.2}",
         library / fill
     );
 }
 
 fn start_lines(rounds: usize) {
-    heading("Start", CONTEST);
+    heading("Start, ns", "N");
     for pages in [8, 64, PAGES] {
         let units = vec![[1, 16, 0, 3, 3, 3], [2, 16, 2, 2, 3, 1]];
         let setup = Setup { pages, shared_base: pages - 1, shared_count: 1, units };
-        let mut three = Three::started(&setup);
+        let mut machines = Machines::started(&setup);
         let start = |machine: &mut dyn Machine| [time(|| machine.start(black_box(&setup)))];
-        let [times] = contest(&mut three, rounds, start);
-        line(&format!("N = {pages}"), "", times);
+        let [times] = contest(&mut machines, rounds, start);
+        line(&figure(pages as f64), &[times]);
     }
 }
 
 pub fn table(rounds: usize) {
-    println!("The least of {rounds} rounds (of mixed rows {}).", rounds.div_ceil(MIXED_SHARE));
-    println!("Over the aim is a line above 1.00 of (a) or above 2.00 of (b).");
-    mixed_lines(rounds);
+    let few = rounds.div_ceil(MIXED_SHARE);
+    println!("The least of {rounds} rounds, of mixed rows of {few}.");
+    mixed::lines(few);
     operation_lines(rounds);
     entry_lines(rounds);
     clearing_lines(rounds);

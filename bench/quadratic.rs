@@ -2,9 +2,8 @@
 //! ordinary safe Rust, a table searched from its front wherever a key or a word is looked for. So it
 //! goes by the square of what is filled. Page sets are tested by whole words, as in the library.
 
+use face::{bits, span_fits, Side, FILLED_AT, GUEST_AT, PAGE_AT, PORT_AT, VM_AT};
 use tiligormis::*;
-
-use crate::rows::{bits, span_fits, Side, FILLED_AT, GUEST_AT, PAGE_AT, PORT_AT, VM_AT};
 
 const POOL: usize = 0;
 const SHARED: usize = 1;

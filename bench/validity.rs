@@ -19,7 +19,7 @@ const SEARCH_SHARE: usize = 10;
 /// Damaged boxes of every chosen input.
 const DAMAGED: u64 = 200;
 /// Filled entries of each map.
-const GROWTH: [usize; 4] = [64, 128, 256, ENTRIES];
+const GROWTH: [usize; 4] = [ENTRIES / 8, ENTRIES / 4, ENTRIES / 2, ENTRIES];
 
 // ---- What is compared, and of it what is measured.
 
@@ -140,8 +140,8 @@ fn chosen_lines(rounds: usize) {
 }
 
 fn growth_lines(rounds: usize) {
-    let title = "As the tables fill; at the end each form's time over its own at 64";
-    heading(title, ["lib/64", "quad/64"]);
+    let title = "As the tables fill; at the end each form's time over its own of an eighth";
+    heading(title, ["lib/8th", "quad/8th"]);
     for inputs in [growing(ORDINARY), growing(ANY)] {
         let all = inputs.map(|input| times(&input, rounds));
         for (input, times) in inputs.iter().zip(all) {

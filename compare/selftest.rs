@@ -6,7 +6,7 @@ use second::author::Rng;
 use second::generate::generate_of_size;
 use second::machine::{Machine, PAGES, SLOTS};
 use second::operate::Row;
-use tiligormis::{fill_slot, Owned, OUT_OF_RANGE};
+use tiligormis::{fill_slot, Owned, Refusal};
 
 use crate::bits::PARTS;
 use crate::cases::cases;
@@ -193,10 +193,13 @@ fn slot_functions() -> Result<(), String> {
                 ..LIBRARY
             },
         ),
-        ("empty's number", Functions { empty: |_, _| Err(OUT_OF_RANGE), ..LIBRARY }),
+        ("empty's number", Functions { empty: |_, _| Err(Refusal::OutOfRange), ..LIBRARY }),
         (
             "slots",
-            Functions { empty: |_, place| (place < SLOTS).then_some(()).ok_or(2), ..LIBRARY },
+            Functions {
+                empty: |_, place| (place < SLOTS).then_some(()).ok_or(Refusal::OutOfRange),
+                ..LIBRARY
+            },
         ),
     ];
     for (part, functions) in flaws {

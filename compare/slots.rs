@@ -4,7 +4,7 @@ use std::process::ExitCode;
 
 use second::author::Rng;
 use second::machine::{Entry, Slot, ACCESSES, GENERATIONS, GUESTS, PAGES, PORTS, SLOTS, VMS};
-use tiligormis::{Translation, OUT_OF_RANGE, STATE_NOT_VALID};
+use tiligormis::{Refusal, Translation};
 
 use crate::differ::same;
 use crate::pack::{packed_slot, Difference};
@@ -14,8 +14,8 @@ use crate::report::Report;
 #[derive(Clone, Copy)]
 pub struct Functions {
     pub find: fn(&[tiligormis::Slot], u64, u64, u64) -> Option<usize>,
-    pub fill: fn(&mut [tiligormis::Slot], usize, Translation) -> Result<(), u64>,
-    pub empty: fn(&mut [tiligormis::Slot], usize) -> Result<(), u64>,
+    pub fill: fn(&mut [tiligormis::Slot], usize, Translation) -> Result<(), Refusal>,
+    pub empty: fn(&mut [tiligormis::Slot], usize) -> Result<(), Refusal>,
 }
 
 pub const LIBRARY: Functions = Functions {
@@ -73,12 +73,12 @@ impl Cache {
     }
 
     /// What the header says of a slot to be put in a place.
-    fn put(&mut self, place: usize, in_range: bool, slot: Option<Slot>) -> Result<(), u64> {
+    fn put(&mut self, place: usize, in_range: bool, slot: Option<Slot>) -> Result<(), Refusal> {
         if self.second.len() != SLOTS {
-            return Err(STATE_NOT_VALID);
+            return Err(Refusal::StateNotValid);
         }
         if place >= SLOTS || !in_range {
-            return Err(OUT_OF_RANGE);
+            return Err(Refusal::OutOfRange);
         }
         self.second[place] = slot;
         Ok(())

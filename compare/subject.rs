@@ -3,7 +3,7 @@
 use second::machine::{Free, Machine, PAGES};
 use second::operate::{self, Row};
 use second::script::Setup;
-use tiligormis::{Answer, Owned, Slot, Unit};
+use tiligormis::{Answer, Owned, Refusal, Slot, Unit};
 
 /// The library with a box of its own; in the self-test, something that is only nearly the library.
 pub trait Subject {
@@ -28,8 +28,8 @@ pub fn library(owned: Owned) -> Box<dyn Subject> {
     Box::new(Library { owned })
 }
 
-fn number(result: Result<(), u64>) -> u64 {
-    result.err().unwrap_or(tiligormis::ACCEPTED)
+fn number(result: Result<(), Refusal>) -> u64 {
+    result.err().map_or(tiligormis::ACCEPTED, Refusal::number)
 }
 
 impl Subject for Library {
@@ -58,7 +58,7 @@ impl Subject for Library {
     fn free(&self) -> Free {
         match self.owned.shared().free() {
             Ok(pages) => Free { number: 0, count: pages.count, lowest: pages.lowest() },
-            Err(number) => Free { number, count: 0, lowest: None },
+            Err(refusal) => Free { number: refusal.number(), count: 0, lowest: None },
         }
     }
 

@@ -8,13 +8,13 @@
 enum { PARTS(PART_NUMBER) PART_COUNT };
 static const char *const part_name[] = {PARTS(PART_NAME)};
 
-static size_t *length_of(tiligormis_box *lent, int part) {
+static size_t *length_of(struct parts *lent, int part) {
 #define PART_LENGTH(part, length) &lent->length,
     size_t *const lengths[] = {PARTS(PART_LENGTH)};
     return lengths[part];
 }
 
-static void make_null(tiligormis_box *lent, int part) {
+static void make_null(struct parts *lent, int part) {
     switch (part) {
 #define PART_NULL(part, length)                                                                                                \
     case PART_##part:                                                                                                          \
@@ -28,7 +28,7 @@ static void make_null(tiligormis_box *lent, int part) {
 /* The whole box is accepted by every entry: what other tests see refused is refused for what they changed. */
 bool whole_box(void) {
     expected = room;
-    bool good = tiligormis_valid(TILIGORMIS_LENT(&box)) && as_expected();
+    bool good = tiligormis_valid(LENT(&box)) && as_expected();
     expected.free_pages[SECOND] = (tiligormis_free_pages){4, 3};
     good &= free_pages(&box, TILIGORMIS_FREE_NUMBERS) == TILIGORMIS_ACCEPTED && as_expected();
     expected.answer[SECOND] = (tiligormis_answer){TILIGORMIS_ACCEPTED, 0, 0, 0};
@@ -40,7 +40,7 @@ bool whole_box(void) {
 bool null_arrays(void) {
     bool good = true;
     for (int part = 0; part < PART_COUNT; part++) {
-        tiligormis_box lent = box;
+        struct parts lent = box;
         make_null(&lent, part);
         good &= holds(all_refuse(&lent), part_name[part], 0);
     }
@@ -48,7 +48,7 @@ bool null_arrays(void) {
 }
 
 bool nothing_at_all(void) {
-    tiligormis_box lent = box;
+    struct parts lent = box;
     for (int part = 0; part < PART_COUNT; part++)
         make_null(&lent, part);
     return all_refuse(&lent);
@@ -58,7 +58,7 @@ bool nothing_at_all(void) {
 bool empty_arrays(void) {
     bool good = true;
     for (int part = 0; part < PART_COUNT; part++) {
-        tiligormis_box lent = box;
+        struct parts lent = box;
         *length_of(&lent, part) = 0;
         good &= holds(all_refuse(&lent), part_name[part], 0);
     }
@@ -69,7 +69,7 @@ bool empty_arrays(void) {
 static bool lengths_changed(ptrdiff_t change) {
     bool good = true;
     for (int part = 0; part < PART_COUNT; part++) {
-        tiligormis_box lent = box;
+        struct parts lent = box;
         *length_of(&lent, part) += (size_t)change;
         good &= holds(all_refuse(&lent), part_name[part], *length_of(&lent, part));
     }
@@ -82,10 +82,10 @@ bool long_arrays(void) { return lengths_changed(1) && lengths_changed(2) && leng
 
 /* Arrays that are only looked at may overlap: here the walker's map is the software map. */
 bool overlap_of_const(void) {
-    tiligormis_box lent = box;
+    struct parts lent = box;
     lent.cpu_walker = lent.cpu_map;
     expected = room;
-    return tiligormis_valid(TILIGORMIS_LENT(&lent)) && as_expected();
+    return tiligormis_valid(LENT(&lent)) && as_expected();
 }
 
 /* No number of a header that is looked at may be this large. The pages are also tried so that 512 times them wraps. */
@@ -119,7 +119,7 @@ bool unknown_marks(void) {
 bool units_past_count(void) {
     memset(&room.machine[SECOND].units[UNIT_COUNT], 0xff, sizeof(tiligormis_unit) * (TILIGORMIS_UNITS - UNIT_COUNT));
     expected = room;
-    return tiligormis_valid(TILIGORMIS_LENT(&box)) && as_expected();
+    return tiligormis_valid(LENT(&box)) && as_expected();
 }
 
 /* As many units as there is room for are good; more are not, all of those that there are being good. */
@@ -128,7 +128,7 @@ bool unit_counts(void) {
     for (size_t unit = 0; unit < TILIGORMIS_UNITS; unit++)
         room.machine[SECOND].units[unit] = whole.machine[SECOND].units[0];
     room.machine[SECOND].unit_count = TILIGORMIS_UNITS;
-    bool good = tiligormis_valid(TILIGORMIS_LENT(&box));
+    bool good = tiligormis_valid(LENT(&box));
     for (size_t k = 0; k < 3; k++) {
         room.machine[SECOND].unit_count = counts[k];
         good &= holds(entries_refuse(&box), "unit count", counts[k]);

@@ -1,7 +1,8 @@
 /*
  * What the library does at the edges that only C can reach: null pointers, lengths that are not the right ones, marks and
  * counts that no machine has. Each test looks at the number returned and at every byte: all that is lent stands in one room,
- * with guard elements before and after each array, and after a call the room must be as expected to the last byte.
+ * with guard elements before and after each array, and after a call the room must be as expected to the last byte. Also what
+ * the header's inline functions give, and what its head tells.
  */
 #ifndef TILIGORMIS_EDGES_H
 #define TILIGORMIS_EDGES_H
@@ -27,9 +28,9 @@ struct room {
     uint64_t dma_walker[GUARDED(TILIGORMIS_ENTRIES)];
     tiligormis_slot dma_cache[GUARDED(TILIGORMIS_SLOTS)];
     uint64_t memory[GUARDED(MEMORY)];
-    uint64_t units[GUARDED(UNITS_ROOM)];
+    tiligormis_unit units[1 + TILIGORMIS_UNITS + 1 + 1];
     uint64_t rows[GUARDED(ROWS_LENGTH)];
-    uint64_t answers[GUARDED(ANSWERS_LENGTH)];
+    tiligormis_answer answers[1 + ROWS + 1];
     tiligormis_answer answer[3];
     tiligormis_free_pages free_pages[3];
 };
@@ -37,10 +38,41 @@ struct room {
 /* The room of a machine at work; the room that calls are made in, like it before each test; what that must be afterwards. */
 extern struct room whole, room, expected;
 
-/* The box in `room`, every length right. */
-extern const tiligormis_box box;
+/* The parts of a box, each with its length, which need not be the right one. */
+struct parts {
+    tiligormis_machine *machine;
+    size_t machine_numbers;
+    uint64_t *sets;
+    size_t sets_length;
+    uint64_t *pairs;
+    size_t pairs_length;
+    uint64_t *cpu_map;
+    size_t cpu_map_length;
+    uint64_t *cpu_walker;
+    size_t cpu_walker_length;
+    tiligormis_slot *cpu_cache;
+    size_t cpu_cache_length;
+    uint64_t *dma_map;
+    size_t dma_map_length;
+    uint64_t *dma_walker;
+    size_t dma_walker_length;
+    tiligormis_slot *dma_cache;
+    size_t dma_cache_length;
+    uint64_t *memory;
+    size_t memory_length;
+};
 
-/* The parts of a box, each with the name of its length. An element counts as 64 bits in all of them. */
+/* The arguments that hand them on. */
+#define LENT(parts)                                                                                                            \
+    (parts)->machine, (parts)->machine_numbers, (parts)->sets, (parts)->sets_length, (parts)->pairs, (parts)->pairs_length,    \
+        (parts)->cpu_map, (parts)->cpu_map_length, (parts)->cpu_walker, (parts)->cpu_walker_length, (parts)->cpu_cache,        \
+        (parts)->cpu_cache_length, (parts)->dma_map, (parts)->dma_map_length, (parts)->dma_walker, (parts)->dma_walker_length, \
+        (parts)->dma_cache, (parts)->dma_cache_length, (parts)->memory, (parts)->memory_length
+
+/* The box in `room`, every length right. */
+extern const struct parts box;
+
+/* The parts by name, each with the name of its length. An element counts as 64 bits in all of them. */
 #define PARTS(PART)                                                                                                            \
     PART(machine, machine_numbers)                                                                                             \
     PART(sets, sets_length)                                                                                                    \
@@ -59,11 +91,11 @@ bool make_whole(void);
 /* ---- Calls with what stands in `room`; of length 0 a null pointer is passed. ----------------------------------------------
  */
 
-uint64_t start_with(const tiligormis_box *lent, uint64_t pages, uint64_t shared_base, size_t units_length);
-uint64_t start(const tiligormis_box *lent);
-uint64_t operation(const tiligormis_box *lent, size_t row_length, size_t answer_numbers);
-uint64_t sequence(const tiligormis_box *lent, size_t rows_length, size_t answers_length);
-uint64_t free_pages(const tiligormis_box *lent, size_t free_numbers);
+uint64_t start_with(const struct parts *lent, uint64_t pages, uint64_t shared_base, size_t units_length);
+uint64_t start(const struct parts *lent);
+uint64_t operation(const struct parts *lent, size_t row_length, size_t answer_numbers);
+uint64_t sequence(const struct parts *lent, size_t rows_length, size_t answers_length);
+uint64_t free_pages(const struct parts *lent, size_t free_numbers);
 
 /* ---- What is expected -----------------------------------------------------------------------------------------------------
  */
@@ -80,13 +112,13 @@ extern const tiligormis_answer not_valid;
 tiligormis_machine empty_machine(void);
 
 /* Start gave this number, and it is this refusal; all but the header is left, and that too where it has not its length. */
-bool start_refused(const tiligormis_box *lent, uint64_t number, uint64_t refusal);
+bool start_refused(const struct parts *lent, uint64_t number, uint64_t refusal);
 
 /* Every entry but start refuses with 1 and leaves the room, but for the answer and the free query's result. */
-bool entries_refuse(const tiligormis_box *lent);
+bool entries_refuse(const struct parts *lent);
 
 /* So does start, all of them from the room of a machine at work. */
-bool all_refuse(const tiligormis_box *lent);
+bool all_refuse(const struct parts *lent);
 
 /* ---- The tests ------------------------------------------------------------------------------------------------------------
  */
@@ -118,7 +150,19 @@ bool all_refuse(const tiligormis_box *lent);
     TEST(start_without_units)                                                                                                  \
     TEST(find_slot)                                                                                                            \
     TEST(fill_slot)                                                                                                            \
-    TEST(empty_slot)
+    TEST(empty_slot)                                                                                                           \
+    TEST(wrong_cache_unread)                                                                                                   \
+    TEST(refusal_unwritten)                                                                                                    \
+    TEST(row_constructors)                                                                                                     \
+    TEST(refusal_names)                                                                                                        \
+    TEST(entry_fields)                                                                                                         \
+    TEST(box_of_tables)                                                                                                        \
+    TEST(box_like_parts)                                                                                                       \
+    TEST(box_unit_counts)                                                                                                      \
+    TEST(box_row_counts)                                                                                                       \
+    TEST(dma_pages)                                                                                                            \
+    TEST(retirement)                                                                                                           \
+    TEST(retirement_by_page)
 
 #define DECLARED(test) bool test(void);
 TESTS(DECLARED)

@@ -7,35 +7,36 @@
 
 struct room whole, room, expected;
 
-const tiligormis_box box = {&room.machine[SECOND],   TILIGORMIS_MACHINE_NUMBERS, room.sets + GUARD,       SETS,
-                            room.pairs + GUARD,      TILIGORMIS_PAIRS,           room.cpu_map + GUARD,    TILIGORMIS_ENTRIES,
-                            room.cpu_walker + GUARD, TILIGORMIS_ENTRIES,         room.cpu_cache + GUARD,  TILIGORMIS_SLOTS,
-                            room.dma_map + GUARD,    TILIGORMIS_ENTRIES,         room.dma_walker + GUARD, TILIGORMIS_ENTRIES,
-                            room.dma_cache + GUARD,  TILIGORMIS_SLOTS,           room.memory + GUARD,     MEMORY};
+const struct parts box = {&room.machine[SECOND],   TILIGORMIS_MACHINE_NUMBERS, room.sets + GUARD,       SETS,
+                          room.pairs + GUARD,      TILIGORMIS_PAIRS,           room.cpu_map + GUARD,    TILIGORMIS_ENTRIES,
+                          room.cpu_walker + GUARD, TILIGORMIS_ENTRIES,         room.cpu_cache + GUARD,  TILIGORMIS_SLOTS,
+                          room.dma_map + GUARD,    TILIGORMIS_ENTRIES,         room.dma_walker + GUARD, TILIGORMIS_ENTRIES,
+                          room.dma_cache + GUARD,  TILIGORMIS_SLOTS,           room.memory + GUARD,     MEMORY};
 
-uint64_t start_with(const tiligormis_box *lent, uint64_t pages, uint64_t shared_base, size_t units_length) {
-    return tiligormis_start(TILIGORMIS_LENT(lent), pages, shared_base, SHARED_COUNT,
-                            units_length == 0 ? NULL : room.units + GUARD, units_length);
+uint64_t start_with(const struct parts *lent, uint64_t pages, uint64_t shared_base, size_t units_length) {
+    return tiligormis_start(LENT(lent), pages, shared_base, SHARED_COUNT, units_length == 0 ? NULL : &room.units[SECOND],
+                            units_length);
 }
 
-uint64_t start(const tiligormis_box *lent) { return start_with(lent, PAGES, SHARED_BASE, UNITS_LENGTH); }
+uint64_t start(const struct parts *lent) { return start_with(lent, PAGES, SHARED_BASE, UNITS_LENGTH); }
 
-uint64_t operation(const tiligormis_box *lent, size_t row_length, size_t answer_numbers) {
-    return tiligormis_operation(TILIGORMIS_LENT(lent), row_length == 0 ? NULL : room.rows + GUARD, row_length,
+uint64_t operation(const struct parts *lent, size_t row_length, size_t answer_numbers) {
+    return tiligormis_operation(LENT(lent), row_length == 0 ? NULL : room.rows + GUARD, row_length,
                                 answer_numbers == 0 ? NULL : &room.answer[SECOND], answer_numbers);
 }
 
-uint64_t sequence(const tiligormis_box *lent, size_t rows_length, size_t answers_length) {
-    return tiligormis_sequence(TILIGORMIS_LENT(lent), rows_length == 0 ? NULL : room.rows + GUARD, rows_length,
-                               answers_length == 0 ? NULL : room.answers + GUARD, answers_length);
+uint64_t sequence(const struct parts *lent, size_t rows_length, size_t answers_length) {
+    return tiligormis_sequence(LENT(lent), rows_length == 0 ? NULL : room.rows + GUARD, rows_length,
+                               answers_length == 0 ? NULL : &room.answers[SECOND], answers_length);
 }
 
-uint64_t free_pages(const tiligormis_box *lent, size_t free_numbers) {
-    return tiligormis_free(TILIGORMIS_LENT(lent), free_numbers == 0 ? NULL : &room.free_pages[SECOND], free_numbers);
+uint64_t free_pages(const struct parts *lent, size_t free_numbers) {
+    return tiligormis_free(LENT(lent), free_numbers == 0 ? NULL : &room.free_pages[SECOND], free_numbers);
 }
 
 bool make_whole(void) {
-    static const uint64_t units[UNITS_LENGTH] = {1, 16, 0, 3, 3, TILIGORMIS_MARK_BOTH, 2, 16, 2, 2, 3, TILIGORMIS_MARK_CPU};
+    static const tiligormis_unit units[UNIT_COUNT] = {{1, 16, 0, 3, 3, TILIGORMIS_MARK_BOTH},
+                                                      {2, 16, 2, 2, 3, TILIGORMIS_MARK_CPU}};
     static const uint64_t work[][TILIGORMIS_ROW_NUMBERS] = {
         {TILIGORMIS_ADD_VM, 1},
         {TILIGORMIS_ADD_VM, 2},
@@ -52,14 +53,14 @@ bool make_whole(void) {
     };
     static const uint64_t rows[ROWS][TILIGORMIS_ROW_NUMBERS] = {{TILIGORMIS_ADD_VM, 3}, {TILIGORMIS_ADD_VM, 3}};
     memset(&room, 0xa5, sizeof room);
-    memcpy(room.units + GUARD, units, sizeof units);
+    memcpy(&room.units[SECOND], units, sizeof units);
     uint64_t refused = start(&box);
     for (size_t k = 0; k < sizeof work / sizeof *work; k++) {
         memcpy(room.rows + GUARD, work[k], sizeof *work);
         refused |= operation(&box, TILIGORMIS_ROW_NUMBERS, TILIGORMIS_ANSWER_NUMBERS);
     }
     memset(&whole, 0xa5, sizeof whole);
-    memcpy(whole.units + GUARD, units, sizeof units);
+    memcpy(&whole.units[SECOND], units, sizeof units);
     memcpy(whole.rows + GUARD, rows, sizeof rows);
 #define KEPT(part, length) memcpy((char *)&whole + ((char *)box.part - (char *)&room), box.part, sizeof(uint64_t) * box.length);
     PARTS(KEPT)
@@ -85,15 +86,15 @@ tiligormis_machine empty_machine(void) {
     return machine;
 }
 
-bool start_refused(const tiligormis_box *lent, uint64_t number, uint64_t refusal) {
+bool start_refused(const struct parts *lent, uint64_t number, uint64_t refusal) {
     if (lent->machine_numbers == TILIGORMIS_MACHINE_NUMBERS)
         expected.machine[SECOND] = empty_machine();
     return number == refusal && as_expected();
 }
 
-bool entries_refuse(const tiligormis_box *lent) {
+bool entries_refuse(const struct parts *lent) {
     expected = room;
-    bool good = !tiligormis_valid(TILIGORMIS_LENT(lent)) && as_expected();
+    bool good = !tiligormis_valid(LENT(lent)) && as_expected();
     good &= sequence(lent, ROWS_LENGTH, ANSWERS_LENGTH) == TILIGORMIS_STATE_NOT_VALID && as_expected();
     expected.answer[SECOND] = not_valid;
     good &= operation(lent, TILIGORMIS_ROW_NUMBERS, TILIGORMIS_ANSWER_NUMBERS) == TILIGORMIS_STATE_NOT_VALID && as_expected();
@@ -102,7 +103,7 @@ bool entries_refuse(const tiligormis_box *lent) {
     return good;
 }
 
-bool all_refuse(const tiligormis_box *lent) {
+bool all_refuse(const struct parts *lent) {
     room = whole;
     return entries_refuse(lent) && start_refused(lent, start(lent), TILIGORMIS_STATE_NOT_VALID);
 }

@@ -57,9 +57,9 @@ bool sequence_order(void) {
 
 /* Both rows are carried out, the refused one too; room beyond the answers keeps its content. */
 bool answers_long(void) {
-    static const uint64_t answers[ANSWERS_LENGTH] = {TILIGORMIS_ACCEPTED, 0, 0, 0, TILIGORMIS_VM_KNOWN, 0, 0, 0};
+    static const tiligormis_answer answers[ROWS] = {{TILIGORMIS_ACCEPTED, 0, 0, 0}, {TILIGORMIS_VM_KNOWN, 0, 0, 0}};
     expected = room;
-    memcpy(expected.answers + GUARD, answers, sizeof answers);
+    memcpy(&expected.answers[SECOND], answers, sizeof answers);
     expected.machine[SECOND].known |= 1 << 3;
     return sequence(&box, ROWS_LENGTH, ANSWERS_LENGTH + 1) == TILIGORMIS_ACCEPTED && as_expected();
 }

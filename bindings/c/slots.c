@@ -73,5 +73,5 @@ bool empty_slot(void) {
     good &= tiligormis_empty_slot(slots, TILIGORMIS_SLOTS, UINT64_MAX) == TILIGORMIS_OUT_OF_RANGE && as_expected();
     expected.cpu_cache[GUARD + 1] = (tiligormis_slot){0, 0, 0, 0};
     good &= tiligormis_empty_slot(slots, TILIGORMIS_SLOTS, 1) == TILIGORMIS_ACCEPTED && as_expected();
-    return good && tiligormis_valid(TILIGORMIS_LENT(&box));
+    return good && tiligormis_valid(LENT(&box));
 }

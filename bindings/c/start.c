@@ -29,7 +29,7 @@ bool start_marks(void) {
     bool good = true;
     for (size_t k = 0; k < 3; k++) {
         room = whole;
-        room.units[GUARD + UNITS_LENGTH - 1] = marks[k];
+        room.units[SECOND + UNIT_COUNT - 1].mark = marks[k];
         expected = room;
         good &= holds(start_refused(&box, start(&box), TILIGORMIS_OUT_OF_RANGE), "mark", marks[k]);
     }

@@ -16,84 +16,51 @@ enum { GUEST_OF_A = 16, GUEST_OF_B = 64, PAGE = 0, COUNT = 4, ACCESS = TILIGORMI
 enum { WORD = 0, GENERATION = 0, LINE = 60 };
 
 /* Everything that the library is lent, in one piece, so that a box can be compared with what it was. */
-static struct tables {
+static struct lent {
     tiligormis_machine machine;
-    uint64_t sets[TILIGORMIS_SETS * TILIGORMIS_SET_WORDS];
-    uint64_t pairs[TILIGORMIS_PAIRS];
-    uint64_t cpu_map[TILIGORMIS_ENTRIES];
-    uint64_t cpu_walker[TILIGORMIS_ENTRIES];
-    tiligormis_slot cpu_cache[TILIGORMIS_SLOTS];
-    uint64_t dma_map[TILIGORMIS_ENTRIES];
-    uint64_t dma_walker[TILIGORMIS_ENTRIES];
-    tiligormis_slot dma_cache[TILIGORMIS_SLOTS];
+    tiligormis_tables tables;
     uint64_t memory[PAGES * TILIGORMIS_PAGE_WORDS];
-} tables;
+} lent;
 
-#define LEND(array) (array), sizeof(array) / sizeof *(array)
-static const tiligormis_box box = {&tables.machine,        TILIGORMIS_MACHINE_NUMBERS, LEND(tables.sets),
-                                   LEND(tables.pairs),     LEND(tables.cpu_map),       LEND(tables.cpu_walker),
-                                   LEND(tables.cpu_cache), LEND(tables.dma_map),       LEND(tables.dma_walker),
-                                   LEND(tables.dma_cache), LEND(tables.memory)};
-
-static const char *const meaning[] = {
-    "accepted",
-    "the box is not valid",
-    "a number is out of range",
-    "a bad span",
-    "the VM is not known",
-    "the VM is known already",
-    "a page is not held as needed",
-    "a page is claimed elsewhere",
-    "no such unit",
-    "the mapping is absent or different",
-    "a mapping is there already",
-    "a page is still mapped or shared",
-    "no such pair",
-    "the VM still has something",
-    "no room",
-    "the port is idle",
-    "the mapping's access lacks the bit",
-};
+static tiligormis_box box;
 
 static void say(const char *what, uint64_t number) {
     printf("  %-*s ", LINE, what);
     if (number != TILIGORMIS_ACCEPTED)
         printf("refused with %" PRIu64 ", ", number);
-    printf("%s", meaning[number]);
+    /* what comes after a colon tells more than a line has room for */
+    const char *sentence = tiligormis_refusal_sentence(number);
+    printf("%.*s", (int)strcspn(sentence, ":"), sentence);
 }
 
-static void step(const char *what, const uint64_t row[TILIGORMIS_ROW_NUMBERS]) {
+static void step(const char *what, tiligormis_row row) {
     tiligormis_answer answer;
-    uint64_t number =
-        tiligormis_operation(TILIGORMIS_LENT(&box), row, TILIGORMIS_ROW_NUMBERS, &answer, TILIGORMIS_ANSWER_NUMBERS);
+    uint64_t number = tiligormis_box_operation(&box, row, &answer);
     say(what, number);
     if (answer.dropped != 0)
         printf(", cached translations dropped: %" PRIu64, answer.dropped);
-    if (number == TILIGORMIS_ACCEPTED && row[0] == TILIGORMIS_CPU_READ)
+    if (number == TILIGORMIS_ACCEPTED && row.numbers[0] == TILIGORMIS_CPU_READ)
         printf(", the word is %" PRIu64, answer.word);
     printf("\n");
 }
 
-#define STEP(what, ...) step(what, (const uint64_t[TILIGORMIS_ROW_NUMBERS]){__VA_ARGS__})
-
 static void free_pages(void) {
     tiligormis_free_pages pages;
-    uint64_t number = tiligormis_free(TILIGORMIS_LENT(&box), &pages, TILIGORMIS_FREE_NUMBERS);
+    uint64_t number = tiligormis_box_free(&box, &pages);
     say("how many pages are free?", number);
     if (number == TILIGORMIS_ACCEPTED)
         printf(", %" PRIu64 " are, the lowest is %" PRIu64, pages.count, pages.lowest);
     printf("\n");
 }
 
-/* Where the reader's translation of A's first guest page is cached, and the page that it goes to: bits 19 to 30 of the entry.
- */
+/* Where the reader's translation of A's first guest page is cached, and the page that it goes to. */
 static void reader_slot(void) {
-    size_t place = tiligormis_find_slot(LEND(tables.dma_cache), READER_OF_A, A, GUEST_OF_A);
+    size_t place = tiligormis_find_slot(box.dma_cache, TILIGORMIS_SLOTS, READER_OF_A, A, GUEST_OF_A);
     printf("  %-*s ", LINE, "which slot holds the reader's translation?");
     if (place == TILIGORMIS_SLOTS)
         printf("none\n");
     else
-        printf("slot %zu, onto page %" PRIu32 "\n", place, tables.dma_cache[place].entry >> 19 & 0xfff);
+        printf("slot %zu, onto page %" PRIu32 "\n", place, tiligormis_entry_page(box.dma_cache[place].entry));
 }
 
 static void start(void) {
@@ -102,87 +69,84 @@ static void start(void) {
         {B, GUEST_OF_B, PAGE, COUNT, ACCESS, TILIGORMIS_MARK_BOTH},
     };
     say("start, with two converters planned onto the same four pages",
-        tiligormis_start(TILIGORMIS_LENT(&box), PAGES, SHARED_PAGE, SHARED_PAGES, &units[0].vm,
-                         TILIGORMIS_UNIT_NUMBERS * (sizeof units / sizeof *units)));
+        tiligormis_box_start(&box, SHARED_PAGE, SHARED_PAGES, units, sizeof units / sizeof *units));
     printf("\n");
 }
 
 static void at_work(void) {
     printf("Converter A at work\n");
-    STEP("A is added", TILIGORMIS_ADD_VM, A);
-    STEP("its region goes in for CPUs", TILIGORMIS_INSERT_REGION, A, GUEST_OF_A, PAGE, COUNT, ACCESS);
-    STEP("and for devices", TILIGORMIS_DMA_INSERT_REGION, A, GUEST_OF_A, PAGE, COUNT, ACCESS);
-    STEP("A runs on a CPU", TILIGORMIS_SWITCH_CPU, CPU_OF_A, A);
-    STEP("its card reader is bound to it", TILIGORMIS_BIND_DEVICE, READER_OF_A, A);
-    STEP("the reader caches a translation", TILIGORMIS_DMA_FILL, READER_OF_A, GUEST_OF_A);
+    step("A is added", tiligormis_row_add_vm(A));
+    step("its region goes in for CPUs", tiligormis_row_insert_region(A, GUEST_OF_A, PAGE, COUNT, ACCESS));
+    step("and for devices", tiligormis_row_dma_insert_region(A, GUEST_OF_A, PAGE, COUNT, ACCESS));
+    step("A runs on a CPU", tiligormis_row_switch_cpu(CPU_OF_A, A));
+    step("its card reader is bound to it", tiligormis_row_bind_device(READER_OF_A, A));
+    step("the reader caches a translation", tiligormis_row_dma_fill(READER_OF_A, GUEST_OF_A));
     reader_slot();
-    STEP("the reader writes a lens name, 1111", TILIGORMIS_DMA_WRITE, READER_OF_A, GUEST_OF_A, WORD, 1111);
-    STEP("A reads it", TILIGORMIS_CPU_READ, CPU_OF_A, GUEST_OF_A, WORD);
+    step("the reader writes a lens name, 1111", tiligormis_row_dma_write(READER_OF_A, GUEST_OF_A, WORD, 1111));
+    step("A reads it", tiligormis_row_cpu_read(CPU_OF_A, GUEST_OF_A, WORD));
 }
 
 static void retired_badly(void) {
     printf("A retired badly: its region is taken from CPUs, its card reader forgotten\n");
-    STEP("A is removed", TILIGORMIS_REMOVE_VM, A);
-    STEP("its region is taken from CPUs", TILIGORMIS_REMOVE_REGION, A, GUEST_OF_A, PAGE, COUNT, ACCESS);
+    step("A is removed", tiligormis_row_remove_vm(A));
+    step("its region is taken from CPUs", tiligormis_row_remove_region(A, GUEST_OF_A, PAGE, COUNT, ACCESS));
     free_pages();
-    STEP("the reader writes 2222, which harms nobody yet", TILIGORMIS_DMA_WRITE, READER_OF_A, GUEST_OF_A, WORD, 2222);
-    STEP("converter B is added", TILIGORMIS_ADD_VM, B);
-    STEP("B asks for the pages", TILIGORMIS_INSERT_REGION, B, GUEST_OF_B, PAGE, COUNT, ACCESS);
+    step("the reader writes 2222, which harms nobody yet", tiligormis_row_dma_write(READER_OF_A, GUEST_OF_A, WORD, 2222));
+    step("converter B is added", tiligormis_row_add_vm(B));
+    step("B asks for the pages", tiligormis_row_insert_region(B, GUEST_OF_B, PAGE, COUNT, ACCESS));
 }
 
 static void retired_properly(void) {
     printf("A retired properly, and its pages given to B\n");
-    STEP("A's region is taken from devices too", TILIGORMIS_DMA_REMOVE_REGION, A, GUEST_OF_A, PAGE, COUNT, ACCESS);
+    step("A's region is taken from devices too", tiligormis_row_dma_remove_region(A, GUEST_OF_A, PAGE, COUNT, ACCESS));
     reader_slot();
-    STEP("the reader writes 3333", TILIGORMIS_DMA_WRITE, READER_OF_A, GUEST_OF_A, WORD, 3333);
-    STEP("B asks for the pages", TILIGORMIS_INSERT_REGION, B, GUEST_OF_B, PAGE, COUNT, ACCESS);
-    STEP("B runs on a CPU", TILIGORMIS_SWITCH_CPU, CPU_OF_B, B);
-    STEP("B reads the word where A's lens name was", TILIGORMIS_CPU_READ, CPU_OF_B, GUEST_OF_B, WORD);
-    STEP("B writes a lens name of its own, 4444", TILIGORMIS_CPU_WRITE, CPU_OF_B, GUEST_OF_B, WORD, 4444);
-    STEP("the reader writes 5555", TILIGORMIS_DMA_WRITE, READER_OF_A, GUEST_OF_A, WORD, 5555);
-    STEP("B reads its lens name", TILIGORMIS_CPU_READ, CPU_OF_B, GUEST_OF_B, WORD);
+    step("the reader writes 3333", tiligormis_row_dma_write(READER_OF_A, GUEST_OF_A, WORD, 3333));
+    step("B asks for the pages", tiligormis_row_insert_region(B, GUEST_OF_B, PAGE, COUNT, ACCESS));
+    step("B runs on a CPU", tiligormis_row_switch_cpu(CPU_OF_B, B));
+    step("B reads the word where A's lens name was", tiligormis_row_cpu_read(CPU_OF_B, GUEST_OF_B, WORD));
+    step("B writes a lens name of its own, 4444", tiligormis_row_cpu_write(CPU_OF_B, GUEST_OF_B, WORD, 4444));
+    step("the reader writes 5555", tiligormis_row_dma_write(READER_OF_A, GUEST_OF_A, WORD, 5555));
+    step("B reads its lens name", tiligormis_row_cpu_read(CPU_OF_B, GUEST_OF_B, WORD));
 }
 
-static void valid(void) {
-    printf("  %-*s %s\n", LINE, "is the box valid?", tiligormis_valid(TILIGORMIS_LENT(&box)) ? "yes" : "no");
-}
+static void valid(void) { printf("  %-*s %s\n", LINE, "is the box valid?", tiligormis_box_valid(&box) ? "yes" : "no"); }
 
 /* Writes into the cache behind the library's back, as a fault would. */
 static void planted(void) {
-    static struct tables before;
+    static struct lent before;
     const uint64_t place = 0;
     printf("The stale translation planted by hand\n");
     say("a slot is filled as it was when A was at work",
-        tiligormis_fill_slot(LEND(tables.dma_cache), place, READER_OF_A, A, GUEST_OF_A, PAGE, ACCESS, GENERATION));
+        tiligormis_fill_slot(box.dma_cache, TILIGORMIS_SLOTS, place, READER_OF_A, A, GUEST_OF_A, PAGE, ACCESS, GENERATION));
     printf("\n");
     reader_slot();
     valid();
-    before = tables;
-    STEP("the reader writes 6666", TILIGORMIS_DMA_WRITE, READER_OF_A, GUEST_OF_A, WORD, 6666);
-    STEP("B reads its lens name", TILIGORMIS_CPU_READ, CPU_OF_B, GUEST_OF_B, WORD);
+    before = lent;
+    step("the reader writes 6666", tiligormis_row_dma_write(READER_OF_A, GUEST_OF_A, WORD, 6666));
+    step("B reads its lens name", tiligormis_row_cpu_read(CPU_OF_B, GUEST_OF_B, WORD));
     free_pages();
-    printf("  %-*s %s\n", LINE, "is every byte of the box as it was?",
-           memcmp(&before, &tables, sizeof tables) == 0 ? "yes" : "no");
-    say("the slot is emptied", tiligormis_empty_slot(LEND(tables.dma_cache), place));
+    printf("  %-*s %s\n", LINE, "is every byte of the box as it was?", memcmp(&before, &lent, sizeof lent) == 0 ? "yes" : "no");
+    say("the slot is emptied", tiligormis_empty_slot(box.dma_cache, TILIGORMIS_SLOTS, place));
     printf("\n");
     reader_slot();
     valid();
-    STEP("the reader writes 7777", TILIGORMIS_DMA_WRITE, READER_OF_A, GUEST_OF_A, WORD, 7777);
-    STEP("B reads its lens name", TILIGORMIS_CPU_READ, CPU_OF_B, GUEST_OF_B, WORD);
+    step("the reader writes 7777", tiligormis_row_dma_write(READER_OF_A, GUEST_OF_A, WORD, 7777));
+    step("B reads its lens name", tiligormis_row_cpu_read(CPU_OF_B, GUEST_OF_B, WORD));
 }
 
 static void gone(void) {
     printf("A gone\n");
-    STEP("A is removed", TILIGORMIS_REMOVE_VM, A);
-    STEP("its CPU becomes idle", TILIGORMIS_SWITCH_CPU, CPU_OF_A, TILIGORMIS_IDLE);
-    STEP("its reader is bound to nobody", TILIGORMIS_BIND_DEVICE, READER_OF_A, TILIGORMIS_IDLE);
-    STEP("A is removed", TILIGORMIS_REMOVE_VM, A);
-    STEP("the reader writes 8888", TILIGORMIS_DMA_WRITE, READER_OF_A, GUEST_OF_A, WORD, 8888);
-    STEP("the reader is bound to A", TILIGORMIS_BIND_DEVICE, READER_OF_A, A);
-    STEP("B reads its lens name", TILIGORMIS_CPU_READ, CPU_OF_B, GUEST_OF_B, WORD);
+    step("A is removed", tiligormis_row_remove_vm(A));
+    step("its CPU becomes idle", tiligormis_row_switch_cpu(CPU_OF_A, TILIGORMIS_IDLE));
+    step("its reader is bound to nobody", tiligormis_row_bind_device(READER_OF_A, TILIGORMIS_IDLE));
+    step("A is removed", tiligormis_row_remove_vm(A));
+    step("the reader writes 8888", tiligormis_row_dma_write(READER_OF_A, GUEST_OF_A, WORD, 8888));
+    step("the reader is bound to A", tiligormis_row_bind_device(READER_OF_A, A));
+    step("B reads its lens name", tiligormis_row_cpu_read(CPU_OF_B, GUEST_OF_B, WORD));
 }
 
 int main(void) {
+    box = tiligormis_box_of(&lent.machine, &lent.tables, lent.memory, PAGES);
     printf("The machine\n");
     start();
     at_work();

@@ -24,81 +24,66 @@ const ACCESS: u64 = READ | WRITE;
 const WORD: u64 = 0;
 const LINE: usize = 60;
 
-const B_READS: [u64; 4] = [CPU_READ, CPU_OF_B, GUEST_OF_B, WORD];
-
-fn reader_write(value: u64) -> [u64; 5] {
-    [DMA_WRITE, READER_OF_A, GUEST_OF_A, WORD, value]
-}
-
-const MEANING: [&str; 17] = [
-    "accepted",
-    "the box is not valid",
-    "a number is out of range",
-    "a bad span",
-    "the VM is not known",
-    "the VM is known already",
-    "a page is not held as needed",
-    "a page is claimed elsewhere",
-    "no such unit",
-    "the mapping is absent or different",
-    "a mapping is there already",
-    "a page is still mapped or shared",
-    "no such pair",
-    "the VM still has something",
-    "no room",
-    "the port is idle",
-    "the mapping's access lacks the bit",
-];
-
-fn said(number: u64) -> String {
-    let meaning = MEANING[number as usize];
-    match number {
-        ACCEPTED => meaning.to_string(),
-        refused => format!("refused with {refused}, {meaning}"),
-    }
+/// What a refusal means, without the details that follow its colon.
+fn meaning(refusal: Refusal) -> String {
+    refusal.to_string().split(':').next().unwrap_or_default().to_string()
 }
 
 fn say(what: &str, answer: &str) {
     println!("  {what:LINE$} {answer}");
 }
 
-fn done(result: Result<(), u64>) -> String {
-    said(result.err().unwrap_or(ACCEPTED))
+/// Says that something was accepted, and what it gave, or why it was refused.
+fn done<T>(what: &str, result: Result<T, impl Into<Refusal>>, gave: impl Fn(T) -> String) {
+    let answer = match result.map_err(Into::into) {
+        Ok(given) => format!("accepted{}", gave(given)),
+        Err(refusal) => format!("refused with {}, {}", refusal.number(), meaning(refusal)),
+    };
+    say(what, &answer);
 }
 
-fn step<const GIVEN: usize>(ingest: &mut Owned, what: &str, numbers: [u64; GIVEN]) {
-    let answer = ingest.lent().operation(row(numbers));
-    let mut text = said(answer.number);
-    if answer.dropped != 0 {
-        text += &format!(", cached translations dropped: {}", answer.dropped);
+fn nothing(_: ()) -> String {
+    String::new()
+}
+
+fn dropped(slots: u64) -> String {
+    match slots {
+        0 => String::new(),
+        _ => format!(", cached translations dropped: {slots}"),
     }
-    if answer.number == ACCEPTED && numbers[0] == CPU_READ {
-        text += &format!(", the word is {}", answer.word);
-    }
-    say(what, &text);
+}
+
+fn word(word: u64) -> String {
+    format!(", the word is {word}")
+}
+
+fn reader_writes(ingest: &mut Owned, what: &str, value: u64) {
+    done(what, ingest.lent().dma_write(READER_OF_A, GUEST_OF_A, WORD, value), nothing);
+}
+
+fn b_reads(ingest: &mut Owned, what: &str) {
+    done(what, ingest.lent().cpu_read(CPU_OF_B, GUEST_OF_B, WORD), word);
+}
+
+fn b_asks(ingest: &mut Owned) {
+    let result = ingest.lent().insert_region(B, GUEST_OF_B, PAGE, COUNT, ACCESS);
+    done("B asks for the pages", result, nothing);
 }
 
 fn free_pages(ingest: &Owned) {
-    let text = match ingest.shared().free() {
-        Err(number) => said(number),
-        Ok(pages) => match pages.lowest() {
-            None => format!("{}, none is", said(ACCEPTED)),
-            Some(page) => {
-                format!("{}, {} are, the lowest is {page}", said(ACCEPTED), pages.count)
-            }
-        },
-    };
-    say("how many pages are free?", &text);
+    done("how many pages are free?", ingest.shared().free(), |pages| match pages.lowest() {
+        None => ", none is".to_string(),
+        Some(page) => format!(", {} are, the lowest is {page}", pages.count),
+    });
 }
 
-/// Where the reader's translation of A's first guest page is cached, and the page that it goes to:
-/// bits 19 to 30 of the entry.
+/// Where the reader's translation of A's first guest page is cached, and the page that it goes to.
 fn reader_slot(ingest: &Owned) {
-    let text = match find_slot(&ingest.dma_cache, READER_OF_A, A, GUEST_OF_A) {
+    let place = find_slot(&ingest.dma_cache, READER_OF_A, A, GUEST_OF_A);
+    let held = place.and_then(|place| Some((place, ingest.dma_cache[place].translation()?)));
+    let text = match held {
         None => "none".to_string(),
-        Some(place) => {
-            format!("slot {place}, onto page {}", ingest.dma_cache[place].entry >> 19 & 0xfff)
-        }
+        Some((place, held)) => format!("slot {place}, onto page {}", held.page),
     };
     say("which slot holds the reader's translation?", &text);
 }
@@ -123,60 +108,50 @@ fn start() -> Owned {
     });
     let mut ingest = Owned::new(PAGES_HERE);
     let result = ingest.lent().start(PAGES_HERE as u64, SHARED_PAGE, SHARED_PAGES, &units);
-    say("start, with two converters planned onto the same four pages", &done(result));
+    done("start, with two converters planned onto the same four pages", result, nothing);
     ingest
 }
 
 fn at_work(ingest: &mut Owned) {
     println!("Converter A at work");
-    step(ingest, "A is added", [ADD_VM, A]);
-    step(
-        ingest,
-        "its region goes in for CPUs",
-        [INSERT_REGION, A, GUEST_OF_A, PAGE, COUNT, ACCESS],
-    );
-    step(ingest, "and for devices", [DMA_INSERT_REGION, A, GUEST_OF_A, PAGE, COUNT, ACCESS]);
-    step(ingest, "A runs on a CPU", [SWITCH_CPU, CPU_OF_A, A]);
-    step(ingest, "its card reader is bound to it", [BIND_DEVICE, READER_OF_A, A]);
-    step(ingest, "the reader caches a translation", [DMA_FILL, READER_OF_A, GUEST_OF_A]);
+    let mut machine = ingest.lent();
+    done("A is added", machine.add_vm(A), nothing);
+    let inserted = machine.insert_region(A, GUEST_OF_A, PAGE, COUNT, ACCESS);
+    done("its region goes in for CPUs", inserted, nothing);
+    let inserted = machine.dma_insert_region(A, GUEST_OF_A, PAGE, COUNT, ACCESS);
+    done("and for devices", inserted, nothing);
+    done("A runs on a CPU", machine.switch_cpu(CPU_OF_A, Some(A)), nothing);
+    done("its card reader is bound to it", machine.bind_device(READER_OF_A, Some(A)), nothing);
+    done("the reader caches a translation", machine.dma_fill(READER_OF_A, GUEST_OF_A), nothing);
     reader_slot(ingest);
-    step(ingest, "the reader writes a lens name, 1111", reader_write(1111));
-    step(ingest, "A reads it", [CPU_READ, CPU_OF_A, GUEST_OF_A, WORD]);
+    reader_writes(ingest, "the reader writes a lens name, 1111", 1111);
+    done("A reads it", ingest.lent().cpu_read(CPU_OF_A, GUEST_OF_A, WORD), word);
 }
 
 fn retired_badly(ingest: &mut Owned) {
     println!("A retired badly: its region is taken from CPUs, its card reader forgotten");
-    step(ingest, "A is removed", [REMOVE_VM, A]);
-    step(
-        ingest,
-        "its region is taken from CPUs",
-        [REMOVE_REGION, A, GUEST_OF_A, PAGE, COUNT, ACCESS],
-    );
+    done("A is removed", ingest.lent().remove_vm(A), nothing);
+    let removed = ingest.lent().remove_region(A, GUEST_OF_A, PAGE, COUNT, ACCESS);
+    done("its region is taken from CPUs", removed, dropped);
     free_pages(ingest);
-    step(ingest, "the reader writes 2222, which harms nobody yet", reader_write(2222));
-    step(ingest, "converter B is added", [ADD_VM, B]);
-    step(ingest, "B asks for the pages", [INSERT_REGION, B, GUEST_OF_B, PAGE, COUNT, ACCESS]);
+    reader_writes(ingest, "the reader writes 2222, which harms nobody yet", 2222);
+    done("converter B is added", ingest.lent().add_vm(B), nothing);
+    b_asks(ingest);
 }
 
 fn retired_properly(ingest: &mut Owned) {
     println!("A retired properly, and its pages given to B");
-    step(
-        ingest,
-        "A's region is taken from devices too",
-        [DMA_REMOVE_REGION, A, GUEST_OF_A, PAGE, COUNT, ACCESS],
-    );
+    let removed = ingest.lent().dma_remove_region(A, GUEST_OF_A, PAGE, COUNT, ACCESS);
+    done("A's region is taken from devices too", removed, dropped);
     reader_slot(ingest);
-    step(ingest, "the reader writes 3333", reader_write(3333));
-    step(ingest, "B asks for the pages", [INSERT_REGION, B, GUEST_OF_B, PAGE, COUNT, ACCESS]);
-    step(ingest, "B runs on a CPU", [SWITCH_CPU, CPU_OF_B, B]);
-    step(ingest, "B reads the word where A's lens name was", B_READS);
-    step(
-        ingest,
-        "B writes a lens name of its own, 4444",
-        [CPU_WRITE, CPU_OF_B, GUEST_OF_B, WORD, 4444],
-    );
-    step(ingest, "the reader writes 5555", reader_write(5555));
-    step(ingest, "B reads its lens name", B_READS);
+    reader_writes(ingest, "the reader writes 3333", 3333);
+    b_asks(ingest);
+    done("B runs on a CPU", ingest.lent().switch_cpu(CPU_OF_B, Some(B)), nothing);
+    b_reads(ingest, "B reads the word where A's lens name was");
+    let written = ingest.lent().cpu_write(CPU_OF_B, GUEST_OF_B, WORD, 4444);
+    done("B writes a lens name of its own, 4444", written, nothing);
+    reader_writes(ingest, "the reader writes 5555", 5555);
+    b_reads(ingest, "B reads its lens name");
 }
 
 /// Writes into the cache behind the library's back, as a fault would.
@@ -192,31 +167,30 @@ fn planted(ingest: &mut Owned) {
         generation: 0,
     };
     let filled = fill_slot(&mut ingest.dma_cache, place, stale);
-    say("a slot is filled as it was when A was at work", &done(filled));
+    done("a slot is filled as it was when A was at work", filled, nothing);
     reader_slot(ingest);
     say("is the box valid?", yes(ingest.shared().valid()));
     let before = ingest.clone();
-    step(ingest, "the reader writes 6666", reader_write(6666));
-    step(ingest, "B reads its lens name", B_READS);
+    reader_writes(ingest, "the reader writes 6666", 6666);
+    b_reads(ingest, "B reads its lens name");
     free_pages(ingest);
     say("is every byte of the box as it was?", yes(*ingest == before));
-    let emptied = empty_slot(&mut ingest.dma_cache, place);
-    say("the slot is emptied", &done(emptied));
+    done("the slot is emptied", empty_slot(&mut ingest.dma_cache, place), nothing);
     reader_slot(ingest);
     say("is the box valid?", yes(ingest.shared().valid()));
-    step(ingest, "the reader writes 7777", reader_write(7777));
-    step(ingest, "B reads its lens name", B_READS);
+    reader_writes(ingest, "the reader writes 7777", 7777);
+    b_reads(ingest, "B reads its lens name");
 }
 
 fn gone(ingest: &mut Owned) {
     println!("A gone");
-    step(ingest, "A is removed", [REMOVE_VM, A]);
-    step(ingest, "its CPU becomes idle", [SWITCH_CPU, CPU_OF_A, IDLE]);
-    step(ingest, "its reader is bound to nobody", [BIND_DEVICE, READER_OF_A, IDLE]);
-    step(ingest, "A is removed", [REMOVE_VM, A]);
-    step(ingest, "the reader writes 8888", reader_write(8888));
-    step(ingest, "the reader is bound to A", [BIND_DEVICE, READER_OF_A, A]);
-    step(ingest, "B reads its lens name", B_READS);
+    done("A is removed", ingest.lent().remove_vm(A), nothing);
+    done("its CPU becomes idle", ingest.lent().switch_cpu(CPU_OF_A, None), nothing);
+    done("its reader is bound to nobody", ingest.lent().bind_device(READER_OF_A, None), nothing);
+    done("A is removed", ingest.lent().remove_vm(A), nothing);
+    reader_writes(ingest, "the reader writes 8888", 8888);
+    done("the reader is bound to A", ingest.lent().bind_device(READER_OF_A, Some(A)), nothing);
+    b_reads(ingest, "B reads its lens name");
 }
 
 fn main() {

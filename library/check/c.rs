@@ -1,29 +1,32 @@
 //! include/tiligormis.h, read.
 
+use crate::inline::{self, Inlines};
 use crate::side::{Function, Kind, Named, Side};
 use crate::tokens::{bare, block, number, parts, tokens};
-use crate::value::evaluated;
+use crate::value::{evaluated, Numbers};
 
-/// An operation as the header names it: its number, its name, and how many arguments its comment
-/// lists.
+/// An operation as the header names it: its number, its name, and the first word of each argument
+/// that its comment lists.
 pub struct Operation {
     pub number: u64,
     pub name: String,
-    pub arguments: usize,
+    pub arguments: Vec<String>,
 }
 
 pub struct Header {
     pub side: Side,
-    pub refusals: Vec<(String, u64)>,
+    /// The macros of the version, which no other side names as numbers.
+    pub versions: Numbers,
+    /// The refusals' names, numbers and comments.
+    pub refusals: Vec<(String, u64, String)>,
     pub operations: Vec<Operation>,
-    /// The fields that `TILIGORMIS_LENT` hands on.
-    pub lent: Vec<String>,
-    /// What the box's comments say that each length is, by the length's name.
-    pub lengths: Vec<(String, String)>,
+    /// The arrays that `TILIGORMIS_LENT` hands on, each with its length, without `TILIGORMIS_`.
+    pub lent: Vec<(String, String)>,
+    pub inlines: Inlines,
 }
 
 pub fn read(text: &str) -> Header {
-    let code = bare(&without_cplusplus(text));
+    let code = inline::without(&bare(&without_cplusplus(text)));
     let mut side = Side::default();
     for line in code.lines().filter_map(|line| line.strip_prefix("#define TILIGORMIS_")) {
         let (name, value) = line.split_once(' ').unwrap_or((line, ""));
@@ -31,6 +34,9 @@ pub fn read(text: &str) -> Header {
             side.numbers.insert(name.to_string(), value);
         }
     }
+    let (versions, numbers) =
+        side.numbers.into_iter().partition(|(name, _)| name.starts_with("VERSION"));
+    side.numbers = numbers;
     let refusals = enumerated(text, "tiligormis_refusal");
     let operations = enumerated(text, "tiligormis_operation_number");
     for (name, value, _) in refusals.iter().chain(&operations) {
@@ -40,18 +46,20 @@ pub fn read(text: &str) -> Header {
     functions(&code, &mut side);
     Header {
         side,
-        refusals: refusals.into_iter().map(|(name, value, _)| (name, value)).collect(),
+        versions,
+        refusals,
         operations: operations
             .into_iter()
-            .map(|(name, number, said)| Operation {
-                number,
-                name,
-                arguments: parts(&said, ',').len(),
-            })
+            .map(|(name, number, said)| Operation { number, name, arguments: first_words(&said) })
             .collect(),
-        lent: lent(&code),
-        lengths: lengths(text),
+        lent: lent(&code, text),
+        inlines: inline::read(text),
     }
+}
+
+/// The first word of each part of a list.
+fn first_words(said: &str) -> Vec<String> {
+    parts(said, ',').iter().filter_map(|part| Some(tokens(part).first()?.to_string())).collect()
 }
 
 /// The text for C: without what only C++ reads.
@@ -134,8 +142,8 @@ fn declaration(text: &str, side: &Side) -> Option<Named> {
     match rest {
         ["*", name] => Some(Named::new(name, Kind::Pointer { mutable, to: kind })),
         [name] => Some(Named::new(name, Kind::Value(kind))),
-        [name, "[", count, "]"] => {
-            let count = *side.numbers.get(count.strip_prefix("TILIGORMIS_")?)?;
+        [name, "[", count @ .., "]"] => {
+            let count = evaluated(&count.join(" ").replace("TILIGORMIS_", ""), &side.numbers)?;
             Some(Named { name: name.to_string(), kind: Kind::Value(kind), count })
         }
         _ => None,
@@ -157,7 +165,9 @@ fn kind_of(name: &str) -> String {
     }
 }
 
-fn lent(code: &str) -> Vec<String> {
+/// Pointers and lengths in turn. That of memory is a field of the box, and the comment beside it
+/// says what it is.
+fn lent(code: &str, text: &str) -> Vec<(String, String)> {
     let start = code.find("#define TILIGORMIS_LENT(box)").unwrap_or(code.len());
     let lines = code[start..].lines();
     let mut said = String::new();
@@ -167,20 +177,23 @@ fn lent(code: &str) -> Vec<String> {
             break;
         }
     }
-    parts(&said, ',')
-        .iter()
-        .filter_map(|part| part.strip_prefix("(box)->").map(String::from))
-        .collect()
+    let said = said.replace("TILIGORMIS_", "");
+    let found = parts(&said, ',');
+    let length = |part: &str| match part.strip_prefix("(box)->") {
+        Some(field) => beside(text, field),
+        None => part.to_string(),
+    };
+    let pairs = found.chunks(2).filter_map(|pair| match pair {
+        [pointer, part] => Some((pointer.strip_prefix("(box)->")?.to_string(), length(part))),
+        _ => None,
+    });
+    pairs.collect()
 }
 
-/// Of the box's lengths what the comments beside them say, without `TILIGORMIS_`.
-fn lengths(text: &str) -> Vec<(String, String)> {
+/// The comment beside a length in the box, without `TILIGORMIS_`.
+fn beside(text: &str, field: &str) -> String {
     let body = block(text, "typedef struct tiligormis_box {").unwrap_or("");
-    body.lines()
-        .filter_map(|line| {
-            let (name, said) = line.trim().strip_prefix("size_t ")?.split_once(';')?;
-            let said = said.trim().trim_start_matches("/*").trim_end_matches("*/").trim();
-            Some((name.to_string(), said.replace("TILIGORMIS_", "")))
-        })
-        .collect()
+    let line = body.lines().find_map(|line| line.trim().strip_prefix(&format!("size_t {field};")));
+    let said = line.unwrap_or("").trim().trim_start_matches("/*").trim_end_matches("*/").trim();
+    said.replace("TILIGORMIS_", "")
 }

@@ -1,14 +1,16 @@
 //! The sides against each other, thing by thing.
 
 use crate::c::Header;
+use crate::compare_inline;
 use crate::manual::Told;
 use crate::rattle::Source;
 use crate::side::{Function, Kind, Named, Side};
 use crate::tokens::words;
+use crate::value::evaluated;
 use std::collections::{BTreeMap, BTreeSet};
 use std::fmt::Display;
 
-const HEADER: &str = "include/tiligormis.h";
+pub const HEADER: &str = "include/tiligormis.h";
 const RUST: &str = "bindings/rust/src";
 
 /// How many things agree, and what does not.
@@ -20,7 +22,7 @@ pub struct Report {
 
 impl Report {
     /// One thing, and what two sides say of it; a side that does not have it says nothing.
-    fn same<T: Display + PartialEq>(
+    pub fn same<T: Display + PartialEq>(
         &mut self,
         thing: &str,
         one: (&str, Option<T>),
@@ -48,6 +50,8 @@ pub struct Sides {
     pub manual: BTreeMap<u64, Told>,
     /// The crates that the library is made of.
     pub crates: Vec<String>,
+    /// The Rust crate's version.
+    pub version: Option<String>,
 }
 
 pub fn compare(sides: &Sides) -> Report {
@@ -62,6 +66,7 @@ pub fn compare(sides: &Sides) -> Report {
     places(sides, &mut report);
     lent(sides, &mut report);
     lengths(sides, &mut report);
+    compare_inline::compare(sides, &mut report);
     report
 }
 
@@ -86,10 +91,38 @@ fn functions(sides: &Sides, report: &mut Report) {
     for name in names {
         let place =
             format!("crates/{}", sides.source.exporting.get(name).map_or("", String::as_str));
-        let crossing = c.get(name).map(|function| crossing(function, &sides.header.side));
-        function(name, (HEADER, c.get(name)), (RUST, rust.get(name)), report);
-        function(name, (HEADER, crossing.as_ref()), (&place, source.get(name)), report);
+        let crossed = c.get(name).map(|function| crossing(function, &sides.header.side));
+        let (one, other) = alike(c.get(name), rust.get(name), sides);
+        function(name, (HEADER, one.as_ref()), (RUST, other.as_ref()), report);
+        function(name, (HEADER, crossed.as_ref()), (&place, source.get(name)), report);
     }
+}
+
+/// A function of the header and of Rust, to be compared: where one side points to a struct of
+/// numbers and the other to numbers, both point to numbers.
+fn alike(
+    c: Option<&Function>,
+    rust: Option<&Function>,
+    sides: &Sides,
+) -> (Option<Function>, Option<Function>) {
+    let numbers = |function: Option<&Function>, at: usize| {
+        function.and_then(|function| function.parameters.get(at)).is_some_and(
+            |parameter| matches!(&parameter.kind, Kind::Pointer { to, .. } if to == "u64"),
+        )
+    };
+    let made = |function: &Function, side: &Side| {
+        let mut made = crossing(function, side);
+        for (at, parameter) in made.parameters.iter_mut().enumerate() {
+            if !numbers(c, at) && !numbers(rust, at) {
+                parameter.kind = function.parameters[at].kind.clone();
+            }
+        }
+        made
+    };
+    (
+        c.map(|function| made(function, &sides.header.side)),
+        rust.map(|function| made(function, &sides.rust)),
+    )
 }
 
 /// One function of two sides: that both have it, its result, and its parameters one by one.
@@ -142,7 +175,7 @@ fn numbers(sides: &Sides, report: &mut Report) {
     for name in c.keys().chain(rust.keys()).collect::<BTreeSet<_>>() {
         report.same(name, (HEADER, c.get(name)), (RUST, rust.get(name)));
     }
-    let other: BTreeSet<&String> = sides.header.refusals.iter().map(|(name, _)| name).collect();
+    let other: BTreeSet<&String> = sides.header.refusals.iter().map(|(name, ..)| name).collect();
     let operations: BTreeSet<&String> =
         sides.header.operations.iter().map(|operation| &operation.name).collect();
     for (name, value) in c {
@@ -165,7 +198,7 @@ fn numbers(sides: &Sides, report: &mut Report) {
 /// it gives each.
 fn refusals(sides: &Sides, report: &mut Report) {
     let said: BTreeMap<u64, &String> =
-        sides.header.refusals.iter().map(|(name, value)| (*value, name)).collect();
+        sides.header.refusals.iter().map(|(name, value, _)| (*value, name)).collect();
     let accepted = sides.header.side.numbers.get("ACCEPTED").copied();
     report.same("ACCEPTED", (HEADER, accepted), ("answer_numbers", sides.source.accepted));
     let count = sides.source.refusals.len();
@@ -219,11 +252,11 @@ fn operations(sides: &Sides, report: &mut Report) {
     let numbers = said.keys().chain(sides.source.operations.keys()).chain(sides.manual.keys());
     for number in numbers.copied().collect::<BTreeSet<u64>>() {
         let thing = format!("operation {number}, arguments");
-        let header = said.get(&number).map(|operation| operation.arguments);
+        let header = said.get(&number).map(|operation| operation.arguments.len());
         let manual = sides.manual.get(&number).map(|told| told.arguments);
         // an operation's arguments are the first of a, b, c, ..
         let read = sides.source.operations.get(&number).map(|letters| {
-            letters.iter().next_back().map_or(0, |last| *last as usize - 'a' as usize + 1)
+            letters.keys().next_back().map_or(0, |last| *last as usize - 'a' as usize + 1)
         });
         report.same(&thing, (HEADER, header), ("docs/MACHINE.md", manual));
         report.same(&thing, (HEADER, header), ("crates/rows", read));
@@ -240,6 +273,9 @@ fn operations(sides: &Sides, report: &mut Report) {
     }
 }
 
+/// What Rust has in another form: a row is an array there, and slices have their lengths.
+const ONLY_C: [&str; 3] = ["Box", "Row", "Tables"];
+
 /// The structs field by field, and that each has as many numbers as the source says. A slot is the
 /// source's own struct; of a unit the source has the same fields.
 fn structs(sides: &Sides, report: &mut Report) {
@@ -248,7 +284,7 @@ fn structs(sides: &Sides, report: &mut Report) {
         .structs
         .keys()
         .chain(rust.structs.keys())
-        .filter(|name| *name != "Box")
+        .filter(|name| !ONLY_C.contains(&name.as_str()))
         .collect::<BTreeSet<_>>()
     {
         fields(name, (HEADER, c.structs.get(name)), (RUST, rust.structs.get(name)), true, report);
@@ -270,6 +306,7 @@ fn structs(sides: &Sides, report: &mut Report) {
     for (name, numbers) in [
         ("Machine", "MACHINE_NUMBERS"),
         ("Unit", "UNIT_NUMBERS"),
+        ("Row", "ROW_NUMBERS"),
         ("Answer", "ANSWER_NUMBERS"),
         ("FreePages", "FREE_NUMBERS"),
     ] {
@@ -321,64 +358,72 @@ fn places(sides: &Sides, report: &mut Report) {
         report.same(
             &format!("place of {name}.{field}"),
             (HEADER, header),
-            ("crates/header", source),
+            ("crates/box_header", source),
         );
     }
 }
 
-/// The box in C: it has what every entry takes first, which is all that `tiligormis_valid` takes,
-/// and the macro hands on all of its fields in order.
+/// The box in C: it has the arrays that every entry takes first, which is all that
+/// `tiligormis_valid` takes, and the macro hands them on in order.
 fn lent(sides: &Sides, report: &mut Report) {
     let none = vec![];
     let fields = sides.header.side.structs.get("Box").unwrap_or(&none);
-    let whole = sides
-        .header
-        .side
-        .functions
-        .get("tiligormis_valid")
-        .map_or(0, |valid| valid.parameters.len());
-    let list = |parts: &[Named], kinds: bool| {
-        let said =
-            parts.iter().map(|part| if kinds { part.to_string() } else { part.name.clone() });
+    let pointers = |parts: &[Named], kinds: bool| {
+        let arrays = parts.iter().filter(|part| matches!(part.kind, Kind::Pointer { .. }));
+        let said = arrays.map(|part| if kinds { part.to_string() } else { part.name.clone() });
         Some(said.collect::<Vec<_>>().join(", "))
     };
-    for (name, function) in &sides.header.side.functions {
+    let functions = &sides.header.side.functions;
+    let whole = functions.get("tiligormis_valid").map_or(0, |valid| valid.parameters.len());
+    for (name, function) in functions {
         if function.parameters.first().is_some_and(|first| first.name == "machine") {
             // what an entry only reads is const there, and not in the box
             let kinds = name == "tiligormis_start";
             let first = &function.parameters[..whole.min(function.parameters.len())];
             report.same(
                 &format!("{name}, box"),
-                ("tiligormis_box", list(fields, kinds)),
-                (name, list(first, kinds)),
+                ("tiligormis_box", pointers(fields, kinds)),
+                (name, pointers(first, kinds)),
             );
         }
     }
-    for at in 0..fields.len().max(sides.header.lent.len()) {
-        let field = fields.get(at).map(|field| &field.name);
-        let handed = sides.header.lent.get(at);
-        report.same(
-            &format!("TILIGORMIS_LENT, {}", at + 1),
-            ("tiligormis_box", field),
-            ("TILIGORMIS_LENT", handed),
-        );
-    }
+    let handed = sides.header.lent.iter().map(|(name, _)| name.clone());
+    report.same(
+        "TILIGORMIS_LENT",
+        ("tiligormis_box", pointers(fields, false)),
+        ("TILIGORMIS_LENT", Some(handed.collect::<Vec<_>>().join(", "))),
+    );
 }
 
-/// Each length of the box is said to be what the judgement asks for; both sides of the machine have
-/// theirs from one function.
+/// Each length that the macro hands on is what the judgement asks for; both sides of the machine
+/// have theirs from one function. The storage for a table has as many elements.
 fn lengths(sides: &Sides, report: &mut Report) {
-    for (name, said) in &sides.header.lengths {
-        let list = name.trim_end_matches("_length");
-        let one = list.strip_prefix("cpu_").or(list.strip_prefix("dma_")).unwrap_or(list);
+    let none = vec![];
+    let tables = sides.header.side.structs.get("Tables").unwrap_or(&none);
+    for (name, said) in &sides.header.lent {
+        let one = name.strip_prefix("cpu_").or(name.strip_prefix("dma_")).unwrap_or(name);
         let asked = match one {
-            "machine_numbers" => Some("MACHINE_NUMBERS".to_string()),
+            "machine" => Some("MACHINE_NUMBERS".to_string()),
             one => sides.source.lengths.get(one).cloned(),
         };
+        let thing = format!("{name}, length in a box");
+        report.same(&thing, (HEADER, Some(said.clone())), ("crates/judge", asked));
+        if ["machine", "memory"].contains(&one) {
+            continue;
+        }
+        let stored = tables.iter().find(|table| table.name == *name).map(|table| table.count);
         report.same(
-            &format!("{name} of the box"),
-            (HEADER, Some(said.clone())),
-            ("crates/judge", asked),
+            &format!("{name}, length in tables"),
+            (HEADER, stored),
+            ("TILIGORMIS_LENT", evaluated(said, &sides.header.side.numbers)),
         );
     }
+    let stored = tables.iter().map(|table| table.name.as_str()).collect::<Vec<_>>().join(", ");
+    let handed = sides.header.lent.iter().map(|(name, _)| name.as_str());
+    let handed: Vec<&str> = handed.filter(|name| !["machine", "memory"].contains(name)).collect();
+    report.same(
+        "tiligormis_tables",
+        (HEADER, Some(stored)),
+        ("TILIGORMIS_LENT", Some(handed.join(", "))),
+    );
 }

@@ -1,10 +1,13 @@
 //! Checks that include/tiligormis.h, the declarations of the Rust crate over the library and the
-//! Rattle sources say the same: functions, parameters, limits, refusals, operations and sizes. Its
-//! one argument is the repository. Then it changes what it read, one thing at a time, and sees that
+//! Rattle sources say the same: functions, parameters, limits, refusals, operations and sizes; and
+//! that the header's inline functions say what its declarations do. Its one argument is the
+//! repository. Then it changes what it read, one thing at a time, and sees that
 //! each change is found. It prints a line for what differs, and how much it compared.
 
 mod c;
 mod compare;
+mod compare_inline;
+mod inline;
 mod manual;
 mod planted;
 mod rattle;
@@ -23,6 +26,7 @@ pub struct Texts {
     ffi: String,
     numbers: String,
     structs: String,
+    cargo: String,
     manual: String,
     list: String,
     crates: rattle::Crates,
@@ -44,6 +48,7 @@ impl Texts {
             ffi: text("bindings/rust/src/ffi.rs"),
             numbers: text("bindings/rust/src/numbers.rs"),
             structs: text("bindings/rust/src/structs.rs"),
+            cargo: text("bindings/rust/Cargo.toml"),
             manual: text("docs/MACHINE.md"),
             list: text("library/crates.txt"),
             crates: names
@@ -61,6 +66,7 @@ impl Texts {
             source: rattle::read(&self.crates),
             manual: manual::read(&self.manual),
             crates: manual::list(&self.list),
+            version: manual::version(&self.cargo),
         })
     }
 }

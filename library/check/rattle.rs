@@ -4,7 +4,7 @@
 use crate::side::{Function, Kind, Named, Side};
 use crate::tokens::{bare, block, number, parts, tokens};
 use crate::value::evaluated;
-use std::collections::{BTreeMap, BTreeSet};
+use std::collections::BTreeMap;
 
 /// The text of each crate's src/.
 pub type Crates = BTreeMap<String, String>;
@@ -20,14 +20,15 @@ pub struct Source {
     /// What `refusal_number` gives, and what `mark_number` does, by the case.
     pub refusal_numbers: BTreeMap<String, u64>,
     pub mark_numbers: BTreeMap<String, u64>,
-    /// The number of each operation that a row can name, and the arguments that are read of it.
-    pub operations: BTreeMap<u64, BTreeSet<char>>,
+    /// The number of each operation that a row can name, and of the arguments a, b, c, .. that are
+    /// read of it what each is.
+    pub operations: BTreeMap<u64, BTreeMap<char, String>>,
     /// What is asked of the length of each list.
     pub lengths: BTreeMap<String, String>,
 }
 
 /// Where the numbers stand that the header names too.
-const NUMBERS: [&str; 5] = ["numbers", "access", "start", "header", "cores"];
+const NUMBERS: [&str; 5] = ["numbers", "access", "start", "box_header", "box_cores"];
 
 pub fn read(crates: &Crates) -> Source {
     let code: Crates = crates.iter().map(|(name, text)| (name.clone(), bare(text))).collect();
@@ -108,8 +109,8 @@ fn arms(code: &str, name: &str) -> BTreeMap<String, u64> {
 
 /// The arms `NUMBER => ..` of the reading of a row, and which of the arguments a, b, c, .. each
 /// takes.
-fn operations(code: &str) -> BTreeMap<u64, BTreeSet<char>> {
-    let mut found: BTreeMap<u64, BTreeSet<char>> = BTreeMap::new();
+fn operations(code: &str) -> BTreeMap<u64, BTreeMap<char, String>> {
+    let mut bodies: BTreeMap<u64, String> = BTreeMap::new();
     let mut now: Vec<u64> = vec![];
     for line in code.lines() {
         let mut said = line;
@@ -117,13 +118,38 @@ fn operations(code: &str) -> BTreeMap<u64, BTreeSet<char>> {
             now = arm.split('|').filter_map(number).collect();
             said = body;
         }
-        let letters = tokens(said).into_iter().filter(|word| "abcdef".contains(word));
-        let letters: Vec<char> = letters.flat_map(str::chars).collect();
         for number in &now {
-            found.entry(*number).or_default().extend(&letters);
+            *bodies.entry(*number).or_default() += said;
         }
     }
-    found
+    let region = parts(block(code, "fn region_of(").unwrap_or(""), ',');
+    let region: Vec<&str> = region.iter().filter_map(|part| part.split(':').next()).collect();
+    bodies.into_iter().map(|(number, body)| (number, arguments(&body, &region))).collect()
+}
+
+/// What each argument of an arm is: by the kind of number that is made of it, by the field that it
+/// is given to, by the operation's own place for it, or by its place in a region.
+fn arguments(body: &str, region: &[&str]) -> BTreeMap<char, String> {
+    let found = tokens(body);
+    let port = if body.contains("Side::Dma") { "device" } else { "cpu" };
+    let mut kinds = BTreeMap::new();
+    for (at, word) in found.iter().enumerate().filter(|(_, word)| "abcdef".contains(**word)) {
+        let letter = word.chars().next().unwrap_or(' ');
+        let kind = match found[..at] {
+            _ if found.contains(&"region_of") => {
+                region.get(letter as usize - 'a' as usize).copied().unwrap_or("nothing")
+            }
+            [.., "VmId" | "target_of", "("] => "vm",
+            [.., "GuestPage", "("] => "guest",
+            [.., "PhysPage", "("] => "page",
+            [.., "GivePort" | "FillSlot", "("] | [.., "port", ":"] => port,
+            [.., "EmptySlot", "("] => "slot",
+            [.., field, ":"] => field,
+            _ => "nothing",
+        };
+        kinds.insert(letter, kind.to_string());
+    }
+    kinds
 }
 
 /// A function's list of slices crosses as a pointer and a length for each.

@@ -6,10 +6,13 @@ use crate::value::evaluated;
 
 pub fn read(ffi: &str, numbers: &str, structs: &str) -> Side {
     let mut side = Side::default();
-    let list = bare(numbers);
-    let list = list.find("\nnumbers! {").and_then(|at| block(&list[at..], "{")).unwrap_or("");
-    for part in parts(list, ';') {
+    let code = bare(numbers);
+    let list = |name: &str| code.find(name).and_then(|at| block(&code[at..], "{")).unwrap_or("");
+    let lists = [list("\nnumbers! {"), list("\nrefusals! {")];
+    for part in lists.iter().flat_map(|list| parts(list, ';')) {
         let Some((head, value)) = part.split_once('=') else { continue };
+        // of a refusal its case and its meaning follow
+        let value = value.split(',').next().unwrap_or("");
         if let (Some(name), Some(value)) = (tokens(head).first(), evaluated(value, &side.numbers)) {
             side.numbers.insert(name.to_string(), value);
         }

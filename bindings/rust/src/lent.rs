@@ -1,8 +1,9 @@
 //! A box lent to the library, and the entries over it.
 
+use crate::answers::accepted;
+use crate::ffi;
 use crate::numbers::*;
 use crate::structs::{Answer, FreePages, Machine, Row, Slot, Unit};
-use crate::{accepted, ffi};
 
 /// A box lent to be changed. The slices may have any length and any content; a valid box has the
 /// lengths named at the fields, and keeps the rules of docs/MACHINE.md, section 4.
@@ -10,10 +11,10 @@ use crate::{accepted, ffi};
 /// No two slices overlap: Rust refuses to lend one table for two.
 ///
 /// ```compile_fail,E0382
-/// let mut owned = tiligormis::Owned::new(8);
-/// let mut lent = owned.lent();
-/// lent.cpu_walker = lent.cpu_map;
-/// lent.valid();
+/// fn one_table_for_two(mut lent: tiligormis::Lent) -> bool {
+///     lent.cpu_walker = lent.cpu_map;
+///     lent.valid()
+/// }
 /// ```
 pub struct Lent<'a> {
     pub machine: &'a mut Machine,
@@ -93,16 +94,16 @@ impl Lent<'_> {
     /// idle, memory 0. Refused, the header is that of an empty machine, of 0 pages, and everything
     /// else stays as it was.
     ///
-    /// Refused, in this order, with [`STATE_NOT_VALID`] for `pages` or the length of a slice, with
-    /// [`OUT_OF_RANGE`] for more than [`UNITS`] units or the VM, access or mark of one, and with
-    /// [`BAD_SPAN`] for the span of a unit or the shared span.
+    /// Refused, in this order, with [`Refusal::StateNotValid`] for `pages` or the length of a slice, with
+    /// [`Refusal::OutOfRange`] for more than [`UNITS`] units or the VM, access or mark of one, and with
+    /// [`Refusal::BadSpan`] for the span of a unit or the shared span.
     pub fn start(
         &mut self,
         pages: u64,
         shared_base: u64,
         shared_count: u64,
         units: &[Unit],
-    ) -> Result<(), u64> {
+    ) -> Result<(), Refusal> {
         let numbers = units.len() * UNIT_NUMBERS;
         accepted(call!(
             tiligormis_start,
@@ -134,9 +135,9 @@ impl Lent<'_> {
     /// Carries out row after row, a refused one too, and writes an answer for each; answers beyond
     /// the rows keep their content. The box is judged once, before the first row.
     ///
-    /// Refused as a whole, nothing changes, the answers included: with [`STATE_NOT_VALID`] where the
-    /// box is not valid, with [`OUT_OF_RANGE`] where there are fewer answers than rows.
-    pub fn sequence(&mut self, rows: &[Row], answers: &mut [Answer]) -> Result<(), u64> {
+    /// Refused as a whole, nothing changes, the answers included: with [`Refusal::StateNotValid`] where the
+    /// box is not valid, with [`Refusal::OutOfRange`] where there are fewer answers than rows.
+    pub fn sequence(&mut self, rows: &[Row], answers: &mut [Answer]) -> Result<(), Refusal> {
         accepted(call!(
             tiligormis_sequence,
             self,
@@ -153,8 +154,8 @@ impl Lent<'_> {
         self.shared().valid()
     }
 
-    /// The pages in the pool; refused with [`STATE_NOT_VALID`] where the box is not valid.
-    pub fn free(&self) -> Result<FreePages, u64> {
+    /// The pages in the pool; refused with [`Refusal::StateNotValid`] where the box is not valid.
+    pub fn free(&self) -> Result<FreePages, Refusal> {
         self.shared().free()
     }
 
@@ -181,8 +182,8 @@ impl LentRef<'_> {
         call!(tiligormis_valid, self, as_ptr)
     }
 
-    /// The pages in the pool; refused with [`STATE_NOT_VALID`] where the box is not valid.
-    pub fn free(self) -> Result<FreePages, u64> {
+    /// The pages in the pool; refused with [`Refusal::StateNotValid`] where the box is not valid.
+    pub fn free(self) -> Result<FreePages, Refusal> {
         let mut pages = FreePages { count: 0, lowest: NO_PAGE };
         accepted(call!(tiligormis_free, self, as_ptr, &mut pages, FREE_NUMBERS))?;
         Ok(pages)

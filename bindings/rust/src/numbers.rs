@@ -1,4 +1,7 @@
-//! Every number that the header names, under the same name without `TILIGORMIS_`.
+//! Every number that the header names, under the same name without `TILIGORMIS_`; of the refusals the
+//! cases of [`Refusal`] too.
+
+use core::fmt;
 
 /// Declares constants, and for the tests the list of them by name.
 macro_rules! numbers {
@@ -54,8 +57,11 @@ numbers! {
     /// The lowest free page where none is free; [`crate::FreePages::lowest`] gives `None` for it.
     NO_PAGE: u64 = u64::MAX;
 
+    /// Access bit; an access is any sum of the three.
     READ: u64 = 1;
+    /// Access bit.
     WRITE: u64 = 2;
+    /// Access bit.
     EXECUTE: u64 = 4;
 
     /// A unit that may be inserted for CPUs.
@@ -65,35 +71,8 @@ numbers! {
     /// For both.
     MARK_BOTH: u64 = 3;
 
+    /// The number of an answer that accepts.
     ACCEPTED: u64 = 0;
-    /// The box is not valid: a rule, memory's length or a table's length.
-    STATE_NOT_VALID: u64 = 1;
-    /// A number out of range, or an unknown operation.
-    OUT_OF_RANGE: u64 = 2;
-    /// A region of count 0, or past the last guest page or page.
-    BAD_SPAN: u64 = 3;
-    VM_UNKNOWN: u64 = 4;
-    /// The VM to be added is known already.
-    VM_KNOWN: u64 = 5;
-    /// A page is not held as needed.
-    PAGE_NOT_HELD: u64 = 6;
-    /// A page is claimed elsewhere.
-    PAGE_CLAIMED: u64 = 7;
-    NO_SUCH_UNIT: u64 = 8;
-    /// A mapping is absent or different.
-    MAPPING_DIFFERS: u64 = 9;
-    MAPPING_PRESENT: u64 = 10;
-    /// A page is still mapped or shared.
-    STILL_IN_USE: u64 = 11;
-    /// A VM with itself, or no such pair.
-    PAIR_WRONG: u64 = 12;
-    /// The VM holds a page, maps or shares one, or is on a CPU or a device.
-    VM_BUSY: u64 = 13;
-    /// Not enough free entries.
-    NO_ROOM: u64 = 14;
-    PORT_IDLE: u64 = 15;
-    /// The mapping's access lacks the needed bit.
-    ACCESS_LACKING: u64 = 16;
 
     /// Arguments: vm.
     ADD_VM: u64 = 1;
@@ -143,6 +122,89 @@ numbers! {
     CPU_WRITE: u64 = 23;
     /// Arguments: device, guest page, word, value.
     DMA_WRITE: u64 = 24;
+    /// No arguments.
     DATA_BARRIER: u64 = 25;
+    /// No arguments.
     INSTRUCTION_BARRIER: u64 = 26;
+}
+
+/// Declares the refusals: of each the constant, the case, and what it means, which documents both and
+/// is what `Display` writes.
+macro_rules! refusals {
+    ($($name:ident: u64 = $value:literal, $case:ident, $meaning:literal;)*) => {
+        $(#[doc = concat!("[`Refusal::", stringify!($case), "`]: ", $meaning, ".")]
+        pub const $name: u64 = $value;)*
+
+        /// Why something is refused. Refused, it has changed nothing (but see [`crate::Lent::start`]).
+        #[derive(Clone, Copy, Debug, PartialEq, Eq, Hash)]
+        #[non_exhaustive]
+        pub enum Refusal {
+            $(#[doc = concat!($value, ": ", $meaning, ".")]
+            $case,)*
+            /// A number that is none of these, which this version's library never returns. An
+            /// archive of a later version, linked with this crate, may have refusals that have
+            /// no name here yet; so it is neither a panic nor taken for another refusal.
+            #[non_exhaustive]
+            Unlisted {
+                /// The number that was returned.
+                number: u64,
+            },
+        }
+
+        impl Refusal {
+            /// The refusal's number, as in answers; never [`ACCEPTED`].
+            pub const fn number(self) -> u64 {
+                match self {
+                    $(Refusal::$case => $name,)*
+                    Refusal::Unlisted { number } => number,
+                }
+            }
+
+            /// The refusal that has this number; none for [`ACCEPTED`] and for a number not listed.
+            pub const fn from_number(number: u64) -> Option<Refusal> {
+                match number {
+                    $($name => Some(Refusal::$case),)*
+                    _ => None,
+                }
+            }
+        }
+
+        impl fmt::Display for Refusal {
+            fn fmt(&self, out: &mut fmt::Formatter<'_>) -> fmt::Result {
+                match self {
+                    $(Refusal::$case => out.write_str($meaning),)*
+                    Refusal::Unlisted { number } => {
+                        write!(out, "refusal {number}, which has no name in this version")
+                    }
+                }
+            }
+        }
+
+        #[cfg(test)]
+        pub const REFUSALS: &[(&str, Refusal, u64)] =
+            &[$((stringify!($name), Refusal::$case, $value)),*];
+    };
+}
+
+impl core::error::Error for Refusal {}
+
+refusals! {
+    STATE_NOT_VALID: u64 = 1, StateNotValid,
+        "the box is not valid: a rule, memory's length or an array's length";
+    OUT_OF_RANGE: u64 = 2, OutOfRange, "a number is out of range, or the operation is unknown";
+    BAD_SPAN: u64 = 3, BadSpan, "a span is bad: no page, or past the last guest page or page";
+    VM_UNKNOWN: u64 = 4, VmUnknown, "the VM is not known";
+    VM_KNOWN: u64 = 5, VmKnown, "the VM is known already";
+    PAGE_NOT_HELD: u64 = 6, PageNotHeld, "a page is not held as needed";
+    PAGE_CLAIMED: u64 = 7, PageClaimed, "a page is claimed elsewhere";
+    NO_SUCH_UNIT: u64 = 8, NoSuchUnit, "no unit has these five fields and a mark that suits";
+    MAPPING_DIFFERS: u64 = 9, MappingDiffers, "the mapping is absent or different";
+    MAPPING_PRESENT: u64 = 10, MappingPresent, "a guest page is mapped already";
+    STILL_IN_USE: u64 = 11, StillInUse, "a page is still mapped or shared";
+    PAIR_WRONG: u64 = 12, PairWrong, "the pair is wrong: a VM with itself, or no such pair";
+    VM_BUSY: u64 = 13, VmBusy,
+        "the VM still has something: a page, a mapping, an edge, a CPU or a device";
+    NO_ROOM: u64 = 14, NoRoom, "there is no room: too few entries are free";
+    PORT_IDLE: u64 = 15, PortIdle, "the port is idle";
+    ACCESS_LACKING: u64 = 16, AccessLacking, "the mapping's access lacks the needed bit";
 }

@@ -3,8 +3,19 @@
 use crate::lent::{Lent, LentRef};
 use crate::numbers::*;
 use crate::structs::{Machine, Slot};
+use alloc::boxed::Box;
+use alloc::vec;
+use alloc::vec::Vec;
 
-/// All parts of a box, to be lent: see [`Lent`] for what each is.
+/// All parts of a box, to be lent: see [`Lent`] for what each is. With the feature `alloc`.
+///
+/// ```
+/// use tiligormis::*;
+/// let mut owned = Owned::new(8);
+/// owned.lent().start(8, 7, 1, &[]).unwrap();
+/// owned.lent().add_vm(1).unwrap();
+/// assert_eq!(owned.shared().free().unwrap().lowest(), Some(0));
+/// ```
 #[derive(Clone, Debug, PartialEq, Eq)]
 pub struct Owned {
     pub machine: Box<Machine>,

@@ -1,9 +1,10 @@
 //! The slots of one translation cache. These functions judge no box and may make one that is not
 //! valid.
 
-use crate::numbers::SLOTS;
+use crate::answers::accepted;
+use crate::ffi;
+use crate::numbers::{Refusal, SLOTS};
 use crate::structs::Slot;
-use crate::{accepted, ffi};
 
 /// What a filled slot holds: for a CPU or device, a guest page of a VM and where it goes.
 #[derive(Clone, Copy, Debug, Default, PartialEq, Eq)]
@@ -17,6 +18,24 @@ pub struct Translation {
     pub generation: u64,
 }
 
+impl Slot {
+    /// What the slot holds, if it is filled.
+    pub const fn translation(self) -> Option<Translation> {
+        let entry = self.entry as u64;
+        if entry >> 31 == 0 {
+            return None;
+        }
+        Some(Translation {
+            port: self.port as u64,
+            vm: self.vm as u64,
+            guest: self.guest as u64,
+            page: entry >> 19 & 0xfff,
+            access: entry >> 16 & 0x7,
+            generation: entry & 0xffff,
+        })
+    }
+}
+
 /// The lowest filled slot, of the first [`SLOTS`], that holds this port, VM and guest page.
 pub fn find_slot(slots: &[Slot], port: u64, vm: u64, guest: u64) -> Option<usize> {
     // SAFETY: the pointer and the length are those of a slice.
@@ -24,9 +43,9 @@ pub fn find_slot(slots: &[Slot], port: u64, vm: u64, guest: u64) -> Option<usize
     (place < SLOTS).then_some(place)
 }
 
-/// Fills slot `place`. Refused, no slot changes: with [`crate::STATE_NOT_VALID`] where there are not
-/// [`SLOTS`] slots, with [`crate::OUT_OF_RANGE`] where a number is out of range.
-pub fn fill_slot(slots: &mut [Slot], place: usize, held: Translation) -> Result<(), u64> {
+/// Fills slot `place`. Refused, no slot changes: with [`Refusal::StateNotValid`] where there are not
+/// [`SLOTS`] slots, with [`Refusal::OutOfRange`] where a number is out of range.
+pub fn fill_slot(slots: &mut [Slot], place: usize, held: Translation) -> Result<(), Refusal> {
     // SAFETY: the pointer and the length are those of a slice that is lent to be changed.
     accepted(unsafe {
         ffi::tiligormis_fill_slot(
@@ -44,7 +63,7 @@ pub fn fill_slot(slots: &mut [Slot], place: usize, held: Translation) -> Result<
 }
 
 /// Empties slot `place`. Refused as [`fill_slot`] is.
-pub fn empty_slot(slots: &mut [Slot], place: usize) -> Result<(), u64> {
+pub fn empty_slot(slots: &mut [Slot], place: usize) -> Result<(), Refusal> {
     // SAFETY: the pointer and the length are those of a slice that is lent to be changed.
     accepted(unsafe { ffi::tiligormis_empty_slot(slots.as_mut_ptr(), slots.len(), place as u64) })
 }

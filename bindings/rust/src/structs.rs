@@ -1,7 +1,7 @@
 //! The structs that cross, laid out as C lays them out, and the layout asserted.
 
 use crate::numbers::*;
-use std::mem::{offset_of, size_of};
+use core::mem::{offset_of, size_of};
 
 /// A slot of a translation cache: the translation of a guest page of a VM, held for one CPU or
 /// device. An empty slot is all 0; a filled one has as its entry

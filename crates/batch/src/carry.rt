@@ -10,10 +10,12 @@ use crate::ROWS_ROOM;
 use crate::SETS_WORDS;
 use crate::UNITS_ROOM;
 use crate::Work;
+use crate::has_ended;
 use crate::moved;
 use crate::print;
 use crate::print::ANSWER_ROOM;
 use crate::print::BATCH;
+use crate::written;
 use machine::entries;
 use model::Machine;
 use numbers::ANSWER_NUMBERS;
@@ -77,8 +79,8 @@ fn begin(
     );
     let answer = begun.answer;
     let machine = begun.machine;
-    print::print_start(answer);
-    moved(work, Phase::Begun, machine, work.rows)
+    let wrote = print::print_start(answer);
+    written(moved(work, Phase::Begun, machine, work.rows), wrote)
 }
 
 // Refusal 1, in every place of the room.
@@ -153,8 +155,9 @@ pub fn query(
     dma_walker: &[u64; ENTRIES],
     dma_cache: &[u64; CACHE_WORDS],
     memory: &[u64],
-)
+) -> Work
     requires { ⌜ length (now memory) ≡ MEMORY-WORDS ⌝ }
+    ensures { λ r. ⌜ (r .units ≡ work .units) × (r .rows ≡ work .rows) ⌝ }
 {
     let machine = work.machine;
     let words = words_of(machine.fixed.pages);
@@ -176,10 +179,9 @@ pub fn query(
         refusal: _,
         index: _,
     } = answer {
-        print::print_free_refused();
-        return;
+        return written(work, print::print_free_refused());
     }
-    print::print_free(free.count, lowest);
+    written(work, print::print_free(free.count, lowest))
 }
 
 // Answers all that waits, where it is asked for or no further row has room.
@@ -221,6 +223,11 @@ pub fn settle(
         dma_cache,
         memory,
     );
+    let phase = begun.phase;
+    if has_ended(begun) {
+        let left = begun.machine;
+        return moved(begun, phase, left, 0);
+    }
     let machine = carry_out(
         begun,
         sets,
@@ -235,7 +242,6 @@ pub fn settle(
         rows,
         &mut room,
     );
-    print::print_answers(&room, begun.rows);
-    let phase = begun.phase;
-    moved(begun, phase, machine, 0)
+    let wrote = print::print_answers(&room, begun.rows);
+    written(moved(begun, phase, machine, 0), wrote)
 }

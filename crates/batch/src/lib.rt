@@ -38,8 +38,15 @@ pub enum Phase {
     Told,
     // Start has answered, whatever it said: a machine that it refused refuses every row.
     Begun,
-    // A line was not understood: nothing after it counts.
-    Ended,
+    // Nothing more counts.
+    Ended(End),
+}
+
+// What ended the reading before the script did.
+pub enum End {
+    NotUnderstood,
+    CannotRead,
+    CannotWrite,
 }
 
 pub struct Work {
@@ -74,10 +81,15 @@ pub fn no_work() -> Work
 
 pub fn has_ended(work: Work) -> bool {
     let phase = work.phase;
-    if let Phase::Ended = phase {
+    if let Phase::Ended(_) = phase {
         return true;
     }
     false
+}
+
+// Whether a row waits. Then the units have ended, and start may be carried out with it.
+pub fn rows_wait(work: Work) -> bool {
+    work.rows > 0
 }
 
 // ---- The work with one thing changed.
@@ -105,4 +117,21 @@ pub fn moved(work: Work, phase: Phase, machine: Machine, rows: usize) -> Work
         rows,
         line: work.line,
     }
+}
+
+pub fn ended(work: Work, end: End) -> Work
+    ensures { λ r. ⌜ (r .units ≡ work .units) × (r .rows ≡ work .rows) ⌝ }
+{
+    let machine = work.machine;
+    moved(work, Phase::Ended(end), machine, work.rows)
+}
+
+// After a write: where not all of it was written, nothing more counts.
+pub fn written(work: Work, all: bool) -> Work
+    ensures { λ r. ⌜ (r .units ≡ work .units) × (r .rows ≡ work .rows) ⌝ }
+{
+    if all {
+        return work;
+    }
+    ended(work, End::CannotWrite)
 }

@@ -1,4 +1,4 @@
-// What is written. The answers of a batch are written at once.
+// What is written; each function says whether all of it was. The answers of a batch are written at once.
 ghost use Prim.Native.Nat.{_+_, _*_, _≤_, _<_};
 ghost use lib.ListN.{length};
 ghost use Rattle.batch.specs.Room.{BATCH, ANSWER-BYTES, NUMBER-BYTES};
@@ -54,7 +54,7 @@ fn put_answer(text: &mut [u8], at: usize, room: &[u64; ANSWER_ROOM], k: usize) -
 }
 
 // The first `count` answers of the room.
-pub fn print_answers(room: &[u64; ANSWER_ROOM], count: usize)
+pub fn print_answers(room: &[u64; ANSWER_ROOM], count: usize) -> bool
     requires { ⌜ count ≤ BATCH ⌝ }
 {
     let mut text = [0u8; TEXT];
@@ -64,48 +64,56 @@ pub fn print_answers(room: &[u64; ANSWER_ROOM], count: usize)
         at = put_answer(&mut text, at, room, k);
         k += 1;
     }
-    io::write_all(STDOUT_FILENO, &text[..at]);
+    io::write_all(STDOUT_FILENO, &text[..at])
 }
 
 // ---- Single lines.
 
-fn print_number(number: u64) {
-    io::print_decimal(STDOUT_FILENO, number);
+fn print_text(text: &[u8]) -> bool {
+    io::write_all(STDOUT_FILENO, text)
 }
 
-pub fn print_start(answer: Answer) {
-    io::write_all(STDOUT_FILENO, b"start ");
+// A number between two texts.
+fn print_between(before: &[u8], number: u64, after: &[u8]) -> bool {
+    if !print_text(before) {
+        return false;
+    }
+    if !io::print_decimal(STDOUT_FILENO, number) {
+        return false;
+    }
+    print_text(after)
+}
+
+pub fn print_start(answer: Answer) -> bool {
     match answer {
         Answer::Accepted {
             dropped: _,
             word: _,
-        } => print_number(0),
-        Answer::Refused { refusal, index: _ } => print_number(numbers::refusal_number(refusal)),
+        } => print_text(b"start 0\n"),
+        Answer::Refused { refusal, index: _ } => print_between(
+            b"start ",
+            numbers::refusal_number(refusal),
+            b"\n",
+        ),
     }
-    io::write_all(STDOUT_FILENO, b"\n");
 }
 
-pub fn print_free(count: u64, lowest: Lowest) {
-    io::write_all(STDOUT_FILENO, b"free ");
-    print_number(count);
+pub fn print_free(count: u64, lowest: Lowest) -> bool {
     match lowest {
         Lowest::Page(page) => {
-            io::write_all(STDOUT_FILENO, b" ");
-            print_number(page.0);
-            io::write_all(STDOUT_FILENO, b"\n");
+            if !print_between(b"free ", count, b" ") {
+                return false;
+            }
+            print_between(b"", page.0, b"\n")
         }
-        Lowest::Nothing => {
-            io::write_all(STDOUT_FILENO, b" none\n");
-        }
+        Lowest::Nothing => print_between(b"free ", count, b" none\n"),
     }
 }
 
-pub fn print_free_refused() {
-    io::write_all(STDOUT_FILENO, b"free refused 1\n");
+pub fn print_free_refused() -> bool {
+    print_text(b"free refused 1\n")
 }
 
-pub fn print_not_understood(line: u64) {
-    io::write_all(STDOUT_FILENO, b"line ");
-    print_number(line);
-    io::write_all(STDOUT_FILENO, b": not understood\n");
+pub fn print_not_understood(line: u64) -> bool {
+    print_between(b"line ", line, b": not understood\n")
 }

@@ -3,7 +3,7 @@ use Prim.Native.Nat.{ℕ}
 use mathlib.Core.List.{List}
 use Rattle.numbers.specs.declared.Side.{Side}
 use Rattle.table.specs.Table.{Has}
-use Rattle.keys.specs.Keys.{Packed, Filled}
+use Rattle.judge_keys.specs.Keys.{Packed, Filled}
 use Rattle.model.specs.KnownLaws.{knows-below}
 use Rattle.model.specs.Valid.{KnownGood, EntryGood}
 use Rattle.judge.specs.Parts.{SlotPacked}

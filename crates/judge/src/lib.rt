@@ -49,7 +49,7 @@ pub fn valid(
     if !header::known_vms(known) {
         return false;
     }
-    if !homes::page_sets(
+    if !judge_homes::page_sets(
         sets,
         pages,
         m.fixed.shared_base,

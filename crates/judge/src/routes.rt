@@ -9,7 +9,7 @@ ghost use Rattle.table.specs.Table.{Has, Distinct};
 ghost use Rattle.model.specs.Header.{routeOf};
 ghost use Rattle.model.specs.Valid.{KnownGood, EntryGood, CacheGood, PortsGood, RouteGood};
 ghost use Rattle.model.specs.Views.{mayMap};
-ghost use Rattle.keys.specs.Keys.{Packed};
+ghost use Rattle.judge_keys.specs.Keys.{Packed};
 ghost use Rattle.judge.specs.Parts.{NotEmpty, MapsGood, SlotPacked, PortGood};
 ghost use Rattle.judge.specs.Sharing.{Lends, Ground};
 use super::header::is_known;
@@ -119,7 +119,7 @@ fn maps(
     if !entries(side, walker, sets, pairs, lent, pages, known) {
         return false;
     }
-    keys::same_maps(map, walker)
+    judge_keys::same_maps(map, walker)
 }
 
 // ---- 7: caches.
@@ -152,7 +152,7 @@ fn caches(walker: &[u64], cache: &[u64]) -> bool
     if !slots(cache) {
         return false;
     }
-    keys::slots_held(walker, cache)
+    judge_keys::slots_held(walker, cache)
 }
 
 // ---- 8: ports.

@@ -7,17 +7,15 @@ use Rattle.numbers.specs.Limits.{PAGES, SET-WORDS}
 use Rattle.model.specs.Header.{stateOf}
 use Rattle.model.specs.Valid.{Valid}
 use Rattle.model.specs.declared.Machine.{Machine}
-use Rattle.sides.specs.Sides.{Fit}
+use Rattle.operate.specs.Fit.{Fit}
 
 module _ (m : Machine) (sets pairs cpuMap cpuWalker cpuCache dmaMap dmaWalker dmaCache memory : List ℕ) (v : Valid (stateOf m sets pairs cpuMap cpuWalker cpuCache dmaMap dmaWalker dmaCache memory)) where
   -- the joined operation may be given it
   pub fit : Fit (m .fixed) sets memory
   fit =
       record {
-        few-pages = v .tables .setup .most-pages;
+        sized = record { few-pages = v .tables .setup .most-pages; sets-length = v .tables .lengths .sets; memory-length = v .memory };
         few-units = v .tables .setup .unit-count;
-        sets-length = v .tables .lengths .sets;
-        memory-length = v .memory;
       }
 
   -- and so may the searches of the pool

@@ -51,6 +51,10 @@ drops = 7 ∷ 8 ∷ 9 ∷ 10 ∷ 12 ∷ 14 ∷ []
 abbrev pub gives : List ℕ
 gives = 21 ∷ 22 ∷ []
 
+-- operations that have no argument, of which none can be out of range
+abbrev pub bare : List ℕ
+bare = 25 ∷ 26 ∷ []
+
 abbrev pub isIn : List ℕ → ℕ → Bool
 isIn ns n = any (eqb n) ns
 
@@ -140,14 +144,14 @@ each-listed fails here past n =
 
 -- 2 is listed for all but the barriers
 abbrev lacksTwo : ℕ → List ℕ → Bool
-lacksTwo n ns = not (isIn ns 2) && not (eqb n 25) && not (eqb n 26)
+lacksTwo n ns = not (isIn ns 2) && not (isIn bare n)
 
 none-lacks : anyBelow (λ n. lacksTwo n (listed n)) (length refusalLists) ≡ false
 unfolding refusalLists
 none-lacks = refl
 
-two-listed : (n : ℕ) → eqb n 25 ≡ false → eqb n 26 ≡ false → isIn (listed n) 2 ≡ true
-two-listed n d i = ⊎-elim (λ t. t) (λ (f : isIn (listed n) 2 ≡ false). absurd (true≢false (rw (f, d, i) at (each-listed lacksTwo none-lacks (λ k. refl) n)))) (cases (isIn (listed n) 2))
+two-listed : (n : ℕ) → isIn bare n ≡ false → isIn (listed n) 2 ≡ true
+two-listed n b = ⊎-elim (λ t. t) (λ (f : isIn (listed n) 2 ≡ false). absurd (true≢false (rw (f, b) at (each-listed lacksTwo none-lacks (λ k. refl) n)))) (cases (isIn (listed n) 2))
 
 -- ---- the same of an answer before it is written as numbers, and that a refusal is listed
 pub data Fits (operation count : ℕ) : Answer → Type 0 where
@@ -211,13 +215,16 @@ module _ {operation count : ℕ} where
   told : (t : Tables) (answer : Answer) (new : Tables) (effect : Effect) → ReadsOnly operation effect → Fits operation count answer → Told operation count (decided t answer new effect)
   told t answer new effect may h = record { fits = λ memory. carried t answer new effect memory may h }
 
+neither : (t rest : Bool) → t ≡ false → rest ≡ false → (if t then true else rest) ≡ false
+neither t rest e f = rw (e, f)
+
 -- ---- a row
 record Known (n count : ℕ) (s : State) (o : Option Operation) : Type 0 where
   fits : Fits n count (stepKnown s o .answer)
 
 module _ {n count : ℕ} {s : State} where
-  unknown : eqb n 25 ≡ false → eqb n 26 ≡ false → Known n count s none
-  unknown d i = record { fits = plain (two-listed n d i) }
+  unknown : isIn bare n ≡ false → Known n count s none
+  unknown b = record { fits = plain (two-listed n b) }
 
   -- the operation of a number, else the operations of those that follow
   numbered : (k : ℕ) (operation : Operation) (rest : Option Operation) → Told k count (control (s .tables) operation) → (eqb n k ≡ false → Known n count s rest) →
@@ -232,7 +239,7 @@ module _ {n count : ℕ} {s : State} where
 -- all of them: every answer is made of the parts above
 every-number : (s : State) (n a b c d e : ℕ) → Known n d s (operationOf n a b c d e)
 unfolding refusalLists control addVmAnswer removeVmAnswer assignAnswer reclaimAnswer shareAnswer unshareAnswer mapMay mapAnswer unmapMay unmapAnswer insertAnswer removeMay removeAnswer portAnswer fillAnswer emptyAnswer accessAnswer
-every-number s n a b c d e = search (numbered, unknown, told, check, early, unsearched, searched, dropping, done, tt {0}) depth 60 fits 5000
+every-number s n a b c d e = search (numbered, unknown, neither, told, check, early, unsearched, searched, dropping, done, tt {0}) depth 60 fits 5000
 
 -- ---- the four numbers
 -- a refusal without an index, whichever it is

@@ -117,7 +117,7 @@ module _ (side : Side) (t : Tables) (v : ValidTables t) (region : Region) where
   region-early : RegionGood side t region → Early
   region-early g = ((g .vm-ok, g .access-ok), (((g .some-pages, g .guests-ok), g .pages-ok), (g .known, tt)))
 
-  pub insert-exact : Decides (accepts (insertAnswer side (t .known) (t .setup .pages) (t .setup .units) (t .setup .unitCount) (t .sets) (route side t .map) region)) (Inserts side t region)
+  pub insert-exact : Decides (accepts (insertAnswer side (t .known) (t .setup .pages) (assignable (t .setup .units) (t .setup .unitCount) side region) (t .sets) (route side t .map) region)) (Inserts side t region)
   unfolding insertAnswer
   insert-exact =
       decides-as
@@ -213,10 +213,10 @@ unused Cpu t v region k n u = ⊎-elim n (λ (left, right, e). u left right e)
 unused Dma t v region k n u = n
 
 pub remove-exact : (side : Side) (t : Tables) (v : ValidTables t) (region : Region) →
-    Decides (accepts (removeAnswer side (t .known) (t .setup .pages) (t .setup .units) (t .setup .unitCount) (t .sets) (t .pairs) (route side t .map) (route side t .cache) region)) (Removes side t region)
+    Decides (accepts (removeAnswer side (t .known) (t .setup .pages) (assignable (t .setup .units) (t .setup .unitCount) side region) (t .sets) (t .pairs) (route side t .map) (route side t .cache) region)) (Removes side t region)
 unfolding removeAnswer removeMay
 remove-exact side t v region =
-    dropping-exact (removeMay side (t .known) (t .setup .pages) (t .setup .units) (t .setup .unitCount) (t .sets) (t .pairs) (route side t .map) region) _
+    dropping-exact (removeMay side (t .known) (t .setup .pages) (assignable (t .setup .units) (t .setup .unitCount) side region) (t .sets) (t .pairs) (route side t .map) region) _
     (decides-as
     (after-early (regionEarly (t .known) (t .setup .pages) region) _ (early-exact side t region)
     (λ early.

@@ -83,7 +83,7 @@ module _ (side : Side) (t : Tables) (v : ValidTables t) (region : Region) (p : I
 
 pub insert-good : (side : Side) (t : Tables) → ValidTables t → (region : Region) {dropped word : ℕ} → answerOf t (op.On side (sided.InsertRegion region)) ≡ Accepted dropped word → AcceptedGood t (op.On side (sided.InsertRegion region))
 insert-good side t v region e =
-    let p = insert-passed side (t .known) (t .setup .pages) (t .setup .units) (t .setup .unitCount) (t .sets) (route side t .map) region e in
+    let p = insert-passed side (t .known) (t .setup .pages) _ (t .sets) (route side t .map) region e in
     let r = insertRoute (route side t) region in
     quiet-good t _ _ _ (insert-valid side t v region p)
     (λ vm page l b h.
@@ -184,7 +184,7 @@ module _ (side : Side) (t : Tables) (v : ValidTables t) (region : Region) (p : R
 
 pub remove-good : (side : Side) (t : Tables) → ValidTables t → (region : Region) {dropped word : ℕ} → answerOf t (op.On side (sided.RemoveRegion region)) ≡ Accepted dropped word → AcceptedGood t (op.On side (sided.RemoveRegion region))
 remove-good side t v region e =
-    let p = remove-passed side (t .known) (t .setup .pages) (t .setup .units) (t .setup .unitCount) (t .sets) (t .pairs) (route side t .map) (route side t .cache) region e in
+    let p = remove-passed side (t .known) (t .setup .pages) _ (t .sets) (t .pairs) (route side t .map) (route side t .cache) region e in
     let r = removeRoute (route side t) region in
     let same = sets-with side t r (removeSets side (t .sets) region) in
     record {

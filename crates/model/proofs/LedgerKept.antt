@@ -11,7 +11,7 @@ use Rattle.numbers.specs.Packing.{filledOf, pageOf, vmOf, leftOf, rightOf}
 use Rattle.numbers.specs.declared.Side.{Side}
 use Rattle.numbers.specs.declared.Side.the-variants.{Cpu, Dma}
 use Rattle.table.specs.Table.{Has}
-use Rattle.model.specs.State.{Tables, Route, route, withRoute, withSide, withKnown, withSets, withPairs}
+use Rattle.model.specs.State.{Tables, Route, route, withRoute, withSide, withKnown, withSets, withPairs, replaced}
 use Rattle.model.specs.Views.{knows, inShared, owns, claims, shares, lentTo, mayMap}
 use Rattle.model.specs.Valid.{KnownGood, PagesGood, PairGood, PairsGood, EntryGood, PortsGood, ValidTables}
 use Rattle.model.proofs.ViewLaws.{AtEnd, may-own, may-lent}
@@ -20,7 +20,7 @@ use Rattle.model.proofs.Carried.{Ground, ground-kept, route-carried, pa
 
 -- ---- all three replaced
 abbrev ledger : Tables → ℕ → List ℕ → List ℕ → Tables
-ledger t known sets pairs = record { setup = t .setup; known = known; sets = sets; pairs = pairs; cpu = t .cpu; dma = t .dma }
+ledger t known sets pairs = replaced t known sets pairs (t .cpu) (t .dma)
 
 -- an entry of the side that rests on the old ones rests on the new
 abbrev Carries : Tables → ℕ → List ℕ → List ℕ → Side → Type 0

@@ -13,9 +13,7 @@ use Rattle.numbers.specs.declared.Side.{Side}
 use Rattle.table.specs.Scan.{lowest}
 use Rattle.table.specs.ScanLaws.{lowest-none}
 use Rattle.table.specs.Table.{freeEntries, roomFor}
-use Rattle.units.specs.Units.{assignable}
 use Rattle.numbers.specs.declared.Region.{Region}
-use Rattle.units.specs.declared.Unit.{Unit}
 use Rattle.model.specs.EarlyLaws.{past, then-passed, RegionPassed, region-passed}
 use Rattle.model.specs.Regions.{clash, regionEarly, notFree, present, claimed, insertAnswer, notHeld, differs, inUse, removeMay, removeAnswer}
 
@@ -35,12 +33,12 @@ pub record InsertPassed (side : Side) (known pages : ℕ) (sets map : List ℕ) 
   pub unclaimed : NoneFails (claimed side sets region) region
   pub room : region .count ≤ freeEntries map
 
-pub insert-passed : (side : Side) (known pages : ℕ) (units : List Unit) (unitCount : ℕ) (sets map : List ℕ) (region : Region) {dropped word : ℕ} →
-    insertAnswer side known pages units unitCount sets map region ≡ Accepted dropped word → InsertPassed side known pages sets map region
+pub insert-passed : (side : Side) (known pages : ℕ) (unit : Bool) (sets map : List ℕ) (region : Region) {dropped word : ℕ} →
+    insertAnswer side known pages unit sets map region ≡ Accepted dropped word → InsertPassed side known pages sets map region
 unfolding insertAnswer
-insert-passed side known pages units unitCount sets map region e =
+insert-passed side known pages unit sets map region e =
     let (d, w, early, a) = then-passed (regionEarly known pages region) _ e in
-    let (b, c) = past (not (assignable units unitCount side region)) _ _ _ a in
+    let (b, c) = past (not unit) _ _ _ a in
     let (free, f) = clash-passed (notFree side sets region) region PageNotHeld _ c in
     let (absent, g) = clash-passed (present map region) region MappingPresent _ f in
     let (unclaimed, h) = clash-passed (claimed side sets region) region PageClaimed _ g in
@@ -53,13 +51,13 @@ pub record RemovePassed (side : Side) (known pages : ℕ) (sets pairs map : List
   pub mapped : NoneFails (differs map region) region
   pub unused : NoneFails (inUse side pairs map region) region
 
-pub remove-passed : (side : Side) (known pages : ℕ) (units : List Unit) (unitCount : ℕ) (sets pairs map cache : List ℕ) (region : Region) {dropped word : ℕ} →
-    removeAnswer side known pages units unitCount sets pairs map cache region ≡ Accepted dropped word → RemovePassed side known pages sets pairs map region
+pub remove-passed : (side : Side) (known pages : ℕ) (unit : Bool) (sets pairs map cache : List ℕ) (region : Region) {dropped word : ℕ} →
+    removeAnswer side known pages unit sets pairs map cache region ≡ Accepted dropped word → RemovePassed side known pages sets pairs map region
 unfolding removeAnswer removeMay
-remove-passed side known pages units unitCount sets pairs map cache region e =
-    let (n, r, may, _) = then-passed (removeMay side known pages units unitCount sets pairs map region) _ e in
+remove-passed side known pages unit sets pairs map cache region e =
+    let (n, r, may, _) = then-passed (removeMay side known pages unit sets pairs map region) _ e in
     let (d, w, early, a) = then-passed (regionEarly known pages region) _ may in
-    let (b, c) = past (not (assignable units unitCount side region)) _ _ _ a in
+    let (b, c) = past (not unit) _ _ _ a in
     let (held, f) = clash-passed (notHeld side sets region) region PageNotHeld _ c in
     let (same, g) = clash-passed (differs map region) region MappingDiffers _ f in
     let (unused, h) = clash-passed (inUse side pairs map region) region StillInUse _ g in

@@ -20,7 +20,6 @@ use Rattle.table.specs.TableLaws.{lookup-has, lookup-put-other, place-room, fre
 use Rattle.table.specs.Scan.{repeat}
 use Rattle.units.specs.Units.{assignable}
 use Rattle.numbers.specs.declared.Region.{Region}
-use Rattle.units.specs.declared.Unit.{Unit}
 use Rattle.model.specs.State.{Tables, Route, State, route, withSide, withMaps}
 use Rattle.model.specs.Maps.{mapTable}
 use Rattle.model.specs.Views.{inPool, inShared, claims, claimedElsewhere, paired, edgeOn, targeted, butKey}
@@ -47,12 +46,12 @@ use Rattle.model.proofs.UpstreamRegionViews.{in-span, span-in, page-pla
 use Rattle.model.proofs.UpstreamRegionSets.{claims-given, claims-taken, pool-given, pool-taken, pool-left, pool-kept, poolNow, sets-of, region-software}
 
 -- ---- the unit
-insert-unit : (side : Side) (known pages : ℕ) (units : List Unit) (n : ℕ) (sets map : List ℕ) (region : Region) {dropped word : ℕ} →
-    insertAnswer side known pages units n sets map region ≡ Accepted dropped word → assignable units n side region ≡ true
+insert-unit : (side : Side) (known pages : ℕ) (unit : Bool) (sets map : List ℕ) (region : Region) {dropped word : ℕ} →
+    insertAnswer side known pages unit sets map region ≡ Accepted dropped word → unit ≡ true
 unfolding insertAnswer
-insert-unit side known pages units n sets map region e =
+insert-unit side known pages unit sets map region e =
     let (d, w, early, a) = then-passed (regionEarly known pages region) _ e in
-    not-false _ (past (not (assignable units n side region)) _ _ _ a .0)
+    not-false _ (past (not unit) _ _ _ a .0)
 
 -- ---- a region that passes the early check ends within bounds, since N does
 region-fits : (t : Tables) → ValidTables t → (region : Region) → RegionPassed (t .known) (t .setup .pages) region → RegionFits region
@@ -193,13 +192,13 @@ module _ (side : Side) (t : Tables) (memory : List ℕ) (r : Route) (known pages
       (record { room = omega arith; absent = λ j l h. eqb-true _ 0 (not-false _ (sym (found-looked keyOf refl (r .walker) (keyIn region j) (omega arith)) ∙ absent j h)) })
 
 -- ---- remove: what upstream asks for
-remove-unit : (side : Side) (known pages : ℕ) (units : List Unit) (n : ℕ) (sets pairs map cache : List ℕ) (region : Region) {dropped word : ℕ} →
-    removeAnswer side known pages units n sets pairs map cache region ≡ Accepted dropped word → assignable units n side region ≡ true
+remove-unit : (side : Side) (known pages : ℕ) (unit : Bool) (sets pairs map cache : List ℕ) (region : Region) {dropped word : ℕ} →
+    removeAnswer side known pages unit sets pairs map cache region ≡ Accepted dropped word → unit ≡ true
 unfolding removeAnswer removeMay
-remove-unit side known pages units n sets pairs map cache region e =
-    let (k, r, may, _) = then-passed (removeMay side known pages units n sets pairs map region) _ e in
+remove-unit side known pages unit sets pairs map cache region e =
+    let (k, r, may, _) = then-passed (removeMay side known pages unit sets pairs map region) _ e in
     let (d, w, early, a) = then-passed (regionEarly known pages region) _ may in
-    not-false _ (past (not (assignable units n side region)) _ _ _ a .0)
+    not-false _ (past (not unit) _ _ _ a .0)
 
 module _ (t : Tables) (valid : ValidTables t) (region : Region) (early : RegionPassed (t .known) (t .setup .pages) region) where
   -- each key has the region's entry
@@ -327,9 +326,9 @@ module _ (side : Side) (s : State) (valid : ValidTables (s .tables)) (region : R
   unfolding SameMap apply clearedPages
   insert-follows e =
       let t = s .tables in
-      let p = insert-passed side (t .known) (t .setup .pages) (t .setup .units) (t .setup .unitCount) (t .sets) (route side t .map) region e in
+      let p = insert-passed side (t .known) (t .setup .pages) _ (t .sets) (route side t .map) region e in
       let m = maps-of side t valid in
-      let unit = insert-unit side (t .known) (t .setup .pages) (t .setup .units) (t .setup .unitCount) (t .sets) (route side t .map) region e in
+      let unit = insert-unit side (t .known) (t .setup .pages) _ (t .sets) (route side t .map) region e in
       let room : region .count ≤ freeEntries (route side t .walker) = omega (
         arith,
         p .room,
@@ -351,8 +350,8 @@ module _ (side : Side) (s : State) (valid : ValidTables (s .tables)) (region : R
   remove-follows e =
       let t = s .tables in
       let r = route side t in
-      let p = remove-passed side (t .known) (t .setup .pages) (t .setup .units) (t .setup .unitCount) (t .sets) (t .pairs) (r .map) (r .cache) region e in
-      let unit = remove-unit side (t .known) (t .setup .pages) (t .setup .units) (t .setup .unitCount) (t .sets) (t .pairs) (r .map) (r .cache) region e in
+      let p = remove-passed side (t .known) (t .setup .pages) _ (t .sets) (t .pairs) (r .map) (r .cache) region e in
+      let unit = remove-unit side (t .known) (t .setup .pages) _ (t .sets) (t .pairs) (r .map) (r .cache) region e in
       let good = route-of side t valid in
       record {
         software = software-once (remove-step t valid region (p .early) side (assignable (t .setup .units) (t .setup .unitCount) side) unit p);

@@ -16,9 +16,7 @@ use Rattle.table.specs.Scan.{count, wipe, lowest, repeat}
 use Rattle.table.specs.Table.{find, lookup, isFound, put, roomFor}
 use Rattle.pages.specs.Rows.{add, remove, dmaRow}
 use Rattle.units.specs.Spans.{regionSpan}
-use Rattle.units.specs.Units.{assignable}
 use Rattle.numbers.specs.declared.Region.{Region}
-use Rattle.units.specs.declared.Unit.{Unit}
 use Rattle.model.specs.Views.{isVm, isAccess, knows, inPool, inShared, claims, otherSide, claimedElsewhere, edgeOn, targeted, butKey, isFilled}
 use Rattle.model.specs.Effect.{accepted, acceptedDropping, refused, andThen}
 use Rattle.model.specs.Ledger.{assignSets, reclaimSets}
@@ -70,10 +68,11 @@ claimed Cpu sets region k = claimedElsewhere Dma sets (region .vm .0) (pageIn re
 claimed Dma sets region k =
     claimedElsewhere Dma sets (region .vm .0) (pageIn region k) || claimedElsewhere Cpu sets (region .vm .0) (pageIn region k) || inShared sets (pageIn region k)
 
-unfoldable pub insertAnswer : Side → ℕ → ℕ → List Unit → ℕ → List ℕ → List ℕ → Region → Answer
-insertAnswer side known pages units unitCount sets map region =
+-- unit says whether a unit has the region's five fields and a mark that suits the side (`assignable`)
+unfoldable pub insertAnswer : Side → ℕ → ℕ → Bool → List ℕ → List ℕ → Region → Answer
+insertAnswer side known pages unit sets map region =
     andThen (regionEarly known pages region)
-    (if not (assignable units unitCount side region) then refused NoSuchUnit
+    (if not unit then refused NoSuchUnit
     else clash (notFree side sets region) region PageNotHeld
     (clash (present map region) region MappingPresent
     (clash (claimed side sets region) region PageClaimed
@@ -104,18 +103,18 @@ inUse Cpu pairs map region k = targeted (butKey (keyIn region k)) map (pageIn re
 inUse Dma pairs map region k = targeted (butKey (keyIn region k)) map (pageIn region k)
 
 -- whether it may, and then with how many slots dropped
-unfoldable pub removeMay : Side → ℕ → ℕ → List Unit → ℕ → List ℕ → List ℕ → List ℕ → Region → Answer
-removeMay side known pages units unitCount sets pairs map region =
+unfoldable pub removeMay : Side → ℕ → ℕ → Bool → List ℕ → List ℕ → List ℕ → Region → Answer
+removeMay side known pages unit sets pairs map region =
     andThen (regionEarly known pages region)
-    (if not (assignable units unitCount side region) then refused NoSuchUnit
+    (if not unit then refused NoSuchUnit
     else clash (notHeld side sets region) region PageNotHeld
     (clash (differs map region) region MappingDiffers
     (clash (inUse side pairs map region) region StillInUse
     accepted)))
 
-unfoldable pub removeAnswer : Side → ℕ → ℕ → List Unit → ℕ → List ℕ → List ℕ → List ℕ → List ℕ → Region → Answer
-removeAnswer side known pages units unitCount sets pairs map cache region =
-    andThen (removeMay side known pages units unitCount sets pairs map region) (acceptedDropping (count (inRegion region) cache))
+unfoldable pub removeAnswer : Side → ℕ → ℕ → Bool → List ℕ → List ℕ → List ℕ → List ℕ → Region → Answer
+removeAnswer side known pages unit sets pairs map cache region =
+    andThen (removeMay side known pages unit sets pairs map region) (acceptedDropping (count (inRegion region) cache))
 
 abbrev pub removePage : Side → ℕ → ℕ → List ℕ → List ℕ
 removePage Cpu vm page sets = reclaimSets sets vm page

@@ -42,23 +42,26 @@ abbrev pub route : Side → Tables → Route
 route Cpu t = t .cpu
 route Dma t = t .dma
 
-abbrev pub withRoute : Side → Tables → Route → Tables
-withRoute Cpu t r = record { setup = t .setup; known = t .known; sets = t .sets; pairs = t .pairs; cpu = r; dma = t .dma }
-withRoute Dma t r = record { setup = t .setup; known = t .known; sets = t .sets; pairs = t .pairs; cpu = t .cpu; dma = r }
+-- all that operations may replace; a field that none does stands here alone
+abbrev pub replaced : Tables → ℕ → List ℕ → List ℕ → Route → Route → Tables
+replaced t known sets pairs cpu dma = record { setup = t .setup; known = known; sets = sets; pairs = pairs; cpu = cpu; dma = dma }
 
 -- what an operation of one side replaces: the side's route and the page sets
 abbrev pub withSide : Side → Tables → Route → List ℕ → Tables
-withSide Cpu t r sets = record { setup = t .setup; known = t .known; sets = sets; pairs = t .pairs; cpu = r; dma = t .dma }
-withSide Dma t r sets = record { setup = t .setup; known = t .known; sets = sets; pairs = t .pairs; cpu = t .cpu; dma = r }
+withSide Cpu t r sets = replaced t (t .known) sets (t .pairs) r (t .dma)
+withSide Dma t r sets = replaced t (t .known) sets (t .pairs) (t .cpu) r
+
+abbrev pub withRoute : Side → Tables → Route → Tables
+withRoute side t r = withSide side t r (t .sets)
 
 abbrev pub withKnown : Tables → ℕ → Tables
-withKnown t known = record { setup = t .setup; known = known; sets = t .sets; pairs = t .pairs; cpu = t .cpu; dma = t .dma }
+withKnown t known = replaced t known (t .sets) (t .pairs) (t .cpu) (t .dma)
 
 abbrev pub withSets : Tables → List ℕ → Tables
-withSets t sets = record { setup = t .setup; known = t .known; sets = sets; pairs = t .pairs; cpu = t .cpu; dma = t .dma }
+withSets t sets = replaced t (t .known) sets (t .pairs) (t .cpu) (t .dma)
 
 abbrev pub withPairs : Tables → List ℕ → Tables
-withPairs t pairs = record { setup = t .setup; known = t .known; sets = t .sets; pairs = pairs; cpu = t .cpu; dma = t .dma }
+withPairs t pairs = replaced t (t .known) (t .sets) pairs (t .cpu) (t .dma)
 
 -- the same edit of both maps, and the cache that it leaves
 abbrev pub withMaps : Route → List ℕ → List ℕ → List ℕ → Route

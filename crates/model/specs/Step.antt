@@ -1,5 +1,6 @@
 -- The joined operation (docs/MACHINE.md, 7): what the tables decide for each, and one step of the whole machine.
 use Prim.Native.Nat.{ℕ}
+use mathlib.Core.Bool.{Bool, false}
 use mathlib.Core.List.{List, [], _∷_}
 use lib.ListN.{getD}
 use Rattle.numbers.specs.Limits.{READ, WRITE}
@@ -11,6 +12,7 @@ use Rattle.numbers.specs.declared.Region.{Region}
 use Rattle.numbers.specs.declared.Side.{Side}
 use Rattle.numbers.specs.declared.SideOperation.{SideOperation}
 use Rattle.numbers.specs.declared.SideOperation.the-variants as sided
+use Rattle.units.specs.Units.{assignable}
 use Rattle.model.specs.State.{Setup, Tables, Route, State, route, withSide, withKnown, withSets, withPairs, withMaps, withCache, withPorts}
 use Rattle.model.specs.Effect.{Effect, reads, writes, clears, quiet, Control, decided, accepted, apply, loaded}
 use Rattle.model.specs.Ledger.{
@@ -34,19 +36,30 @@ use Rattle.model.specs.Ports.{portAnswer, portPorts, vmOn, fillAnswer, f
 use Rattle.model.specs.Access.{accessAnswer, accessPlace}
 
 -- ---- 7 to 24, an operation of one side: it looks at the side's route and at what both sides have, and never at the other route
+-- whether the region that an operation names is a unit's for this side (refusal 8); no other operation asks
+abbrev pub unitFor : Side → Setup → SideOperation → Bool
+unitFor side setup (sided.MapPage vm guest page access generation) = false
+unitFor side setup (sided.UnmapPage vm guest) = false
+unitFor side setup (sided.InsertRegion region) = assignable (setup .units) (setup .unitCount) side region
+unitFor side setup (sided.RemoveRegion region) = assignable (setup .units) (setup .unitCount) side region
+unitFor side setup (sided.GivePort port target) = false
+unitFor side setup (sided.FillSlot port guest) = false
+unitFor side setup (sided.EmptySlot slot) = false
+unitFor side setup (sided.ReadWord port guest word) = false
+unitFor side setup (sided.WriteWord port guest word value) = false
+
 -- its answer, but for the word that a read fills in
-abbrev pub sideAnswer : Side → Setup → ℕ → List ℕ → List ℕ → Route → SideOperation → Answer
-sideAnswer side setup known sets pairs r (sided.MapPage vm guest page access generation) =
-    mapAnswer side known (setup .pages) sets pairs (r .map) (r .cache) (vm .0) (guest .0) (page .0) access generation
-sideAnswer side setup known sets pairs r (sided.UnmapPage vm guest) = unmapAnswer known (r .map) (r .cache) (vm .0) (guest .0)
-sideAnswer side setup known sets pairs r (sided.InsertRegion region) = insertAnswer side known (setup .pages) (setup .units) (setup .unitCount) sets (r .map) region
-sideAnswer side setup known sets pairs r (sided.RemoveRegion region) =
-    removeAnswer side known (setup .pages) (setup .units) (setup .unitCount) sets pairs (r .map) (r .cache) region
-sideAnswer side setup known sets pairs r (sided.GivePort port target) = portAnswer known port target
-sideAnswer side setup known sets pairs r (sided.FillSlot port guest) = fillAnswer (r .ports) (r .walker) port (guest .0)
-sideAnswer side setup known sets pairs r (sided.EmptySlot slot) = emptyAnswer slot
-sideAnswer side setup known sets pairs r (sided.ReadWord port guest word) = accessAnswer (r .ports) (r .cache) (r .walker) READ port (guest .0) word
-sideAnswer side setup known sets pairs r (sided.WriteWord port guest word value) = accessAnswer (r .ports) (r .cache) (r .walker) WRITE port (guest .0) word
+abbrev pub sideAnswer : Side → ℕ → Bool → ℕ → List ℕ → List ℕ → Route → SideOperation → Answer
+sideAnswer side pages unit known sets pairs r (sided.MapPage vm guest page access generation) =
+    mapAnswer side known pages sets pairs (r .map) (r .cache) (vm .0) (guest .0) (page .0) access generation
+sideAnswer side pages unit known sets pairs r (sided.UnmapPage vm guest) = unmapAnswer known (r .map) (r .cache) (vm .0) (guest .0)
+sideAnswer side pages unit known sets pairs r (sided.InsertRegion region) = insertAnswer side known pages unit sets (r .map) region
+sideAnswer side pages unit known sets pairs r (sided.RemoveRegion region) = removeAnswer side known pages unit sets pairs (r .map) (r .cache) region
+sideAnswer side pages unit known sets pairs r (sided.GivePort port target) = portAnswer known port target
+sideAnswer side pages unit known sets pairs r (sided.FillSlot port guest) = fillAnswer (r .ports) (r .walker) port (guest .0)
+sideAnswer side pages unit known sets pairs r (sided.EmptySlot slot) = emptyAnswer slot
+sideAnswer side pages unit known sets pairs r (sided.ReadWord port guest word) = accessAnswer (r .ports) (r .cache) (r .walker) READ port (guest .0) word
+sideAnswer side pages unit known sets pairs r (sided.WriteWord port guest word value) = accessAnswer (r .ports) (r .cache) (r .walker) WRITE port (guest .0) word
 
 -- what an accepted one leaves of the route, of the page sets, and its effect on memory
 abbrev pub mapRoute : Route → ℕ → ℕ → ℕ → ℕ → ℕ → Route
@@ -108,7 +121,8 @@ answerOf t (op.AssignPage vm page) = assignAnswer (t .known) (t .setup .pages) (
 answerOf t (op.ReclaimPage vm page) = reclaimAnswer (t .known) (t .setup .pages) (t .sets) (t .pairs) (t .cpu .map) (vm .0) (page .0)
 answerOf t (op.SharePage left right page) = shareAnswer (t .known) (t .setup .pages) (t .sets) (t .pairs) (left .0) (right .0) (page .0)
 answerOf t (op.UnsharePage left right page) = unshareAnswer (t .known) (t .setup .pages) (t .sets) (t .pairs) (t .cpu .map) (left .0) (right .0) (page .0)
-answerOf t (op.On side operation) = sideAnswer side (t .setup) (t .known) (t .sets) (t .pairs) (route side t) operation
+answerOf t (op.On side operation) =
+    sideAnswer side (t .setup .pages) (unitFor side (t .setup) operation) (t .known) (t .sets) (t .pairs) (route side t) operation
 answerOf t op.DataBarrier = accepted
 answerOf t op.InstructionBarrier = accepted
 

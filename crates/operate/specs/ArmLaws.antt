@@ -1,5 +1,6 @@
 -- What each operation's step leaves, part by part: a part that an accepted operation replaces is `kept` by a refused one.
 use Prim.Native.Nat.{ℕ}
+use mathlib.Core.Bool.{Bool}
 use mathlib.Core.List.{List}
 use mathlib.Core.Path.{_≡_, refl, sym, ap, _∙_}
 use Rattle.numbers.specs.declared.Answer.{Answer}
@@ -18,7 +19,7 @@ use Rattle.model.specs.declared.Machine.{Machine}
 use Rattle.model.specs.State.{Tables, Route, State, route, withSide, withKnown, withSets, withPairs}
 use Rattle.model.specs.Effect.{Effect, clears, quiet, kept, decided, accepted, apply, clearedPages}
 use Rattle.model.specs.Ledger.{addVmAnswer, addVmKnown, removeVmAnswer, removeVmKnown, assignAnswer, assignSets, reclaimAnswer, reclaimSets, reclaimClears, shareAnswer, sharePairs, unshareAnswer, unsharePairs}
-use Rattle.model.specs.Step.{Stepped, carriedOut, control, step}
+use Rattle.model.specs.Step.{Stepped, unitFor, carriedOut, control, step}
 use Rattle.sides.specs.Sides.{Sight, SideStepped, sight, sideStepped, sideDecided, sideStep}
 use Rattle.operate.specs.Outcome.{outcome}
 
@@ -66,7 +67,7 @@ module _ (t : Tables) (memory : List ℕ) where
 
   side-step :
       (side : Side) (operation : SideOperation) →
-      joined side (sideStep side (t .setup) (t .known) (t .pairs) (sightOf side) operation) ≡ step (record { tables = t; memory = memory }) (On side operation)
+      joined side (sideStep side (t .setup .pages) (unitFor side (t .setup) operation) (t .known) (t .pairs) (sightOf side) operation) ≡ step (record { tables = t; memory = memory }) (On side operation)
   unfolding step control sideStep
   side-step side operation = sym (side-arm side _ _ _ _)
 
@@ -127,15 +128,17 @@ module _ (fixed : Fixed) (r : Registers) (sets pairs cpuMap cpuWalker cpuCache d
 
   -- ---- an operation of a side, where a step over the side's tables left what is given
   pub cpu-step :
-      (operation : SideOperation) {a : Answer} {sets′ map′ walker′ cache′ : List ℕ} {own′ : SideRegisters} {memory′ : List ℕ} →
+      (operation : SideOperation) {unit : Bool} {a : Answer} {sets′ map′ walker′ cache′ : List ℕ} {own′ : SideRegisters} {memory′ : List ℕ} →
+      unit ≡ unitFor Cpu (setupOf fixed) operation →
       sideStepped a (sight sets′ map′ walker′ cache′ (own′ .hand) (own′ .ports) memory′)
-      ≡ sideStep Cpu (setupOf fixed) (r .known) pairs (sight sets cpuMap cpuWalker cpuCache (r .cpu .hand) (r .cpu .ports) memory) operation →
+      ≡ sideStep Cpu (fixed .pages) unit (r .known) pairs (sight sets cpuMap cpuWalker cpuCache (r .cpu .hand) (r .cpu .ports) memory) operation →
       outcome a (headerOf fixed (record { known = r .known; cpu = own′; dma = r .dma })) sets′ pairs map′ walker′ cache′ dmaMap dmaWalker dmaCache memory′ ≡ step now (On Cpu operation)
-  cpu-step operation e = ap (joined here memory Cpu) e ∙ side-step here memory Cpu operation
+  cpu-step operation u e = ap (joined here memory Cpu) (rw u at e) ∙ side-step here memory Cpu operation
 
   pub dma-step :
-      (operation : SideOperation) {a : Answer} {sets′ map′ walker′ cache′ : List ℕ} {own′ : SideRegisters} {memory′ : List ℕ} →
+      (operation : SideOperation) {unit : Bool} {a : Answer} {sets′ map′ walker′ cache′ : List ℕ} {own′ : SideRegisters} {memory′ : List ℕ} →
+      unit ≡ unitFor Dma (setupOf fixed) operation →
       sideStepped a (sight sets′ map′ walker′ cache′ (own′ .hand) (own′ .ports) memory′)
-      ≡ sideStep Dma (setupOf fixed) (r .known) pairs (sight sets dmaMap dmaWalker dmaCache (r .dma .hand) (r .dma .ports) memory) operation →
+      ≡ sideStep Dma (fixed .pages) unit (r .known) pairs (sight sets dmaMap dmaWalker dmaCache (r .dma .hand) (r .dma .ports) memory) operation →
       outcome a (headerOf fixed (record { known = r .known; cpu = r .cpu; dma = own′ })) sets′ pairs cpuMap cpuWalker cpuCache map′ walker′ cache′ memory′ ≡ step now (On Dma operation)
-  dma-step operation e = ap (joined here memory Dma) e ∙ side-step here memory Dma operation
+  dma-step operation u e = ap (joined here memory Dma) (rw u at e) ∙ side-step here memory Dma operation

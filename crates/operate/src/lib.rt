@@ -1,8 +1,10 @@
 // The joined operation: one of the twenty-six, on a header and its lent slices.
 ghost use mathlib.Core.Path.{_≡_};
-ghost use Rattle.model.specs.Header.{headerOf, stateOf};
-ghost use Rattle.model.specs.Step.{step};
-ghost use Rattle.sides.specs.Sides.{Fit};
+ghost use Prim.Native.Nat.{_≤_};
+ghost use Rattle.numbers.specs.Limits.{UNITS};
+ghost use Rattle.model.specs.Header.{setupOf, headerOf, stateOf};
+ghost use Rattle.model.specs.Step.{unitFor, step};
+ghost use Rattle.operate.specs.Fit.{Fit};
 ghost use Rattle.operate.specs.Outcome.{outcome};
 use model::Fixed;
 use model::Machine;
@@ -10,6 +12,7 @@ use model::Registers;
 use numbers::Answer;
 use numbers::Operation;
 use numbers::Side;
+use numbers::SideOperation;
 
 pub struct Done {
     pub answer: Answer,
@@ -19,6 +22,41 @@ pub struct Done {
 pub struct Stepped {
     pub answer: Answer,
     pub registers: Registers,
+}
+
+// Whether the region that an operation names is a unit's for this side: the units are copied for the two that name one.
+pub fn unit_for(fixed: Fixed, side: Side, operation: SideOperation) -> bool
+    requires { ⌜ fixed .«unit_count» ≤ UNITS ⌝ }
+    ensures { λ r. ⌜ r ≡ unitFor side (setupOf fixed) operation ⌝ }
+{
+    match operation {
+        SideOperation::InsertRegion(region) => {
+            let units = fixed.units;
+            units::assignable(units, fixed.unit_count, side, region)
+        }
+        SideOperation::RemoveRegion(region) => {
+            let units = fixed.units;
+            units::assignable(units, fixed.unit_count, side, region)
+        }
+        SideOperation::MapPage {
+            vm,
+            guest,
+            page,
+            access,
+            generation,
+        } => false,
+        SideOperation::UnmapPage(vm, guest) => false,
+        SideOperation::GivePort(port, target) => false,
+        SideOperation::FillSlot(port, guest) => false,
+        SideOperation::EmptySlot(slot) => false,
+        SideOperation::ReadWord { port, guest, word } => false,
+        SideOperation::WriteWord {
+            port,
+            guest,
+            word,
+            value,
+        } => false,
+    }
 }
 
 // One operation. Each arm hands on the slices that it touches and sets the registers that it changes; an operation of a side gets that
@@ -128,12 +166,14 @@ pub fn step(
             }
         }
         Operation::On(side, operation) => {
+            let unit = unit_for(fixed, side, operation);
             match side {
                 Side::Cpu => {
                     let own = registers.cpu;
                     let done = sides::side_step(
                         Side::Cpu,
-                        fixed,
+                        fixed.pages,
+                        unit,
                         registers.known,
                         own,
                         sets,
@@ -157,7 +197,8 @@ pub fn step(
                     let own = registers.dma;
                     let done = sides::side_step(
                         Side::Dma,
-                        fixed,
+                        fixed.pages,
+                        unit,
                         registers.known,
                         own,
                         sets,

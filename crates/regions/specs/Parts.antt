@@ -4,7 +4,7 @@ use Prim.Native.Nat.{ℕ, _+_, _*_, _≤_, _<_}
 use mathlib.Core.List.{List}
 use mathlib.Core.Path.{_≡_}
 use lib.ListN.{length}
-use Rattle.numbers.specs.Limits.{VMS, ACCESSES, GUEST-PAGES, PAGES, UNITS, SETS, SET-WORDS, PAGE-WORDS}
+use Rattle.numbers.specs.Limits.{VMS, ACCESSES, GUEST-PAGES, PAGES, SETS, SET-WORDS, PAGE-WORDS}
 use Rattle.numbers.specs.declared.Answer.{Answer}
 use Rattle.numbers.specs.declared.Region.{Region}
 use Rattle.numbers.specs.declared.Side.{Side}
@@ -20,10 +20,9 @@ pub record Placed (region : Region) : Type 0 where
   pub guest-ok : region .guest .0 + region .count ≤ GUEST-PAGES
   pub page-ok : region .page .0 + region .count ≤ PAGES
 
--- no more pages and units than there may be, and page sets of their length
-pub record Sized (pages unitCount : ℕ) (sets : List ℕ) : Type 0 where
+-- no more pages than there may be, and page sets of their length
+pub record Sized (pages : ℕ) (sets : List ℕ) : Type 0 where
   pub few-pages : pages ≤ PAGES
-  pub few-units : unitCount ≤ UNITS
   pub sets-length : length sets ≡ SETS * SET-WORDS
 
 -- ---- insert
@@ -43,8 +42,8 @@ pub record InsertLeft (should : Answer) (sets₀ map₀ walker₀ : List ℕ) (s
   pub walker : walker₁ ≡ kept should walker₀ (insertTable walker₀ region)
 
 -- ---- remove, which clears memory too
-pub record RemoveSized (pages unitCount : ℕ) (sets memory : List ℕ) : Type 0 where
-  pub sized : Sized pages unitCount sets
+pub record RemoveSized (pages : ℕ) (sets memory : List ℕ) : Type 0 where
+  pub sized : Sized pages sets
   pub memory-length : length memory ≡ PAGE-WORDS * pages
 
 pub record RemoveReady (sets memory : List ℕ) (region : Region) : Type 0 where

@@ -15,7 +15,6 @@ use Rattle.numbers.specs.declared.Side.{Side}
 use Rattle.numbers.specs.declared.Side.the-variants.{Cpu, Dma}
 use Rattle.table.specs.Scan.{any, lowest, lowestFrom}
 use Rattle.table.specs.Loops.{Asking, ask-next, ask-yes, ask-no}
-use Rattle.units.specs.declared.Unit.{Unit}
 use Rattle.model.specs.Views.{edgeOn, claims, otherSide}
 use Rattle.model.specs.Effect.{clearPage, clearedPages}
 use Rattle.model.specs.Regions.{regionEarly, insertAnswer, removeMay, inUse, pageIn, removeClears, removeClearsFrom}
@@ -26,16 +25,16 @@ use Rattle.regions.specs.Parts.{Placed, Sized, InsertReady, RemoveSized,
 pub region-placed : {known pages : ℕ} {region : Region} → pages ≤ PAGES → RegionPassed known pages region → Placed region
 region-placed h r = record { vm-ok = r .vm-ok; access-ok = r .access-ok; guest-ok = r .guest-ok; page-ok = omega arith }
 
-module _ (side : Side) (known pages : ℕ) (units : List Unit) (unitCount : ℕ) where
-  pub insert-ready : (sets map : List ℕ) (region : Region) {told : Answer} {dropped word : ℕ} → Sized pages unitCount sets →
-      told ≡ insertAnswer side known pages units unitCount sets map region → told ≡ Accepted dropped word → InsertReady sets region
+module _ (side : Side) (known pages : ℕ) (unit : Bool) where
+  pub insert-ready : (sets map : List ℕ) (region : Region) {told : Answer} {dropped word : ℕ} → Sized pages sets →
+      told ≡ insertAnswer side known pages unit sets map region → told ≡ Accepted dropped word → InsertReady sets region
   unfolding insertAnswer
   insert-ready sets map region s e a =
       let (d, w, early, rest) = then-passed (regionEarly known pages region) _ (sym e ∙ a) in
       record { placed = region-placed (s .few-pages) (region-passed known pages region early); sets-length = s .sets-length }
 
-  pub remove-ready : (sets pairs map memory : List ℕ) (region : Region) {told : Answer} {dropped word : ℕ} → RemoveSized pages unitCount sets memory →
-      told ≡ removeMay side known pages units unitCount sets pairs map region → told ≡ Accepted dropped word → RemoveReady sets memory region
+  pub remove-ready : (sets pairs map memory : List ℕ) (region : Region) {told : Answer} {dropped word : ℕ} → RemoveSized pages sets memory →
+      told ≡ removeMay side known pages unit sets pairs map region → told ≡ Accepted dropped word → RemoveReady sets memory region
   unfolding removeMay
   remove-ready sets pairs map memory region s e a =
       let (d, w, early, rest) = then-passed (regionEarly known pages region) _ (sym e ∙ a) in

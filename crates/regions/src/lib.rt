@@ -8,11 +8,9 @@ use numbers::Answer;
 use numbers::Refusal;
 use numbers::Region;
 use numbers::Side;
-use numbers::UNITS;
 use numbers::VMS;
 use numbers::accept;
 use numbers::refuse;
-use units::Unit;
 
 mod edits; // edits.rt: what the deeds change
 mod searches; // searches.rt: the lowest page of a region that fails a check
@@ -35,25 +33,24 @@ pub fn region_early(known: u64, pages: u64, region: Region) -> Answer
 
 // ---- Operations 11 and 13: insert.
 
-// Whether a region may be inserted.
+// Whether a region may be inserted; `unit`: whether it is a unit's for this side.
 pub fn insert_answer(
     side: Side,
     known: u64,
     pages: u64,
-    units: [Unit; UNITS],
-    unit_count: u64,
+    unit: bool,
     sets: &[u64],
     map: &[u64],
     region: Region,
 ) -> Answer
-    requires { ⌜ Sized pages «unit_count» (now sets) ⌝ }
-    ensures { λ r. ⌜ r ≡ insertAnswer side known pages units «unit_count» (now (sets .entry)) (now (map .entry)) region ⌝ }
+    requires { ⌜ Sized pages (now sets) ⌝ }
+    ensures { λ r. ⌜ r ≡ insertAnswer side known pages unit (now (sets .entry)) (now (map .entry)) region ⌝ }
 {
     let early = region_early(known, pages, region);
     if let Answer::Refused { refusal, index } = early {
         return Answer::Refused { refusal, index };
     }
-    if !units::assignable(units, unit_count, side, region) {
+    if !unit {
         return refuse(Refusal::NoSuchUnit, 0);
     }
     let taken = searches::lowest_not_free(side, sets, region);
@@ -88,18 +85,17 @@ pub fn insert_region(
     side: Side,
     known: u64,
     pages: u64,
-    units: [Unit; UNITS],
-    unit_count: u64,
+    unit: bool,
     sets: &mut [u64],
     map: &mut [u64],
     walker: &mut [u64],
     region: Region,
 ) -> Answer
-    requires { ⌜ Sized pages «unit_count» (now sets) ⌝ }
-    ensures { λ r. ⌜ InsertLeft (insertAnswer side known pages units «unit_count» (now (sets .entry)) (now (map .entry)) region)
+    requires { ⌜ Sized pages (now sets) ⌝ }
+    ensures { λ r. ⌜ InsertLeft (insertAnswer side known pages unit (now (sets .entry)) (now (map .entry)) region)
         (now (sets .entry)) (now (map .entry)) (now (walker .entry)) side region r (now (sets .exit)) (now (map .exit)) (now (walker .exit)) ⌝ }
 {
-    let answer = insert_answer(side, known, pages, units, unit_count, sets, map, region);
+    let answer = insert_answer(side, known, pages, unit, sets, map, region);
     if let Answer::Refused { refusal, index } = answer {
         return Answer::Refused { refusal, index };
     }
@@ -114,21 +110,20 @@ pub fn remove_may(
     side: Side,
     known: u64,
     pages: u64,
-    units: [Unit; UNITS],
-    unit_count: u64,
+    unit: bool,
     sets: &[u64],
     pairs: &[u64],
     map: &[u64],
     region: Region,
 ) -> Answer
-    requires { ⌜ Sized pages «unit_count» (now sets) ⌝ }
-    ensures { λ r. ⌜ r ≡ removeMay side known pages units «unit_count» (now (sets .entry)) (now (pairs .entry)) (now (map .entry)) region ⌝ }
+    requires { ⌜ Sized pages (now sets) ⌝ }
+    ensures { λ r. ⌜ r ≡ removeMay side known pages unit (now (sets .entry)) (now (pairs .entry)) (now (map .entry)) region ⌝ }
 {
     let early = region_early(known, pages, region);
     if let Answer::Refused { refusal, index } = early {
         return Answer::Refused { refusal, index };
     }
-    if !units::assignable(units, unit_count, side, region) {
+    if !unit {
         return refuse(Refusal::NoSuchUnit, 0);
     }
     let missing = searches::lowest_not_held(side, sets, region);
@@ -172,8 +167,7 @@ pub fn remove_region(
     side: Side,
     known: u64,
     pages: u64,
-    units: [Unit; UNITS],
-    unit_count: u64,
+    unit: bool,
     sets: &mut [u64],
     pairs: &[u64],
     map: &mut [u64],
@@ -182,22 +176,12 @@ pub fn remove_region(
     memory: &mut [u64],
     region: Region,
 ) -> Answer
-    requires { ⌜ RemoveSized pages «unit_count» (now sets) (now memory) ⌝ }
-    ensures { λ r. ⌜ RemoveLeft (removeAnswer side known pages units «unit_count» (now (sets .entry)) (now (pairs .entry)) (now (map .entry)) (now (cache .entry)) region)
+    requires { ⌜ RemoveSized pages (now sets) (now memory) ⌝ }
+    ensures { λ r. ⌜ RemoveLeft (removeAnswer side known pages unit (now (sets .entry)) (now (pairs .entry)) (now (map .entry)) (now (cache .entry)) region)
         (now (sets .entry)) (now (map .entry)) (now (walker .entry)) (now (cache .entry)) (now (memory .entry)) side region r
         (now (sets .exit)) (now (map .exit)) (now (walker .exit)) (now (cache .exit)) (now (memory .exit)) ⌝ }
 {
-    let may = remove_may(
-        side,
-        known,
-        pages,
-        units,
-        unit_count,
-        sets,
-        pairs,
-        map,
-        region,
-    );
+    let may = remove_may(side, known, pages, unit, sets, pairs, map, region);
     if let Answer::Refused { refusal, index } = may {
         return Answer::Refused { refusal, index };
     }

@@ -2,13 +2,15 @@
 ghost use Prim.Native.Nat.{_<_};
 ghost use mathlib.Core.Path.{_≡_};
 ghost use Rattle.batch.specs.Room.{BATCH, Orderly};
+use batch::End;
 use batch::Phase;
 use batch::ROWS_ROOM;
 use batch::UNITS_KEPT;
 use batch::UNITS_ROOM;
 use batch::Work;
-use batch::moved;
+use batch::ended;
 use batch::print;
+use batch::written;
 use numbers::ROW_NUMBERS;
 use script::Line;
 use start::UNIT_NUMBERS;
@@ -51,7 +53,7 @@ pub fn in_place(work: Work, said: Line) -> Line {
             later_line(said)
         }
         Phase::Begun => later_line(said),
-        Phase::Ended => Line::Blank,
+        Phase::Ended(_) => Line::Blank,
     }
 }
 
@@ -90,9 +92,8 @@ fn new_box(work: Work, pages: u64, base: u64, count: u64) -> Work
 fn not_understood(work: Work) -> Work
     ensures { λ r. ⌜ (r .units ≡ work .units) × (r .rows ≡ work .rows) ⌝ }
 {
-    let machine = work.machine;
-    print::print_not_understood(work.line);
-    moved(work, Phase::Ended, machine, work.rows)
+    let wrote = print::print_not_understood(work.line);
+    written(ended(work, End::NotUnderstood), wrote)
 }
 
 fn keep_unit(

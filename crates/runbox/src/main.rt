@@ -1,15 +1,19 @@
-// Runs a box script: reads it from standard input, in pieces, and writes a line for a line (docs/MACHINE.md, 11).
+// Runs a box script: reads it from standard input, in pieces, and writes a line for a line (docs/MACHINE.md, 11). What ended
+// it is one line more, on standard error.
 mod lines;
 
 ghost use Rattle.batch.specs.Room.{Orderly};
 use batch::CACHE_WORDS;
+use batch::End;
 use batch::MEMORY_WORDS;
+use batch::Phase;
 use batch::ROWS_ROOM;
 use batch::SETS_WORDS;
 use batch::UNITS_ROOM;
 use batch::Work;
 use batch::carry::query;
 use batch::carry::settle;
+use libc::STDERR_FILENO;
 use libc::STDIN_FILENO;
 use numbers::ENTRIES;
 use numbers::PAIRS;
@@ -17,6 +21,8 @@ use script::Line;
 use script::Reader;
 
 const LF: u8 = 10;
+// A bad line is given up when so many bytes have followed its first bad one without a line end.
+const BAD_BYTES: usize = 65536;
 
 // One line of the script, after what must be answered before it.
 fn line(
@@ -54,8 +60,11 @@ fn line(
         memory,
         rows,
     );
+    if batch::has_ended(ready) {
+        return ready;
+    }
     if let Line::Free = placed {
-        query(
+        return query(
             ready,
             sets,
             pairs,
@@ -71,13 +80,34 @@ fn line(
     lines::take(ready, placed, units, rows)
 }
 
-// Where the reading has come to: the box, and the line under way.
+// Where the reading has come to: the box, the line under way, and how many of its bytes came since it was bad, the first bad
+// one among them.
 struct Place {
     work: Work,
     reader: Reader,
+    bad: usize,
 }
 
-// One piece of the script, byte by byte.
+// The count of bad bytes after one more of the line.
+fn bad_after(bad: usize, reader: Reader) -> usize {
+    if !script::is_bad(reader) {
+        return 0;
+    }
+    if bad > BAD_BYTES {
+        return bad;
+    }
+    bad + 1
+}
+
+// Whether the line ends with the byte, or is given up at it.
+fn ends(byte: u8, bad: usize) -> bool {
+    if byte == LF {
+        return true;
+    }
+    bad > BAD_BYTES
+}
+
+// One piece of the script, byte by byte. A line that was given up ends the reading, so that what is left of it counts as none.
 fn piece(
     place: Place,
     bytes: &[u8],
@@ -98,11 +128,16 @@ fn piece(
 {
     let mut work = place.work;
     let mut reader = place.reader;
+    let mut bad = place.bad;
     let mut i = 0;
     while i < bytes.len() {
         let byte = bytes[i];
         i += 1;
-        if byte == LF {
+        if byte != LF {
+            reader = script::feed(reader, byte);
+            bad = bad_after(bad, reader);
+        }
+        if ends(byte, bad) {
             let said = script::line_end(reader);
             work = line(
                 work,
@@ -120,11 +155,53 @@ fn piece(
                 rows,
             );
             reader = script::line_start();
-        } else {
-            reader = script::feed(reader, byte);
+            bad = 0;
         }
     }
-    Place { work, reader }
+    Place { work, reader, bad }
+}
+
+// After a piece, rows that wait are carried out and written: whoever told them may wait for their answers. A box without rows
+// goes on waiting, since units may follow.
+fn pause(
+    place: Place,
+    units: &mut [u64; UNITS_ROOM],
+    sets: &mut [u64; SETS_WORDS],
+    pairs: &mut [u64; PAIRS],
+    cpu_map: &mut [u64; ENTRIES],
+    cpu_walker: &mut [u64; ENTRIES],
+    cpu_cache: &mut [u64; CACHE_WORDS],
+    dma_map: &mut [u64; ENTRIES],
+    dma_walker: &mut [u64; ENTRIES],
+    dma_cache: &mut [u64; CACHE_WORDS],
+    memory: &mut [u64; MEMORY_WORDS],
+    rows: &mut [u64; ROWS_ROOM],
+) -> Place
+    requires { ⌜ Orderly (place .work .units) (place .work .rows) ⌝ }
+    ensures { λ r. ⌜ Orderly (r .work .units) (r .work .rows) ⌝ }
+{
+    let told = place.work;
+    let reader = place.reader;
+    let work = settle(
+        told,
+        batch::rows_wait(told),
+        units,
+        sets,
+        pairs,
+        cpu_map,
+        cpu_walker,
+        cpu_cache,
+        dma_map,
+        dma_walker,
+        dma_cache,
+        memory,
+        rows,
+    );
+    Place {
+        work,
+        reader,
+        bad: place.bad,
+    }
 }
 
 // The last line, with or without a line end, and all that still waits.
@@ -141,7 +218,7 @@ fn finish(
     dma_cache: &mut [u64; CACHE_WORDS],
     memory: &mut [u64; MEMORY_WORDS],
     rows: &mut [u64; ROWS_ROOM],
-)
+) -> Work
     requires { ⌜ Orderly (place .work .units) (place .work .rows) ⌝ }
 {
     let work = place.work;
@@ -176,10 +253,25 @@ fn finish(
         dma_cache,
         memory,
         rows,
-    );
+    )
 }
 
-// Piece by piece, until the input ends or a line is not understood. A loop has to end and nothing says that the input does, so
+// The place where nothing more could be read.
+fn unread(place: Place) -> Place
+    requires { ⌜ Orderly (place .work .units) (place .work .rows) ⌝ }
+    ensures { λ r. ⌜ Orderly (r .work .units) (r .work .rows) ⌝ }
+{
+    let reader = place.reader;
+    let told = place.work;
+    let work = batch::ended(told, End::CannotRead);
+    Place {
+        work,
+        reader,
+        bad: place.bad,
+    }
+}
+
+// Piece by piece, until the input ends or nothing more counts. A loop has to end and nothing says that the input does, so
 // this one counts its turns down from a number that no run uses up.
 fn run(
     units: &mut [u64; UNITS_ROOM],
@@ -200,18 +292,36 @@ fn run(
     let mut place = Place {
         work,
         reader: script::line_start(),
+        bad: 0,
     };
     let mut bytes = io::large_buffer();
     let mut turns = u64::MAX;
     while turns > 0 {
         let got = libc::read(STDIN_FILENO, &mut bytes);
+        if got < 0 {
+            return unread(place);
+        }
         let count = io::count(got, &bytes);
         if count == 0 {
             return place;
         }
-        place = piece(
+        let told = piece(
             place,
             &bytes[..count],
+            units,
+            sets,
+            pairs,
+            cpu_map,
+            cpu_walker,
+            cpu_cache,
+            dma_map,
+            dma_walker,
+            dma_cache,
+            memory,
+            rows,
+        );
+        place = pause(
+            told,
             units,
             sets,
             pairs,
@@ -231,6 +341,26 @@ fn run(
         turns -= 1;
     }
     place
+}
+
+// What ended the program, of which the wrapper makes an exit status.
+fn print_end(work: Work) {
+    let phase = work.phase;
+    let Phase::Ended(end) = phase else {
+        io::write_all(STDERR_FILENO, b"runbox: ended\n");
+        return;
+    };
+    match end {
+        End::NotUnderstood => {
+            io::write_all(STDERR_FILENO, b"runbox: not understood\n");
+        }
+        End::CannotRead => {
+            io::write_all(STDERR_FILENO, b"runbox: cannot read\n");
+        }
+        End::CannotWrite => {
+            io::write_all(STDERR_FILENO, b"runbox: cannot write\n");
+        }
+    }
 }
 
 fn main() {
@@ -258,7 +388,7 @@ fn main() {
         &mut memory,
         &mut rows,
     );
-    finish(
+    let work = finish(
         place,
         &mut units,
         &mut sets,
@@ -272,4 +402,5 @@ fn main() {
         &mut memory,
         &mut rows,
     );
+    print_end(work);
 }

@@ -22,7 +22,7 @@ use Rattle.scenes.proofs.Refusals.{_▸_, reached, accepting, answerIn,
 use Rattle.model.proofs.LedgerKept.{Named, by-claim, by-entry, by-pair, by-port}
 use Rattle.model.proofs.OneRoute.{route-of}
 use Rattle.model.proofs.FullMaps.{mappingsFrom, withFullMaps, full-maps-valid}
-use Rattle.model.proofs.AnswerNumbers.{isIn, refusalLists, listed}
+use Rattle.model.proofs.AnswerNumbers.{isIn, refusalLists, listed, operations}
 
 -- ---- two causes: the way to a state, a row for which both hold there, rows that end the first, and a row that meets the second
 pub record Order : Type 0 where
@@ -385,7 +385,7 @@ abbrev pub without : List ℕ → List ℕ → List ℕ
 without shown [] = []
 without shown (l ∷ ls) = if isIn shown l then without shown ls else l ∷ without shown ls
 
-pub neighbours-shown : without (map linkOf (orders ++ packedOrders)) (linksOf 1 26) ≡ link 1 2 5 ∷ link 2 4 13 ∷ link 21 9 16 ∷ link 22 9 16 ∷ link 23 9 16 ∷ link 24 9 16 ∷ []
+pub neighbours-shown : without (map linkOf (orders ++ packedOrders)) (linksOf 1 operations) ≡ link 1 2 5 ∷ link 2 4 13 ∷ link 21 9 16 ∷ link 22 9 16 ∷ link 23 9 16 ∷ link 24 9 16 ∷ []
 unfolding refusalLists
 neighbours-shown = refl
 

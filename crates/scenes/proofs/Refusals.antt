@@ -610,7 +610,7 @@ isShown operation number = isIn (codesOf (scenes ++ fullScenes)) (code operation
 abbrev pub isListed : ℕ → ℕ → Bool
 isListed operation number = isIn (0 ∷ listed operation) number
 
-pub none-left-out : numbersOf isShown 1 26 ≡ numbersOf isListed 1 26
+pub none-left-out : numbersOf isShown 1 operations ≡ numbersOf isListed 1 operations
 unfolding refusalLists
 none-left-out = refl
 

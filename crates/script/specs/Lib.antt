@@ -3,3 +3,4 @@ pub mod Lines
 pub mod Steps
 pub mod WordLaws
 pub mod LineLaws
+pub mod BadLaws

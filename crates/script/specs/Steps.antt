@@ -180,3 +180,21 @@ lineEnd r = textEnd (r .text)
 abbrev pub fedAll : Reader → List ℕ → Reader
 fedAll r [] = r
 fedAll r (b ∷ bytes) = fedAll (fedWith r b) bytes
+
+-- ---- a byte came with which the line cannot be understood
+abbrev pub isSpoilt : Kind → Bool
+isSpoilt NoWords = false
+isSpoilt BoxLine = false
+isSpoilt UnitLine = false
+isSpoilt RowLine = false
+isSpoilt FreeLine = false
+isSpoilt BadLine = true
+
+abbrev pub isStrange : Part → Bool
+isStrange Nothing = false
+isStrange (Digits n) = false
+isStrange (Letters w rest) = false
+isStrange Strange = true
+
+abbrev pub isBad : Reader → Bool
+isBad r = if isSpoilt (r .text .words .kind) then true else isStrange (r .text .part)

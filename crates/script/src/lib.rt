@@ -6,7 +6,7 @@ ghost use mathlib.Core.Path.{_≡_};
 ghost use mathlib.Core.Bool.{true};
 ghost use Prim.Native.Nat.{_-_, _<_};
 ghost use Rattle.script.specs.Lines.{isDigit, isBlank, takesIdle, lineOf};
-ghost use Rattle.script.specs.Steps.{firstPart, moreDigits, moreLetters, lengthened, begun, said, spoilt, pushed, isEmpty, isRow, opened, withNumber, mayIdle, withIdle, added, ended, lineFrom, taken, arrived, fedWith, lineStart, lineEnd};
+ghost use Rattle.script.specs.Steps.{firstPart, moreDigits, moreLetters, lengthened, begun, said, spoilt, pushed, isEmpty, isRow, opened, withNumber, mayIdle, withIdle, added, ended, lineFrom, taken, arrived, fedWith, lineStart, lineEnd, isSpoilt, isStrange, isBad};
 
 // ---- Bytes and numbers that the format names.
 
@@ -506,6 +506,44 @@ pub fn feed(reader: Reader, byte: u8) -> Reader
         return arrived(taken(text, RETURN), byte);
     }
     arrived(text, byte)
+}
+
+fn is_spoilt(kind: Kind) -> bool
+    ensures { λ r. ⌜ r ≡ isSpoilt kind ⌝ }
+{
+    match kind {
+        Kind::NoWords => false,
+        Kind::BoxLine => false,
+        Kind::UnitLine => false,
+        Kind::RowLine => false,
+        Kind::FreeLine => false,
+        Kind::BadLine => true,
+    }
+}
+
+fn is_strange(part: Part) -> bool
+    ensures { λ r. ⌜ r ≡ isStrange part ⌝ }
+{
+    match part {
+        Part::Nothing => false,
+        Part::Digits(_) => false,
+        Part::Letters { word: _, rest: _ } => false,
+        Part::Strange => true,
+    }
+}
+
+// Whether a byte came with which the line cannot be understood, however it goes on.
+pub fn is_bad(reader: Reader) -> bool
+    ensures { λ r. ⌜ r ≡ isBad reader ⌝ }
+{
+    let text = reader.text;
+    let words = text.words;
+    let kind = words.kind;
+    let part = text.part;
+    if is_spoilt(kind) {
+        return true;
+    }
+    is_strange(part)
 }
 
 // What the line says, now that it ends.

@@ -13,7 +13,7 @@ use Rattle.numbers.specs.declared.Operation.{Operation}
 use Rattle.table.specs.Loops.{Repeating, repeat-start, repeat-next, repeat-end}
 use Rattle.model.specs.State.{State, Tables, Route}
 use Rattle.model.specs.declared.Fixed.{Fixed}
-use Rattle.sides.specs.Sides.{Fit}
+use Rattle.operate.specs.Fit.{Fit}
 use Rattle.numbers.specs.declared.Answer.{Answer}
 use Rattle.numbers.specs.declared.Answer.the-variants.{Accepted, Refused}
 use Rattle.numbers.specs.declared.Refusal.{Refusal}
@@ -110,7 +110,8 @@ pub fit-kept :
     (fixed : Fixed) (sets memory sets′ memory′ : List ℕ) →
     Fit fixed sets memory → length sets′ ≡ length sets → length memory′ ≡ length memory → Fit fixed sets′ memory′
 fit-kept fixed sets memory sets′ memory′ f l n =
-    record { few-pages = f .few-pages; few-units = f .few-units; sets-length = l ∙ f .sets-length; memory-length = n ∙ f .memory-length }
+    let s = f .sized in
+    record { sized = record { few-pages = s .few-pages; sets-length = l ∙ s .sets-length; memory-length = n ∙ s .memory-length }; few-units = f .few-units }
 
 -- ---- the whole sequence, from what its shape said
 pub shape-room : (rows room : ℕ) (a : Answer) {dropped word : ℕ} → a ≡ shapeOf rows room → a ≡ Accepted dropped word → rows / ROW-NUMBERS * ANSWER-NUMBERS ≤ room

@@ -6,7 +6,7 @@ ghost use Rattle.numbers.specs.Limits.{ROW-NUMBERS, ANSWER-NUMBERS};
 ghost use Rattle.numbers.specs.Meaning.{answerNumbers};
 ghost use Rattle.model.specs.Header.{headerOf, stateOf};
 ghost use Rattle.model.specs.Sequence.{writeAt, turn, after, sequence};
-ghost use Rattle.sides.specs.Sides.{Fit};
+ghost use Rattle.operate.specs.Fit.{Fit};
 ghost use Rattle.sequence.specs.Run.{progress, ran, shapeOf};
 use model::Fixed;
 use model::Machine;

@@ -1,5 +1,6 @@
 -- What each operation of a side leaves, list by list: a list that an accepted operation replaces is `kept` by a refused one.
 use Prim.Native.Nat.{ℕ}
+use mathlib.Core.Bool.{Bool}
 use mathlib.Core.List.{List, [], _∷_}
 use mathlib.Core.Path.{_≡_, refl}
 use Rattle.numbers.specs.Limits.{READ, WRITE}
@@ -12,7 +13,7 @@ use Rattle.numbers.specs.declared.Target.{Target}
 use Rattle.numbers.specs.declared.VmId.{VmId}
 use Rattle.numbers.specs.declared.GuestPage.{GuestPage}
 use Rattle.numbers.specs.declared.PhysPage.{PhysPage}
-use Rattle.model.specs.State.{Setup, withMaps, withCache, withPorts}
+use Rattle.model.specs.State.{withMaps, withCache, withPorts}
 use Rattle.model.specs.Effect.{Place, Store, reads, writes, clears, quiet, kept, apply, clearedPages}
 use Rattle.model.specs.Maps.{mapAnswer, mapTable, unmapAnswer, unmapTable, withoutSlots}
 use Rattle.model.specs.Regions.{insertAnswer, insertSets, insertTable, removeAnswer, removeSets, removeTable, removeClears}
@@ -90,64 +91,64 @@ module _ (sets map walker cache : List ℕ) (hand : ℕ) (ports memory : List �
   write-change (Refused refusal index) vm stores = refl
 
   -- ---- each operation
-  module _ (side : Side) (setup : Setup) (known : ℕ) (pairs : List ℕ) where
+  module _ (side : Side) (pages : ℕ) (unit : Bool) (known : ℕ) (pairs : List ℕ) where
     pub map-arm :
-        (vm : VmId) (guest : GuestPage) (page : PhysPage) (access generation : ℕ) → let a = mapAnswer side known (setup .pages) sets pairs map cache (vm .0) (guest .0) (page .0) access generation in
+        (vm : VmId) (guest : GuestPage) (page : PhysPage) (access generation : ℕ) → let a = mapAnswer side known pages sets pairs map cache (vm .0) (guest .0) (page .0) access generation in
         sideStepped a (sight sets (kept a map (mapTable map (vm .0) (guest .0) (page .0) access generation)) (kept a walker (mapTable walker (vm .0) (guest .0) (page .0) access generation)) (kept a cache (withoutSlots cache (vm .0) (guest .0))) hand ports memory)
-        ≡ sideStep side setup known pairs before (MapPage vm guest page access generation)
+        ≡ sideStep side pages unit known pairs before (MapPage vm guest page access generation)
     unfolding sideStep
     map-arm vm guest page access generation = maps-change _ _ _ _
 
     pub unmap-arm :
         (vm : VmId) (guest : GuestPage) → let a = unmapAnswer known map cache (vm .0) (guest .0) in
         sideStepped a (sight sets (kept a map (unmapTable map (vm .0) (guest .0))) (kept a walker (unmapTable walker (vm .0) (guest .0))) (kept a cache (withoutSlots cache (vm .0) (guest .0))) hand ports memory)
-        ≡ sideStep side setup known pairs before (UnmapPage vm guest)
+        ≡ sideStep side pages unit known pairs before (UnmapPage vm guest)
     unfolding sideStep
     unmap-arm vm guest = maps-change _ _ _ _
 
     pub insert-arm :
-        (region : Region) → let a = insertAnswer side known (setup .pages) (setup .units) (setup .unitCount) sets map region in
+        (region : Region) → let a = insertAnswer side known pages unit sets map region in
         sideStepped a (sight (kept a sets (insertSets side sets region)) (kept a map (insertTable map region)) (kept a walker (insertTable walker region)) cache hand ports memory)
-        ≡ sideStep side setup known pairs before (InsertRegion region)
+        ≡ sideStep side pages unit known pairs before (InsertRegion region)
     unfolding sideStep
     insert-arm region = insert-change _ _ _ _
 
     pub remove-arm :
-        (region : Region) → let a = removeAnswer side known (setup .pages) (setup .units) (setup .unitCount) sets pairs map cache region in
+        (region : Region) → let a = removeAnswer side known pages unit sets pairs map cache region in
         sideStepped a (sight (kept a sets (removeSets side sets region)) (kept a map (removeTable map region)) (kept a walker (removeTable walker region)) (kept a cache (removeTable cache region)) hand ports (apply (kept a quiet (clears (removeClears side sets region))) memory))
-        ≡ sideStep side setup known pairs before (RemoveRegion region)
+        ≡ sideStep side pages unit known pairs before (RemoveRegion region)
     unfolding sideStep
     remove-arm region = remove-change _ _ _ _ _ _
 
     pub give-arm :
         (port : ℕ) (target : Target) → let a = portAnswer known port target in
-        sideStepped a (sight sets map walker cache hand (kept a ports (portPorts ports port target)) memory) ≡ sideStep side setup known pairs before (GivePort port target)
+        sideStepped a (sight sets map walker cache hand (kept a ports (portPorts ports port target)) memory) ≡ sideStep side pages unit known pairs before (GivePort port target)
     unfolding sideStep
     give-arm port target = ports-change _ _
 
     pub fill-arm :
         (port : ℕ) (guest : GuestPage) → let a = fillAnswer ports walker port (guest .0) in
         sideStepped a (sight sets map walker (kept a cache (fillCache cache hand ports walker port (guest .0))) (kept a hand (fillHand cache hand ports port (guest .0))) ports memory)
-        ≡ sideStep side setup known pairs before (FillSlot port guest)
+        ≡ sideStep side pages unit known pairs before (FillSlot port guest)
     unfolding sideStep
     fill-arm port guest = fill-change _ _ _
 
     pub empty-arm :
         (slot : ℕ) → let a = emptyAnswer slot in
-        sideStepped a (sight sets map walker (kept a cache (emptyCache cache slot)) hand ports memory) ≡ sideStep side setup known pairs before (EmptySlot slot)
+        sideStepped a (sight sets map walker (kept a cache (emptyCache cache slot)) hand ports memory) ≡ sideStep side pages unit known pairs before (EmptySlot slot)
     unfolding sideStep
     empty-arm slot = empty-change _ _
 
     pub read-arm :
         (port : ℕ) (guest : GuestPage) (word : ℕ) → let a = accessAnswer ports cache walker READ port (guest .0) word in
         sideStepped (answerWith (kept a quiet (reads (vmOn ports port) (accessPlace ports cache walker port (guest .0) word ∷ []))) memory a) before
-        ≡ sideStep side setup known pairs before (ReadWord port guest word)
+        ≡ sideStep side pages unit known pairs before (ReadWord port guest word)
     unfolding sideStep
     read-arm port guest word = read-change (accessAnswer ports cache walker READ port (guest .0) word) _ _
 
     pub write-arm :
         (port : ℕ) (guest : GuestPage) (word value : ℕ) → let a = accessAnswer ports cache walker WRITE port (guest .0) word in
         sideStepped a (sight sets map walker cache hand ports (apply (kept a quiet (writes (vmOn ports port) (record { place = accessPlace ports cache walker port (guest .0) word; value = value } ∷ []))) memory))
-        ≡ sideStep side setup known pairs before (WriteWord port guest word value)
+        ≡ sideStep side pages unit known pairs before (WriteWord port guest word value)
     unfolding sideStep
     write-arm port guest word value = write-change _ _ _

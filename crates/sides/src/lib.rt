@@ -1,8 +1,6 @@
 // An operation of one side, over the tables of that side alone: what stands on the other is not handed here.
 ghost use mathlib.Core.Path.{_≡_};
-ghost use Rattle.model.specs.Header.{setupOf};
-ghost use Rattle.sides.specs.Sides.{sight, sideStepped, sideStep, Fit};
-use model::Fixed;
+ghost use Rattle.sides.specs.Sides.{sight, sideStepped, sideStep, Sized};
 use model::SideRegisters;
 use numbers::Answer;
 use numbers::Side;
@@ -14,10 +12,11 @@ pub struct SideDone {
     pub registers: SideRegisters,
 }
 
-// Each arm hands on the slices that it touches; a region operation alone copies the units.
+// Each arm hands on the slices that it touches. Of what start fixed it has the pages, and whether the region named is a unit's.
 pub fn side_step(
     side: Side,
-    fixed: Fixed,
+    pages: u64,
+    unit: bool,
     known: u64,
     registers: SideRegisters,
     sets: &mut [u64],
@@ -28,9 +27,9 @@ pub fn side_step(
     memory: &mut [u64],
     operation: SideOperation,
 ) -> SideDone
-    requires { ⌜ Fit fixed (now sets) (now memory) ⌝ }
+    requires { ⌜ Sized pages (now sets) (now memory) ⌝ }
     ensures { λ r. ⌜ sideStepped (r .answer) (sight (now (sets .exit)) (now (map .exit)) (now (walker .exit)) (now (cache .exit)) (r .registers .hand) (r .registers .ports) (now (memory .exit)))
-        ≡ sideStep side (setupOf fixed) known (now (pairs .entry)) (sight (now (sets .entry)) (now (map .entry)) (now (walker .entry)) (now (cache .entry)) (registers .hand) (registers .ports) (now (memory .entry))) operation ⌝ }
+        ≡ sideStep side pages unit known (now (pairs .entry)) (sight (now (sets .entry)) (now (map .entry)) (now (walker .entry)) (now (cache .entry)) (registers .hand) (registers .ports) (now (memory .entry))) operation ⌝ }
 {
     match operation {
         SideOperation::MapPage {
@@ -43,7 +42,7 @@ pub fn side_step(
             let answer = maps::map_page(
                 side,
                 known,
-                fixed.pages,
+                pages,
                 sets,
                 pairs,
                 map,
@@ -68,13 +67,11 @@ pub fn side_step(
             }
         }
         SideOperation::InsertRegion(region) => {
-            let units = fixed.units;
             let answer = regions::insert_region(
                 side,
                 known,
-                fixed.pages,
-                units,
-                fixed.unit_count,
+                pages,
+                unit,
                 sets,
                 map,
                 walker,
@@ -86,13 +83,11 @@ pub fn side_step(
             }
         }
         SideOperation::RemoveRegion(region) => {
-            let units = fixed.units;
             let answer = regions::remove_region(
                 side,
                 known,
-                fixed.pages,
-                units,
-                fixed.unit_count,
+                pages,
+                unit,
                 sets,
                 pairs,
                 map,

@@ -13,10 +13,10 @@ use prog.Wp.{Heap}
 use ghost.Atoms.{Atoms}
 use types.Kit.{Given}
 use denote.RattleType.{RattleType}
-use denote.Array.{Array, array-makes, array-lawful}
+use denote.Array.{Array, array-vals, array-makes, array-lawful}
 use denote.Builtin.{u64}
 use denote.Laws.{Is, Makes}
-use denote.Plain.{uint-makes, uint-lawful}
+use denote.Plain.{uint-vals, uint-makes, uint-lawful}
 use denote.Ref.{RefT}
 use denote.Slice.{sliceVal}
 use denote.Struct.Laws as LL
@@ -52,6 +52,10 @@ pub fits : (s : Slot) → Is R s (T′.lowered s ∷ []) → Fits s
 fits s g =
     let owed = LL.owed T.the-type T′.the-laws s (T′.lowered s ∷ []) g in
     (owed .0 .1, owed .1 .0 .1, owed .1 .1 .0 .1, owed .1 .1 .1 .0 .1)
+
+-- the machine value of 64 words
+abbrev pub row-vals : List ℕ → List Val
+row-vals = array-vals (uint-vals w64)
 
 -- the words of a struct's field, and that they are the words themselves
 abbrev pub field-words : List ℕ → List ℕ

@@ -13,7 +13,7 @@ use Rattle.numbers.specs.Decides.{Decides}
 use Rattle.numbers.specs.DecidesLaws.{decides-as, decides-and, decides-equal, decides-less, refutes}
 use Rattle.numbers.specs.Limits.{SLOTS, PORTS, VMS, GUEST-PAGES, PAGES, ACCESSES, GENERATIONS}
 use Rattle.numbers.specs.Meaning.{refusalNumber}
-use Rattle.numbers.specs.Packing.{PORT-FIELD, VM-FIELD, GUEST-FIELD, GUEST-BIT, entry, slotWord, slotKey, portOf, vmOf, guestOf, entryOf, filledOf, keyOf, WordFits}
+use Rattle.numbers.specs.Packing.{PORT-FIELD, VM-FIELD, GUEST-FIELD, entry, slotWord, slotKey, portOf, vmOf, guestOf, entryOf, filledOf, keyOf, WordFits}
 use Rattle.numbers.specs.PackingLaws.{word-port, word-filled, word-key, word-whole, key-whole, key-vm, key-guest, parts-fit}
 use Rattle.numbers.specs.declared.Refusal.the-variants.{StateNotValid, OutOfRange}
 use Rattle.table.specs.Scan.{lowest, lowestFrom}
@@ -26,8 +26,8 @@ use Rattle.pages.specs.BitLaws.{below-or}
 use Rattle.model.specs.EarlyLaws.{both}
 use Rattle.model.specs.Views.{isVm, isGuest, isAccess, isGeneration, isPort, isSlot, isPage}
 use Rattle.slots.specs.Calls.{holds, findSlot, HoldsAt, Searched, lowest-held, none-held, Change, change, changeAt, fillInRange, fillSlot, fillWord, emptySlot, emptyWord}
-use Rattle.slots.specs.SlotLaws.{slot-of-word, length-laid, word-laid, length-over, slot-over, same-loaded}
-use Rattle.slots.specs.Slots.{wordOf, slotOf, empty, AllFit, laid, loaded, stored}
+use Rattle.slots.specs.SlotLaws.{slot-of-word, turns-there, length-laid, word-laid, stored-whole, stored-none}
+use Rattle.slots.specs.Slots.{wordOf, slotOf, empty, turnsOf, Fitting, laid, loaded, stored}
 use Rattle.slots.specs.declared.Slot.{Slot}
 
 -- ---- the lowest number that passes a test
@@ -162,44 +162,50 @@ laid-beyond : (slots : List Slot) (k i : ℕ) → k ≤ i → i < SLOTS → getD
 laid-beyond slots zero i h l = getD-replicate SLOTS i 0 0 l
 laid-beyond slots (suc k) i h l = getD-set-other (laid slots k) k i (wordOf (getD slots k empty)) 0 (λ e. omega arith) ∙ laid-beyond slots k i (omega arith) l
 
-module _ (slots : List Slot) (fit : AllFit slots) where
-  loaded-slot : (i : ℕ) → i < SLOTS → slotOf (getD (loaded slots) i 0) ≡ getD slots i empty
-  loaded-slot i l =
-      ⊎-elim (λ h. ap slotOf (word-laid slots (length slots) i h l) ∙ slot-of-word (getD slots i empty) (fit i h))
-      (λ h. ap slotOf (laid-beyond slots (length slots) i h l) ∙ sym (List·getD-eq-default slots empty h))
-      (below-or i (length slots))
+module _ (slots : List Slot) (wanted : ℕ) (there : length slots ≡ wanted) (fit : Fitting wanted slots) where
+  loaded-slot : (i : ℕ) → i < SLOTS → slotOf (getD (loaded wanted slots) i 0) ≡ getD slots i empty
+  loaded-slot i l = ⊎-elim inside beyond (below-or i (turnsOf (length slots) wanted))
+    where
+      inside : i < turnsOf (length slots) wanted → slotOf (getD (loaded wanted slots) i 0) ≡ getD slots i empty
+      inside h = ap slotOf (word-laid slots (turnsOf (length slots) wanted) i h l) ∙ slot-of-word (getD slots i empty) (fit i h)
 
-  pub find-loaded : (ws : List ℕ) → ws ≡ loaded slots → (port vm guest : ℕ) → findSlot (map slotOf ws) port vm guest ≡ findSlot slots port vm guest
+      outside : turnsOf (length slots) wanted ≤ i → length slots ≤ i
+      outside h = ⊎-elim (λ b. absurd (omega (arith, h, turns-there (length slots) wanted i there b l))) (λ g. g) (below-or i (length slots))
+
+      beyond : turnsOf (length slots) wanted ≤ i → slotOf (getD (loaded wanted slots) i 0) ≡ getD slots i empty
+      beyond h = ap slotOf (laid-beyond slots (turnsOf (length slots) wanted) i h l) ∙ sym (List·getD-eq-default slots empty (outside h))
+
+  pub find-loaded : (ws : List ℕ) → ws ≡ loaded wanted slots → (port vm guest : ℕ) → findSlot (map slotOf ws) port vm guest ≡ findSlot slots port vm guest
   unfolding findSlot
   find-loaded ws e port vm guest =
       rw e
-      (lowest-same (λ i. holds port vm guest (getD (map slotOf (loaded slots)) i empty)) (λ i. holds port vm guest (getD slots i empty)) SLOTS
-      (λ k h. ap (holds port vm guest) (slot-at (loaded slots) port vm guest k ∙ loaded-slot k h)))
+      (lowest-same (λ i. holds port vm guest (getD (map slotOf (loaded wanted slots)) i empty)) (λ i. holds port vm guest (getD slots i empty)) SLOTS
+      (λ k h. ap (holds port vm guest) (slot-at (loaded wanted slots) port vm guest k ∙ loaded-slot k h)))
 
-  -- one word of a whole cache, set and stored, sets its slot
-  stored-set : length slots ≡ SLOTS → (place w : ℕ) → stored (set (loaded slots) place w) slots ≡ set slots place (slotOf w)
-  stored-set n place w = ext-getD empty (stored ws slots) (set slots place (slotOf w)) (all ∙ sym (length-set slots place (slotOf w))) same
-    where
-      ws : List ℕ
-      ws = set (loaded slots) place w
+-- one word of a whole cache, set and stored, sets its slot
+stored-set : (slots : List Slot) → length slots ≡ SLOTS → Fitting SLOTS slots → (place w : ℕ) → stored 0 (set (loaded SLOTS slots) place w) slots ≡ set slots place (slotOf w)
+stored-set slots n fit place w =
+    stored-whole ws slots m n ∙ ext-getD empty (map slotOf ws) (set slots place (slotOf w)) (all ∙ sym (length-set slots place (slotOf w) ∙ n)) (λ i h. List·getD-map slotOf ws i 0 ∙ word i (omega (arith, h, all)))
+  where
+    ws : List ℕ
+    ws = set (loaded SLOTS slots) place w
 
-      m : length ws ≡ SLOTS
-      m = length-set (loaded slots) place w ∙ length-laid slots (length slots)
+    k : length (loaded SLOTS slots) ≡ SLOTS
+    k = length-laid slots (turnsOf (length slots) SLOTS)
 
-      all : length (stored ws slots) ≡ length slots
-      all = length-over ws slots (length slots)
+    m : length ws ≡ SLOTS
+    m = length-set (loaded SLOTS slots) place w ∙ k
 
-      word : (i : ℕ) → i < SLOTS → slotOf (getD ws i 0) ≡ getD (set slots place (slotOf w)) i empty
-      word i l =
-          ⊎-elim
-          (λ e. rw e
-          (ap slotOf (getD-set-same (loaded slots) place w 0 (omega (arith, length-laid slots (length slots))))
-          ∙ sym (getD-set-same slots place (slotOf w) empty (omega arith))))
-          (λ o. ap slotOf (getD-set-other (loaded slots) place i w 0 o) ∙ loaded-slot i l ∙ sym (getD-set-other slots place i (slotOf w) empty o))
-          (equal i place)
+    all : length (map slotOf ws) ≡ SLOTS
+    all = length-map ws slotOf ∙ m
 
-      same : (i : ℕ) → i < length (stored ws slots) → getD (stored ws slots) i empty ≡ getD (set slots place (slotOf w)) i empty
-      same i h = slot-over ws slots (length slots) i (omega (arith, all)) (omega arith) (omega (arith, all, m)) ∙ word i (omega (arith, all))
+    word : (i : ℕ) → i < SLOTS → slotOf (getD ws i 0) ≡ getD (set slots place (slotOf w)) i empty
+    word i l =
+        ⊎-elim
+        (λ e. rw e
+        (ap slotOf (getD-set-same (loaded SLOTS slots) place w 0 (omega (arith, k))) ∙ sym (getD-set-same slots place (slotOf w) empty (omega arith))))
+        (λ o. ap slotOf (getD-set-other (loaded SLOTS slots) place i w 0 o) ∙ loaded-slot slots SLOTS n fit i l ∙ sym (getD-set-other slots place i (slotOf w) empty o))
+        (equal i place)
 
 -- ---- the numbers of a fill that are in range
 pub fill-numbers : (place port vm guest page access generation : ℕ) → fillInRange place port vm guest page access generation ≡ true
@@ -213,20 +219,19 @@ fill-numbers place port vm guest page access generation r =
     let f = both (isSlot place) (isPort port) (e .0) in
     (ltb-true _ _ (f .0), ltb-true _ _ (f .1), ltb-true _ _ (e .1), ltb-true _ _ (d .1), ltb-true _ _ (c .1), ltb-true _ _ (b .1), ltb-true _ _ (a .1))
 
--- ---- a change of one word is a change of its slot
-module _ (slots : List Slot) (ws : List ℕ) (c : (ws ≡ loaded slots) × AllFit slots) (number : ℕ) (left : List ℕ) (after : List Slot) (s : after ≡ stored left slots) where
-  refused-slots : (k : ℕ) → change number left ≡ change k ws → change number after ≡ change k slots
-  refused-slots k e =
+-- ---- a change of one word is a change of its slot, and a refusal stores nothing
+module _ (slots : List Slot) (ws : List ℕ) (c : (ws ≡ loaded SLOTS slots) × Fitting SLOTS slots) (number : ℕ) (left : List ℕ) (after : List Slot) (s : after ≡ stored number left slots) where
+  refused-slots : (k : ℕ) → 0 < k → change number left ≡ change k ws → change number after ≡ change k slots
+  refused-slots k h e =
       let a : number ≡ k = ap (λ (d : Change ℕ). d .number) e in
-      let b : left ≡ ws = ap (λ (d : Change ℕ). d .left) e in
-      let z : after ≡ slots = s ∙ same-loaded slots left (c .1) (b ∙ c .0) in
+      let z : after ≡ slots = s ∙ stored-none number left slots (omega (arith, h, a)) in
       λ i. change (a i) (z i)
 
   accepted-slots : length slots ≡ SLOTS → (place w : ℕ) → change number left ≡ change 0 (set ws place w) → change number after ≡ change 0 (set slots place (slotOf w))
   accepted-slots n place w e =
       let a : number ≡ 0 = ap (λ (d : Change ℕ). d .number) e in
-      let b : left ≡ set (loaded slots) place w = ap (λ (d : Change ℕ). d .left) e ∙ ap (λ (l : List ℕ). set l place w) (c .0) in
-      let z : after ≡ set slots place (slotOf w) = s ∙ ap (λ (l : List ℕ). stored l slots) b ∙ stored-set slots (c .1) n place w in
+      let b : left ≡ set (loaded SLOTS slots) place w = ap (λ (d : Change ℕ). d .left) e ∙ ap (λ (l : List ℕ). set l place w) (c .0) in
+      let z : after ≡ set slots place (slotOf w) = s ∙ (λ i. stored (a i) (b i) slots) ∙ stored-set slots n (c .1) place w in
       λ i. change (a i) (z i)
 
   changed-slots : (inRange : Bool) (place w : ℕ) (slot : Slot) → (inRange ≡ true → slotOf w ≡ slot)
@@ -237,10 +242,10 @@ module _ (slots : List Slot) (ws : List ℕ) (c : (ws ≡ loaded slots) × AllFi
       goal = change number after ≡ changeAt (length slots) inRange slots place slot
 
       short : eqb (length slots) SLOTS ≡ false → goal
-      short f = rw f (refused-slots (refusalNumber StateNotValid) (rw f at e))
+      short f = rw f (refused-slots (refusalNumber StateNotValid) (omega arith) (rw f at e))
 
       outside : eqb (length slots) SLOTS ≡ true → inRange ≡ false → goal
-      outside t f = rw (t, f) (refused-slots (refusalNumber OutOfRange) (rw (t, f) at e))
+      outside t f = rw (t, f) (refused-slots (refusalNumber OutOfRange) (omega arith) (rw (t, f) at e))
 
       accepted : eqb (length slots) SLOTS ≡ true → inRange ≡ true → goal
       accepted t r = rw (t, r) (accepted-slots (eqb-true _ _ t) place w (rw (t, r) at e) ∙ ap (λ (one : Slot). change 0 (set slots place one)) (same r))

@@ -1,7 +1,10 @@
 -- A slot record and its packed word, and a cache of slots as the words of the core.
 use Prim.Native.Nat.{ℕ, zero, suc, _<_}
+use mathlib.Core.Bool.{not}
 use mathlib.Core.List.{List, map}
+use lib.Dec.{eqb, ltb}
 use lib.ListN.{length, getD, set, replicate}
+use Rattle.numbers.specs.Choice.{if_then_else_}
 use Rattle.numbers.specs.Limits.{SLOTS}
 use Rattle.numbers.specs.Packing.{PORT-FIELD, VM-FIELD, GUEST-FIELD, GUEST-BIT, slotWord, portOf, vmOf, guestOf, entryOf}
 use Rattle.slots.specs.declared.Slot.{Slot}
@@ -27,25 +30,34 @@ words = map wordOf
 abbrev pub slotsOf : List ℕ → List Slot
 slotsOf = map slotOf
 
-abbrev pub AllFit : List Slot → Type 0
-AllFit slots = (i : ℕ) → i < length slots → Fits (getD slots i empty)
+-- ---- how many slots of so many are gone through: the first SLOTS, and none where another number of them is wanted
+abbrev pub firstOf : ℕ → ℕ
+firstOf count = if ltb count SLOTS then count else SLOTS
 
+abbrev pub turnsOf : ℕ → ℕ → ℕ
+turnsOf count wanted = if not (eqb count wanted) then 0 else firstOf count
+
+-- ---- loading
 -- the words of the first k slots, laid over SLOTS empty words
 abbrev pub laid : List Slot → ℕ → List ℕ
 laid slots zero = replicate SLOTS 0
 laid slots (suc k) = set (laid slots k) k (wordOf (getD slots k empty))
 
-abbrev pub loaded : List Slot → List ℕ
-loaded slots = laid slots (length slots)
+abbrev pub loaded : ℕ → List Slot → List ℕ
+loaded wanted slots = laid slots (turnsOf (length slots) wanted)
 
--- the slot of word k, and a slot as it was where there is no word for it
-abbrev pub slotAt : List ℕ → ℕ → Slot → Slot
-slotAt ws k s = getD (slotsOf ws) k s
+-- every slot that is loaded fits
+abbrev pub Fitting : ℕ → List Slot → Type 0
+Fitting wanted slots = (i : ℕ) → i < turnsOf (length slots) wanted → Fits (getD slots i empty)
+
+-- ---- storing: a number that is not 0 is a refusal's, and then nothing is stored
+abbrev pub storesOf : ℕ → ℕ → ℕ
+storesOf count number = if not (eqb number 0) then 0 else turnsOf count SLOTS
 
 -- the first k slots replaced by those of the words
 abbrev pub over : List ℕ → List Slot → ℕ → List Slot
 over ws slots zero = slots
-over ws slots (suc k) = set (over ws slots k) k (slotAt ws k (getD (over ws slots k) k empty))
+over ws slots (suc k) = set (over ws slots k) k (slotOf (getD ws k 0))
 
-abbrev pub stored : List ℕ → List Slot → List Slot
-stored ws slots = over ws slots (length slots)
+abbrev pub stored : ℕ → List ℕ → List Slot → List Slot
+stored number ws slots = over ws slots (storesOf (length slots) number)

@@ -1,11 +1,11 @@
 // Slot records, and one cache of them as the words of the core: loaded, stored, and one slot searched, filled and emptied.
 ghost use mathlib.Core.Path.{_≡_};
 ghost use mathlib.Core.List.{map};
-ghost use lib.ListN.{set, replicate};
+ghost use lib.ListN.{replicate};
 ghost use Rattle.numbers.specs.Limits.{SLOTS};
 ghost use Rattle.numbers.specs.Meaning.{refusalNumber};
 ghost use Rattle.slots.specs.Calls.{findSlot, change, fillWord, emptyWord};
-ghost use Rattle.slots.specs.Slots.{wordOf, slotOf, slotAt, loaded, stored, AllFit};
+ghost use Rattle.slots.specs.Slots.{wordOf, slotOf, turnsOf, loaded, Fitting, storesOf, stored};
 use numbers::ACCESSES;
 use numbers::GENERATIONS;
 use numbers::GUEST_FIELD;
@@ -60,48 +60,54 @@ fn no_words() -> [u64; SLOTS as usize]
     [0; SLOTS as usize]
 }
 
-// The slot's word goes to place i, where there is one.
-fn put_word(words: [u64; SLOTS as usize], i: usize, slot: Slot) -> [u64; SLOTS as usize]
-    ensures { λ r. ⌜ r ≡ set words i (wordOf slot) ⌝ }
+// How many slots of a cache are gone through: its first 64, and none of a cache that has not as many slots as are wanted.
+fn turns(count: usize, wanted: usize) -> usize
+    ensures { λ r. ⌜ r ≡ turnsOf count wanted ⌝ }
 {
-    let mut all = words;
-    if i < SLOTS as usize {
-        all[i] = word_of(slot);
+    if count != wanted {
+        return 0;
     }
-    all
-}
-
-// The slot of word i, or the one given where there is no such word.
-fn slot_at(words: [u64; SLOTS as usize], i: usize, slot: Slot) -> Slot
-    ensures { λ r. ⌜ r ≡ slotAt words i slot ⌝ }
-{
-    if i < SLOTS as usize {
-        slot_of(words[i])
+    if count < SLOTS as usize {
+        count
     } else {
-        slot
+        SLOTS as usize
     }
 }
 
-// The words of the first 64 slots, 0 where there are fewer. It tells as well that every number of a slot is within its field.
-pub fn load(slots: &[Slot]) -> [u64; SLOTS as usize]
-    ensures { λ r. ⌜ (r ≡ loaded (now (slots .entry))) × AllFit (now (slots .entry)) ⌝ }
+// The words of the first 64 slots of a cache that has as many as are wanted, 0 where there are fewer. Of another cache no
+// slot is looked at, and all words are 0. It tells as well that every number of a slot that was loaded is within its field.
+pub fn load(slots: &[Slot], wanted: usize) -> [u64; SLOTS as usize]
+    ensures { λ r. ⌜ (r ≡ loaded wanted (now (slots .entry))) × Fitting wanted (now (slots .entry)) ⌝ }
 {
+    let count = turns(slots.len(), wanted);
     let mut words = no_words();
     let mut i = 0;
-    while i < slots.len() {
-        words = put_word(words, i, slots[i]);
+    while i < count {
+        words[i] = word_of(slots[i]);
         i += 1;
     }
     words
 }
 
-// The slots of the words; a slot past the last word stays as it is.
-pub fn store(slots: &mut [Slot], words: [u64; SLOTS as usize])
-    ensures { λ _. ⌜ now (slots .exit) ≡ stored words (now (slots .entry)) ⌝ }
+// How many slots are stored: all of a whole cache where the call was accepted, none where it was refused.
+fn stores(count: usize, number: u64) -> usize
+    ensures { λ r. ⌜ r ≡ storesOf count number ⌝ }
 {
+    if number != 0 {
+        return 0;
+    }
+    turns(count, SLOTS as usize)
+}
+
+// The slots of the words that a call left. One that was refused, its number not 0, stores nothing; nor is a cache changed
+// that has not 64 slots.
+pub fn store(slots: &mut [Slot], words: [u64; SLOTS as usize], number: u64)
+    ensures { λ _. ⌜ now (slots .exit) ≡ stored number words (now (slots .entry)) ⌝ }
+{
+    let count = stores(slots.len(), number);
     let mut i = 0;
-    while i < slots.len() {
-        slots[i] = slot_at(words, i, slots[i]);
+    while i < count {
+        slots[i] = slot_of(words[i]);
         i += 1;
     }
 }

@@ -2,9 +2,10 @@
 // calls the core over their words, and stores them again where it may change them. include/tiligormis.h is their manual.
 ghost use Rattle.numbers.specs.Decides.{Decides};
 ghost use Rattle.model.specs.Start.{freeRefused};
-ghost use Rattle.cores.specs.Boxes.{box, BoxValid};
-ghost use Rattle.cores.specs.Given.{Judgement, given, operationGives, operationRefused, OperationAsked, sequenceGives, refusedWhole, freeGives, freeTold, freeGiven, FreeAsked};
+ghost use Rattle.box_cores.specs.Boxes.{box, BoxValid};
+ghost use Rattle.box_cores.specs.Given.{Judgement, given, operationGives, operationRefused, OperationAsked, sequenceGives, refusedWhole, freeGives, freeTold, freeGiven, FreeAsked};
 ghost use Rattle.slots.specs.Slots.{words, slotsOf};
+use numbers::SLOTS;
 use slots::Slot;
 
 // Whether a box is valid.
@@ -26,9 +27,9 @@ pub extern "C" fn tiligormis_valid(
 {
     let cpu_slots = cpu_cache.len();
     let dma_slots = dma_cache.len();
-    let cpu_words = slots::load(cpu_cache);
-    let dma_words = slots::load(dma_cache);
-    cores::valid(
+    let cpu_words = slots::load(cpu_cache, SLOTS as usize);
+    let dma_words = slots::load(dma_cache, SLOTS as usize);
+    box_cores::valid(
         machine,
         sets,
         pairs,
@@ -69,9 +70,9 @@ pub extern "C" fn tiligormis_operation(
 {
     let cpu_slots = cpu_cache.len();
     let dma_slots = dma_cache.len();
-    let cpu_words = slots::load(&*cpu_cache);
-    let dma_words = slots::load(&*dma_cache);
-    let out = cores::operation(
+    let cpu_words = slots::load(&*cpu_cache, SLOTS as usize);
+    let dma_words = slots::load(&*dma_cache, SLOTS as usize);
+    let out = box_cores::operation(
         machine,
         sets,
         pairs,
@@ -87,8 +88,8 @@ pub extern "C" fn tiligormis_operation(
         cpu_words,
         dma_words,
     );
-    slots::store(cpu_cache, out.cpu);
-    slots::store(dma_cache, out.dma);
+    slots::store(cpu_cache, out.cpu, out.number);
+    slots::store(dma_cache, out.dma, out.number);
     out.number
 }
 
@@ -116,9 +117,9 @@ pub extern "C" fn tiligormis_sequence(
 {
     let cpu_slots = cpu_cache.len();
     let dma_slots = dma_cache.len();
-    let cpu_words = slots::load(&*cpu_cache);
-    let dma_words = slots::load(&*dma_cache);
-    let out = cores::sequence(
+    let cpu_words = slots::load(&*cpu_cache, SLOTS as usize);
+    let dma_words = slots::load(&*dma_cache, SLOTS as usize);
+    let out = box_cores::sequence(
         machine,
         sets,
         pairs,
@@ -134,8 +135,8 @@ pub extern "C" fn tiligormis_sequence(
         cpu_words,
         dma_words,
     );
-    slots::store(cpu_cache, out.cpu);
-    slots::store(dma_cache, out.dma);
+    slots::store(cpu_cache, out.cpu, out.number);
+    slots::store(dma_cache, out.dma, out.number);
     out.number
 }
 
@@ -163,9 +164,9 @@ pub extern "C" fn tiligormis_free(
 {
     let cpu_slots = cpu_cache.len();
     let dma_slots = dma_cache.len();
-    let cpu_words = slots::load(cpu_cache);
-    let dma_words = slots::load(dma_cache);
-    cores::free(
+    let cpu_words = slots::load(cpu_cache, SLOTS as usize);
+    let dma_words = slots::load(dma_cache, SLOTS as usize);
+    box_cores::free(
         machine,
         sets,
         pairs,

@@ -30,7 +30,7 @@ fn marks_that_are_none_are_refused() {
             entries_refuse(&mut owned);
             let mut units = UNITS_TOLD;
             units[unit].mark = mark;
-            start_refuses(&mut whole(), 8, [7, 1], &units, OUT_OF_RANGE);
+            start_refuses(&mut whole(), 8, [7, 1], &units, Refusal::OutOfRange);
         }
     }
 }
@@ -55,7 +55,7 @@ fn unit_counts_above_the_most_are_refused() {
         entries_refuse(&mut owned);
     }
     let units = [UNITS_TOLD[0]; UNITS + 1];
-    start_refuses(&mut whole(), 8, [7, 1], &units, OUT_OF_RANGE);
+    start_refuses(&mut whole(), 8, [7, 1], &units, Refusal::OutOfRange);
     whole().lent().start(8, 7, 1, &units[..UNITS]).unwrap();
 }
 
@@ -66,8 +66,8 @@ fn answers_are_counted() {
     let mut answers = [untouched; 3];
     let mut owned = whole();
     let before = owned.clone();
-    assert_eq!(owned.lent().sequence(&rows, &mut answers[..1]), Err(OUT_OF_RANGE));
-    assert_eq!(owned.lent().sequence(&rows, &mut []), Err(OUT_OF_RANGE));
+    assert_eq!(owned.lent().sequence(&rows, &mut answers[..1]), Err(Refusal::OutOfRange));
+    assert_eq!(owned.lent().sequence(&rows, &mut []), Err(Refusal::OutOfRange));
     assert_eq!(owned.lent().sequence(&[], &mut []), Ok(()));
     assert_eq!(owned.lent().sequence(&[], &mut answers), Ok(()));
     assert!(owned == before && answers == [untouched; 3]);

@@ -27,7 +27,7 @@ fn lengths_changed(change: isize) {
         let mut owned = whole();
         resize(&mut owned, slice, change);
         entries_refuse(&mut owned);
-        start_refuses(&mut owned, 8, [7, 1], &UNITS_TOLD, STATE_NOT_VALID);
+        start_refuses(&mut owned, 8, [7, 1], &UNITS_TOLD, Refusal::StateNotValid);
     }
 }
 

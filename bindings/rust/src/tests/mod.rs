@@ -2,12 +2,18 @@
 //! that are no whole rows or units, is tested in bindings/c.
 
 mod boxes;
+mod documented;
 mod lengths;
+mod no_std;
 mod numbers;
+mod operations;
+mod refusals;
 mod slots;
 mod starts;
 
 use crate::*;
+use std::boxed::Box;
+use std::vec::Vec;
 
 const UNITS_TOLD: [Unit; 2] = [
     Unit { vm: 1, guest: 16, page: 0, count: 3, access: READ | WRITE, mark: MARK_BOTH },
@@ -20,17 +26,17 @@ fn whole() -> Owned {
     let mut lent = owned.lent();
     lent.start(8, 7, 1, &UNITS_TOLD).unwrap();
     let rows = [
-        row([ADD_VM, 1]),
-        row([ADD_VM, 2]),
-        row([INSERT_REGION, 1, 16, 0, 3, READ | WRITE]),
-        row([DMA_INSERT_REGION, 1, 16, 0, 3, READ | WRITE]),
-        row([SHARE_PAGE, 1, 2, 1]),
-        row([SWITCH_CPU, 0, 1]),
-        row([BIND_DEVICE, 0, 1]),
-        row([CPU_FILL, 0, 16]),
-        row([CPU_FILL, 0, 17]),
-        row([DMA_FILL, 0, 18]),
-        row([CPU_WRITE, 0, 16, 0, 1111]),
+        rows::add_vm(1),
+        rows::add_vm(2),
+        rows::insert_region(1, 16, 0, 3, READ | WRITE),
+        rows::dma_insert_region(1, 16, 0, 3, READ | WRITE),
+        rows::share_page(1, 2, 1),
+        rows::switch_cpu(0, Some(1)),
+        rows::bind_device(0, Some(1)),
+        rows::cpu_fill(0, 16),
+        rows::cpu_fill(0, 17),
+        rows::dma_fill(0, 18),
+        rows::cpu_write(0, 16, 0, 1111),
     ];
     let mut answers = [Answer { number: u64::MAX, ..Answer::default() }; 11];
     lent.sequence(&rows, &mut answers).unwrap();
@@ -53,16 +59,18 @@ fn entries_refuse(owned: &mut Owned) {
     let not_valid = Answer { number: STATE_NOT_VALID, ..Answer::default() };
     assert!(!owned.shared().valid());
     assert!(!owned.lent().valid());
-    assert_eq!(owned.shared().free(), Err(STATE_NOT_VALID));
-    assert_eq!(owned.lent().free(), Err(STATE_NOT_VALID));
-    assert_eq!(owned.lent().operation(row([ADD_VM, 3])), not_valid);
-    assert_eq!(owned.lent().sequence(&[row([ADD_VM, 3])], &mut answers), Err(STATE_NOT_VALID));
+    assert_eq!(owned.shared().free(), Err(Refusal::StateNotValid));
+    assert_eq!(owned.lent().free(), Err(Refusal::StateNotValid));
+    assert_eq!(owned.lent().operation(rows::add_vm(3)), not_valid);
+    assert_eq!(owned.lent().add_vm(3), Err(Refusal::StateNotValid));
+    let rows = [rows::add_vm(3)];
+    assert_eq!(owned.lent().sequence(&rows, &mut answers), Err(Refusal::StateNotValid));
     assert_eq!(answers, [untouched]);
     assert!(*owned == before);
 }
 
-/// Start refuses with this number, and leaves the box but for the header.
-fn start_refuses(owned: &mut Owned, pages: u64, span: [u64; 2], units: &[Unit], refusal: u64) {
+/// Start refuses so, and leaves the box but for the header.
+fn start_refuses(owned: &mut Owned, pages: u64, span: [u64; 2], units: &[Unit], refusal: Refusal) {
     let before = owned.clone();
     assert_eq!(owned.lent().start(pages, span[0], span[1], units), Err(refusal));
     assert!(*owned == Owned { machine: Box::new(empty_machine()), ..before });

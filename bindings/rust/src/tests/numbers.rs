@@ -1,13 +1,15 @@
 //! The numbers that Rust and C both name.
 
-use crate::numbers::NAMED;
-use crate::*;
+use super::*;
+use crate::numbers::{NAMED, REFUSALS};
 
 #[test]
 fn numbers_are_the_headers() {
     let header = include_str!("../../../../include/tiligormis.h");
+    let refusals = REFUSALS.iter().map(|(name, _, number)| (*name, *number));
+    let numbers: Vec<(&str, u64)> = NAMED.iter().copied().chain(refusals).collect();
     let mut named = 0;
-    for line in header.lines() {
+    for line in header.lines().filter(|line| !line.contains("TILIGORMIS_VERSION")) {
         let words: Vec<&str> = line.split_whitespace().filter(|&word| word != "#define").collect();
         let Some(name) = words[..].first().and_then(|word| word.strip_prefix("TILIGORMIS_")) else {
             continue;
@@ -17,10 +19,10 @@ fn numbers_are_the_headers() {
             digits => digits.trim_end_matches(['u', ',']).parse(),
         });
         let Some(Ok(value)) = value else { continue };
-        assert!(NAMED.contains(&(name, value)), "{name} is {value} in the header");
+        assert!(numbers.contains(&(name, value)), "{name} is {value} in the header");
         named += 1;
     }
-    assert_eq!(named, NAMED.len());
+    assert_eq!(named, numbers.len());
 }
 
 #[test]

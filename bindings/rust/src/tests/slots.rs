@@ -42,6 +42,26 @@ fn slots_are_filled_and_emptied() {
 }
 
 #[test]
+fn slots_say_what_they_hold() {
+    let mut slots = [Slot::default(); SLOTS];
+    assert_eq!(slots[0].translation(), None);
+    let none = Translation::default();
+    for held in [
+        none,
+        MOST,
+        Translation { port: MOST.port, ..none },
+        Translation { vm: MOST.vm, ..none },
+        Translation { guest: MOST.guest, ..none },
+        Translation { page: MOST.page, ..none },
+        Translation { access: MOST.access, ..none },
+        Translation { generation: MOST.generation, ..none },
+    ] {
+        fill_slot(&mut slots, 0, held).unwrap();
+        assert_eq!(slots[0].translation(), Some(held));
+    }
+}
+
+#[test]
 fn translations_out_of_range_are_refused() {
     let mut slots = [Slot::default(); SLOTS];
     for over in [
@@ -52,7 +72,7 @@ fn translations_out_of_range_are_refused() {
         Translation { access: ACCESSES, ..MOST },
         Translation { generation: GENERATIONS, ..MOST },
     ] {
-        assert_eq!(fill_slot(&mut slots, 0, over), Err(OUT_OF_RANGE));
+        assert_eq!(fill_slot(&mut slots, 0, over), Err(Refusal::OutOfRange));
     }
     assert_eq!(slots, [Slot::default(); SLOTS]);
 }
@@ -62,12 +82,12 @@ fn places_out_of_range_are_refused() {
     let filled = Slot { port: 1, vm: 1, guest: 1, entry: 1 << 31 };
     let mut slots = [filled; SLOTS + 1];
     for place in [SLOTS, usize::MAX] {
-        assert_eq!(fill_slot(&mut slots[..SLOTS], place, MOST), Err(OUT_OF_RANGE));
-        assert_eq!(empty_slot(&mut slots[..SLOTS], place), Err(OUT_OF_RANGE));
+        assert_eq!(fill_slot(&mut slots[..SLOTS], place, MOST), Err(Refusal::OutOfRange));
+        assert_eq!(empty_slot(&mut slots[..SLOTS], place), Err(Refusal::OutOfRange));
     }
     for length in [0, SLOTS - 1, SLOTS + 1] {
-        assert_eq!(fill_slot(&mut slots[..length], 0, MOST), Err(STATE_NOT_VALID));
-        assert_eq!(empty_slot(&mut slots[..length], 0), Err(STATE_NOT_VALID));
+        assert_eq!(fill_slot(&mut slots[..length], 0, MOST), Err(Refusal::StateNotValid));
+        assert_eq!(empty_slot(&mut slots[..length], 0), Err(Refusal::StateNotValid));
     }
     assert_eq!(slots, [filled; SLOTS + 1]);
 }

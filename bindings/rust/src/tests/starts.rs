@@ -22,17 +22,17 @@ fn start_makes_everything_anew() {
 fn nothing_started_is_refused() {
     entries_refuse(&mut Owned::new(8));
     entries_refuse(&mut Owned::new(0));
-    start_refuses(&mut Owned::new(0), 0, [0, 0], &[], STATE_NOT_VALID);
+    start_refuses(&mut Owned::new(0), 0, [0, 0], &[], Refusal::StateNotValid);
 }
 
 #[test]
 fn pages_and_spans_of_start_are_judged() {
     for pages in [0, 7, 9, PAGES + 1, (1 << 55) + 8, u64::MAX] {
-        start_refuses(&mut whole(), pages, [7, 1], &[], STATE_NOT_VALID);
+        start_refuses(&mut whole(), pages, [7, 1], &[], Refusal::StateNotValid);
     }
     for span in [[8, 1], [9, 0], [u64::MAX, 1], [0, 9]] {
-        start_refuses(&mut whole(), 8, span, &[], BAD_SPAN);
+        start_refuses(&mut whole(), 8, span, &[], Refusal::BadSpan);
     }
     let last = Unit { page: 7, ..UNITS_TOLD[1] };
-    start_refuses(&mut whole(), 8, [7, 1], &[UNITS_TOLD[0], last], BAD_SPAN);
+    start_refuses(&mut whole(), 8, [7, 1], &[UNITS_TOLD[0], last], Refusal::BadSpan);
 }

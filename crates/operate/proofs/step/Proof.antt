@@ -47,17 +47,19 @@ returns-7 : tie.Need-returns-7
 returns-7 c =
     let c11 = c .before .before .before .before .before .before .before .before .before .before .before in
     let c19 = c11 .before .before .before .before .before .before .before .before in
-    let c22 = c19 .before .before .before in
-    let c33 = c22 .before .before .before .before .before .before .before .before .before .before .before in
-    rw (c22 .operation7 .given .1, c19 .enum-told .given .1) (cpu-step (c33 .args .fixed) (c33 .args .registers) _ _ _ _ _ _ _ _ _ _ (c11 .side-step .ensures))
+    let c21 = c19 .before .before in
+    let c23 = c21 .before .before in
+    let c34 = c23 .before .before .before .before .before .before .before .before .before .before .before in
+    rw (c23 .operation7 .given .1, c19 .enum-told .given .1) (cpu-step (c34 .args .fixed) (c34 .args .registers) _ _ _ _ _ _ _ _ _ _ (rw (c19 .enum-told .given .1) at (c21 .unit-for .ensures)) (c11 .side-step .ensures))
 
 returns-8 : tie.Need-returns-8
 returns-8 c =
     let c11 = c .before .before .before .before .before .before .before .before .before .before .before in
     let c19 = c11 .before .before .before .before .before .before .before .before in
-    let c22 = c19 .before .before .before in
-    let c33 = c22 .before .before .before .before .before .before .before .before .before .before .before in
-    rw (c22 .operation7 .given .1, c19 .enum-told2 .given .1) (dma-step (c33 .args .fixed) (c33 .args .registers) _ _ _ _ _ _ _ _ _ _ (c11 .side-step2 .ensures))
+    let c21 = c19 .before .before in
+    let c23 = c21 .before .before in
+    let c34 = c23 .before .before .before .before .before .before .before .before .before .before .before in
+    rw (c23 .operation7 .given .1, c19 .enum-told2 .given .1) (dma-step (c34 .args .fixed) (c34 .args .registers) _ _ _ _ _ _ _ _ _ _ (rw (c19 .enum-told2 .given .1) at (c21 .unit-for .ensures)) (c11 .side-step2 .ensures))
 
 returns-9 : tie.Need-returns-9
 returns-9 c =
@@ -86,6 +88,7 @@ step-spec =
     (λ c. search needs)
     (λ c κs. search needs)
     (λ c. search needs)
+    (λ c κs. search needs)
     (λ c. search needs)
     (λ c κs. search needs)
     (λ c. search needs)

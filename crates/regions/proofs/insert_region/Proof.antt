@@ -11,7 +11,7 @@ insert-do-requires : tie.Need-insert-do-requires
 insert-do-requires c κs =
     let t = c .before .before .before in
     let s = t .before .before .before .before .before .before .before .before in
-    insert-ready _ _ _ _ _ _ _ _ (s .pre) (t .before .before .insert-answer .ensures) (t .enum-told .given .1)
+    insert-ready _ _ _ _ _ _ _ (s .pre) (t .before .before .insert-answer .ensures) (t .enum-told .given .1)
 
 returns-2 : tie.Need-returns-2
 returns-2 c =

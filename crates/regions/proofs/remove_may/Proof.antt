@@ -19,18 +19,17 @@ returns c = rw (← c .before .before .before .region-early .ensures, c .before 
 returns-2 : tie.Need-returns-2
 unfolding removeMay
 returns-2 c =
-    let t0 = c .before .before .before in
-    rw (← t0 .before .before .region-early .ensures, t0 .enum-told .given .1, ← c .before .before .assignable .ensures, c .before .if1 .taken, c .refuse .ensures)
+    let t0 = c .before .before in
+    rw (← t0 .before .before .region-early .ensures, t0 .enum-told .given .1, c .before .if1 .taken, c .refuse .ensures)
 
 returns-3 : tie.Need-returns-3
 unfolding removeMay
 returns-3 c =
     let t1 = c .before .before .before .before in
-    let t0 = t1 .before .before in
+    let t0 = t1 .before in
     rw (
       ← t0 .before .before .region-early .ensures,
       t0 .enum-told .given .1,
-      ← t1 .before .assignable .ensures,
       t1 .if1 .left,
       ← c .before .before .before .lowest-not-held .ensures,
       lt-ltb _ _ (c .before .if2 .taken),
@@ -42,11 +41,10 @@ unfolding removeMay
 returns-4 c =
     let t2 = c .before .before .before .before in
     let t1 = t2 .before .before .before in
-    let t0 = t1 .before .before in
+    let t0 = t1 .before in
     rw (
       ← t0 .before .before .region-early .ensures,
       t0 .enum-told .given .1,
-      ← t1 .before .assignable .ensures,
       t1 .if1 .left,
       ← t2 .before .before .lowest-not-held .ensures,
       le-ltb _ _ (t2 .if2 .left),
@@ -61,11 +59,10 @@ returns-5 c =
     let t3 = c .before .before .before .before in
     let t2 = t3 .before .before .before in
     let t1 = t2 .before .before .before in
-    let t0 = t1 .before .before in
+    let t0 = t1 .before in
     rw (
       ← t0 .before .before .region-early .ensures,
       t0 .enum-told .given .1,
-      ← t1 .before .assignable .ensures,
       t1 .if1 .left,
       ← t2 .before .before .lowest-not-held .ensures,
       le-ltb _ _ (t2 .if2 .left),
@@ -83,11 +80,10 @@ returns-6 c =
     let t3 = t4 .before .before .before in
     let t2 = t3 .before .before .before in
     let t1 = t2 .before .before .before in
-    let t0 = t1 .before .before in
+    let t0 = t1 .before in
     rw (
       ← t0 .before .before .region-early .ensures,
       t0 .enum-told .given .1,
-      ← t1 .before .assignable .ensures,
       t1 .if1 .left,
       ← t2 .before .before .lowest-not-held .ensures,
       le-ltb _ _ (t2 .if2 .left),
@@ -107,15 +103,14 @@ remove-may-spec =
     returns
     (λ c. search needs)
     (λ c κs. search needs)
-    (λ c κs. search needs)
     returns-2
-    (λ c κs. let x = c .before .before in (placed x, x .before .before .before .before .before .before .pre .sets-length))
+    (λ c κs. let x = c .before in (placed x, x .before .before .before .before .before .before .pre .sets-length))
     (λ c κs. search needs)
     returns-3
-    (λ c κs. placed (c .before .before .before .before .before))
+    (λ c κs. placed (c .before .before .before .before))
     (λ c κs. search needs)
     returns-4
-    (λ c κs. placed (c .before .before .before .before .before .before .before .before))
+    (λ c κs. placed (c .before .before .before .before .before .before .before))
     (λ c κs. search needs)
     returns-5
     (λ c κs. search needs)

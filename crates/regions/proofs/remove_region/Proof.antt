@@ -14,7 +14,7 @@ remove-do-requires : tie.Need-remove-do-requires
 remove-do-requires c κs =
     let t = c .before .before .before .before .before in
     let s = t .before .before .before .before .before .before .before .before .before .before .before in
-    remove-ready _ _ _ _ _ _ _ _ _ _ (s .pre) (t .before .before .remove-may .ensures) (t .enum-told .given .1)
+    remove-ready _ _ _ _ _ _ _ _ _ (s .pre) (t .before .before .remove-may .ensures) (t .enum-told .given .1)
 
 returns-2 : tie.Need-returns-2
 unfolding removeAnswer apply

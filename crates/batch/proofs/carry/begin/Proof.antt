@@ -12,9 +12,10 @@ slice-aggregate-start-2 c = sym (length-take-le _ _ (search needs))
 
 returns-2 : tie.Need-returns-2
 returns-2 c =
-    let kept = c .moved .ensures in
-    let waits = c .before .before .before .before .before .before .before .before .before .before .before .before .before .before .before .before .before .before .before .before .before .before .pre .0 in
-    record { few-units = rw (kept .0) (waits .few-units); few-rows = rw (kept .1) (waits .few-rows) }
+    let kept = c .written .ensures in
+    let told = c .before .moved .ensures in
+    let waits = c .before .before .before .before .before .before .before .before .before .before .before .before .before .before .before .before .before .before .before .before .before .before .before .pre .0 in
+    record { few-units = rw (kept .0, told .0) (waits .few-units); few-rows = rw (kept .1, told .1) (waits .few-rows) }
 
 pub begin-spec : {M : Type 1} → statement M
 begin-spec =
@@ -27,6 +28,7 @@ begin-spec =
     (λ c. search needs)
     slice-aggregate-start
     slice-aggregate-start-2
+    (λ c κs. search needs)
     (λ c κs. search needs)
     (λ c κs. search needs)
     (λ c κs. search needs)

@@ -1,0 +1,4 @@
+-- Boxes, and what the entries give for them.
+pub mod Boxes
+pub mod CoreLaws
+pub mod Given

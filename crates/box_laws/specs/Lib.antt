@@ -1,0 +1,3 @@
+-- Secrecy said of boxes, and boxes of slots by the words of their caches.
+pub mod BoxSecrecy
+pub mod BoxLaws

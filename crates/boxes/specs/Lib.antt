@@ -1,2 +1,0 @@
--- Boxes of slots by the words of their caches.
-pub mod BoxLaws

@@ -1,4 +1,0 @@
--- What is proved of boxes.
-pub mod BoxesExact
-pub mod BoxesKept
-pub mod BoxesSecret

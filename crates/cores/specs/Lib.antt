@@ -1,5 +1,0 @@
--- Boxes, and what the entries give for them.
-pub mod BoxSecrecy
-pub mod Boxes
-pub mod CoreLaws
-pub mod Given
