@@ -117,11 +117,13 @@ pub fn operation(
     cpu_words: [u64; SLOTS as usize],
     dma_words: [u64; SLOTS as usize],
 ) -> Finished
-    ensures { λ r. ⌜ Judgement (Whole «cpu_slots» «dma_slots» × OperationAsked same (box (now (header .entry)) (now (sets .entry)) (now (pairs .entry)) (now («cpu_map» .entry))
-        (now («cpu_walker» .entry)) «cpu_words» (now («dma_map» .entry)) (now («dma_walker» .entry)) «dma_words» (now (memory .entry))) (now (row .entry)) (now (answer .entry)))
-        (operationGives same same (box (now (header .entry)) (now (sets .entry)) (now (pairs .entry)) (now («cpu_map» .entry)) (now («cpu_walker» .entry)) «cpu_words» (now («dma_map» .entry)) (now («dma_walker» .entry)) «dma_words» (now (memory .entry))) (now (row .entry)) (now (answer .entry)))
-        (operationRefused (box (now (header .entry)) (now (sets .entry)) (now (pairs .entry)) (now («cpu_map» .entry)) (now («cpu_walker» .entry)) «cpu_words» (now («dma_map» .entry)) (now («dma_walker» .entry)) «dma_words» (now (memory .entry))) (now (answer .entry)))
-        (given (r .number) (now (answer .exit)) (box (now (header .exit)) (now (sets .exit)) (now (pairs .exit)) (now («cpu_map» .exit)) (now («cpu_walker» .exit)) (r .cpu) (now («dma_map» .exit)) (now («dma_walker» .exit)) (r .dma) (now (memory .exit)))) ⌝ }
+    ensures { λ r. ⌜ (let before = box (now (header .entry)) (now (sets .entry)) (now (pairs .entry)) (now («cpu_map» .entry)) (now («cpu_walker» .entry)) «cpu_words»
+        (now («dma_map» .entry)) (now («dma_walker» .entry)) «dma_words» (now (memory .entry)) in
+        let left = box (now (header .exit)) (now (sets .exit)) (now (pairs .exit)) (now («cpu_map» .exit)) (now («cpu_walker» .exit)) (r .cpu)
+        (now («dma_map» .exit)) (now («dma_walker» .exit)) (r .dma) (now (memory .exit)) in
+        Judgement (Whole «cpu_slots» «dma_slots» × OperationAsked same before (now (row .entry)) (now (answer .entry)))
+        (operationGives same same before (now (row .entry)) (now (answer .entry))) (operationRefused before (now (answer .entry)))
+        (given (r .number) (now (answer .exit)) left)) ⌝ }
 {
     if !row_ready(header, row, answer, cpu_slots, dma_slots) {
         let refused = numbers::refuse(Refusal::StateNotValid, 0);
@@ -177,10 +179,13 @@ pub fn sequence(
     cpu_words: [u64; SLOTS as usize],
     dma_words: [u64; SLOTS as usize],
 ) -> Finished
-    ensures { λ r. ⌜ Judgement (Whole «cpu_slots» «dma_slots» × BoxValid same (box (now (header .entry)) (now (sets .entry)) (now (pairs .entry)) (now («cpu_map» .entry)) (now («cpu_walker» .entry)) «cpu_words» (now («dma_map» .entry)) (now («dma_walker» .entry)) «dma_words» (now (memory .entry))))
-        (sequenceGives same same (box (now (header .entry)) (now (sets .entry)) (now (pairs .entry)) (now («cpu_map» .entry)) (now («cpu_walker» .entry)) «cpu_words» (now («dma_map» .entry)) (now («dma_walker» .entry)) «dma_words» (now (memory .entry))) (now (rows .entry)) (now (answers .entry)))
-        (refusedWhole (box (now (header .entry)) (now (sets .entry)) (now (pairs .entry)) (now («cpu_map» .entry)) (now («cpu_walker» .entry)) «cpu_words» (now («dma_map» .entry)) (now («dma_walker» .entry)) «dma_words» (now (memory .entry))) (now (answers .entry)))
-        (given (r .number) (now (answers .exit)) (box (now (header .exit)) (now (sets .exit)) (now (pairs .exit)) (now («cpu_map» .exit)) (now («cpu_walker» .exit)) (r .cpu) (now («dma_map» .exit)) (now («dma_walker» .exit)) (r .dma) (now (memory .exit)))) ⌝ }
+    ensures { λ r. ⌜ (let before = box (now (header .entry)) (now (sets .entry)) (now (pairs .entry)) (now («cpu_map» .entry)) (now («cpu_walker» .entry)) «cpu_words»
+        (now («dma_map» .entry)) (now («dma_walker» .entry)) «dma_words» (now (memory .entry)) in
+        let left = box (now (header .exit)) (now (sets .exit)) (now (pairs .exit)) (now («cpu_map» .exit)) (now («cpu_walker» .exit)) (r .cpu)
+        (now («dma_map» .exit)) (now («dma_walker» .exit)) (r .dma) (now (memory .exit)) in
+        Judgement (Whole «cpu_slots» «dma_slots» × BoxValid same before)
+        (sequenceGives same same before (now (rows .entry)) (now (answers .entry))) (refusedWhole before (now (answers .entry)))
+        (given (r .number) (now (answers .exit)) left)) ⌝ }
 {
     if !ready(header, cpu_slots, dma_slots) {
         let refused = numbers::refuse(Refusal::StateNotValid, 0);
@@ -233,11 +238,11 @@ pub fn free(
     cpu_words: [u64; SLOTS as usize],
     dma_words: [u64; SLOTS as usize],
 ) -> u64
-    ensures { λ r. ⌜ Judgement (Whole «cpu_slots» «dma_slots» × FreeAsked same (box (now (header .entry)) (now (sets .entry)) (now (pairs .entry)) (now («cpu_map» .entry))
-        (now («cpu_walker» .entry)) «cpu_words» (now («dma_map» .entry)) (now («dma_walker» .entry)) «dma_words» (now (memory .entry))) (now («free_pages» .entry)))
-        (freeGives same (box (now (header .entry)) (now (sets .entry)) (now (pairs .entry)) (now («cpu_map» .entry)) (now («cpu_walker» .entry)) «cpu_words» (now («dma_map» .entry)) (now («dma_walker» .entry)) «dma_words» (now (memory .entry))) (now («free_pages» .entry)))
-        (freeTold (now («free_pages» .entry)) freeRefused)
-        (freeGiven r (now («free_pages» .exit))) ⌝ }
+    ensures { λ r. ⌜ (let before = box (now (header .entry)) (now (sets .entry)) (now (pairs .entry)) (now («cpu_map» .entry)) (now («cpu_walker» .entry)) «cpu_words»
+        (now («dma_map» .entry)) (now («dma_walker» .entry)) «dma_words» (now (memory .entry)) in
+        Judgement (Whole «cpu_slots» «dma_slots» × FreeAsked same before (now («free_pages» .entry)))
+        (freeGives same before (now («free_pages» .entry))) (freeTold (now («free_pages» .entry)) freeRefused)
+        (freeGiven r (now («free_pages» .exit)))) ⌝ }
 {
     if !free_ready(header, free_pages, cpu_slots, dma_slots) {
         let refused = numbers::refuse(Refusal::StateNotValid, 0);
@@ -284,10 +289,12 @@ pub fn start(
     cpu_words: [u64; SLOTS as usize],
     dma_words: [u64; SLOTS as usize],
 ) -> Finished
-    ensures { λ r. ⌜ StartOfWords «cpu_slots» «dma_slots» (box (now (header .entry)) (now (sets .entry)) (now (pairs .entry)) (now («cpu_map» .entry)) (now («cpu_walker» .entry))
-        «cpu_words» (now («dma_map» .entry)) (now («dma_walker» .entry)) «dma_words» (now (memory .entry))) (told pages «shared_base» «shared_count» (now (units .entry)))
-        (startGiven (r .number) (box (now (header .exit)) (now (sets .exit)) (now (pairs .exit)) (now («cpu_map» .exit)) (now («cpu_walker» .exit)) (r .cpu) (now («dma_map» .exit))
-        (now («dma_walker» .exit)) (r .dma) (now (memory .exit)))) ⌝ }
+    ensures { λ r. ⌜ (let before = box (now (header .entry)) (now (sets .entry)) (now (pairs .entry)) (now («cpu_map» .entry)) (now («cpu_walker» .entry)) «cpu_words»
+        (now («dma_map» .entry)) (now («dma_walker» .entry)) «dma_words» (now (memory .entry)) in
+        let left = box (now (header .exit)) (now (sets .exit)) (now (pairs .exit)) (now («cpu_map» .exit)) (now («cpu_walker» .exit)) (r .cpu)
+        (now («dma_map» .exit)) (now («dma_walker» .exit)) (r .dma) (now (memory .exit)) in
+        StartOfWords «cpu_slots» «dma_slots» before (told pages «shared_base» «shared_count» (now (units .entry)))
+        (startGiven (r .number) left)) ⌝ }
 {
     let refused = numbers::refuse(Refusal::StateNotValid, 0);
     if header.len() != MACHINE_NUMBERS {
