@@ -29,7 +29,7 @@ pub extern "C" fn tiligormis_valid(
     let dma_slots = dma_cache.len();
     let cpu_words = slots::load(cpu_cache, SLOTS as usize);
     let dma_words = slots::load(dma_cache, SLOTS as usize);
-    box_cores::valid(
+    box_reads::valid(
         machine,
         sets,
         pairs,
@@ -166,7 +166,7 @@ pub extern "C" fn tiligormis_free(
     let dma_slots = dma_cache.len();
     let cpu_words = slots::load(cpu_cache, SLOTS as usize);
     let dma_words = slots::load(dma_cache, SLOTS as usize);
-    box_cores::free(
+    box_reads::free(
         machine,
         sets,
         pairs,
