@@ -191,7 +191,7 @@ const PLANTED: &[(Where, &str, &str, &str)] = &[
         "bytes of Answer",
     ),
     (
-        Crate("box_cores"),
+        Crate("box_reads"),
         "FREE_NUMBERS: usize = ",
         "FREE_NUMBERS: usize = 1 + ",
         "bytes of FreePages",
@@ -338,7 +338,7 @@ const PLANTED: &[(Where, &str, &str, &str)] = &[
     ),
     // the crates of the library
     (List, "box_cache", "", "crate box_cache"),
-    (Crate("box_cores"), "pub fn valid(", "pub extern \"C\" fn valid(", "crate box_cores"),
+    (Crate("box_reads"), "pub fn valid(", "pub extern \"C\" fn valid(", "crate box_reads"),
 ];
 
 /// Tries each change by itself, and counts it where something is found that names the thing.

@@ -28,7 +28,7 @@ pub struct Source {
 }
 
 /// Where the numbers stand that the header names too.
-const NUMBERS: [&str; 5] = ["numbers", "access", "start", "box_header", "box_cores"];
+const NUMBERS: [&str; 5] = ["numbers", "access", "start", "box_header", "box_reads"];
 
 pub fn read(crates: &Crates) -> Source {
     let code: Crates = crates.iter().map(|(name, text)| (name.clone(), bare(text))).collect();

@@ -15,6 +15,7 @@ use crate::moved;
 use crate::print;
 use crate::print::ANSWER_ROOM;
 use crate::print::BATCH;
+use crate::rows_wait;
 use crate::written;
 use machine::entries;
 use model::Machine;
@@ -244,4 +245,40 @@ pub fn settle(
     );
     let wrote = print::print_answers(&room, begun.rows);
     written(moved(begun, phase, machine, 0), wrote)
+}
+
+// After a piece of the script, rows that wait are carried out and written: whoever told them may wait for their answers. A box
+// without rows goes on waiting, since units may follow.
+pub fn pause(
+    work: Work,
+    units: &[u64; UNITS_ROOM],
+    sets: &mut [u64; SETS_WORDS],
+    pairs: &mut [u64; PAIRS],
+    cpu_map: &mut [u64; ENTRIES],
+    cpu_walker: &mut [u64; ENTRIES],
+    cpu_cache: &mut [u64; CACHE_WORDS],
+    dma_map: &mut [u64; ENTRIES],
+    dma_walker: &mut [u64; ENTRIES],
+    dma_cache: &mut [u64; CACHE_WORDS],
+    memory: &mut [u64; MEMORY_WORDS],
+    rows: &[u64; ROWS_ROOM],
+) -> Work
+    requires { ⌜ Orderly (work .units) (work .rows) ⌝ }
+    ensures { λ r. ⌜ Orderly (r .units) (r .rows) ⌝ }
+{
+    settle(
+        work,
+        rows_wait(work),
+        units,
+        sets,
+        pairs,
+        cpu_map,
+        cpu_walker,
+        cpu_cache,
+        dma_map,
+        dma_walker,
+        dma_cache,
+        memory,
+        rows,
+    )
 }

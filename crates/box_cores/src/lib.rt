@@ -1,17 +1,15 @@
-// The entries over numbers alone: a header as numbers, tables, and the 64 words of each cache by value, beside how many slots
-// were lent. Each says what it gives for any box at all (docs/MACHINE.md, 13).
+// The entries over numbers alone that may change a box: a header as numbers, tables, and the 64 words of each cache by value, beside
+// how many slots were lent. Each says what it gives for any box at all (docs/MACHINE.md, 13). What only reads is crate `box_reads`.
 ghost use mathlib.Core.Path.{_≡_};
 ghost use lib.ListN.{length};
 ghost use Rattle.numbers.specs.Decides.{Decides};
 ghost use Rattle.numbers.specs.Limits.{ROW-NUMBERS, ANSWER-NUMBERS};
-ghost use Rattle.model.specs.Start.{freeRefused};
 ghost use Rattle.start.specs.Begun.{told};
 ghost use Rattle.box_header.specs.Numbers.{HeaderGood};
 ghost use Rattle.box_cores.specs.Boxes.{box, BoxValid};
-ghost use Rattle.box_cores.specs.Given.{Judgement, given, operationGives, operationRefused, OperationAsked, sequenceGives, refusedWhole, freeGives, freeTold, FreeAsked, freeGiven, FREE-NUMBERS, StartOfWords, startGiven, Whole, same};
+ghost use Rattle.box_cores.specs.Given.{Judgement, given, operationGives, operationRefused, OperationAsked, sequenceGives, refusedWhole, StartOfWords, startGiven, Whole, same};
 use box_header::MACHINE_NUMBERS;
 use numbers::ANSWER_NUMBERS;
-use numbers::Lowest;
 use numbers::ROW_NUMBERS;
 use numbers::Refusal;
 use numbers::SLOTS;
@@ -23,9 +21,6 @@ pub struct Finished {
     pub number: u64,
 }
 
-// Numbers of the free query's result: how many pages, and the lowest.
-const FREE_NUMBERS: usize = 2;
-
 // Whether both caches have as many slots as they must.
 fn whole(cpu_slots: usize, dma_slots: usize) -> bool
     ensures { λ r. ⌜ Decides r (Whole «cpu_slots» «dma_slots») ⌝ }
@@ -34,7 +29,7 @@ fn whole(cpu_slots: usize, dma_slots: usize) -> bool
 }
 
 // What every entry asks first, beside validity.
-fn ready(header: &[u64], cpu_slots: usize, dma_slots: usize) -> bool
+pub fn ready(header: &[u64], cpu_slots: usize, dma_slots: usize) -> bool
     ensures { λ r. ⌜ Decides r (Whole «cpu_slots» «dma_slots» × HeaderGood (now (header .entry))) ⌝ }
 {
     whole(cpu_slots, dma_slots) & box_header::is_header(header)
@@ -55,51 +50,6 @@ fn row_ready(
         & (answer.len() == ANSWER_NUMBERS)
 }
 
-// The same, with a room of its length for the free query.
-fn free_ready(header: &[u64], free_pages: &[u64], cpu_slots: usize, dma_slots: usize) -> bool
-    ensures { λ r. ⌜ Decides r ((Whole «cpu_slots» «dma_slots» × HeaderGood (now (header .entry))) × (length (now («free_pages» .entry)) ≡ FREE-NUMBERS)) ⌝ }
-{
-    ready(header, cpu_slots, dma_slots) & (free_pages.len() == FREE_NUMBERS)
-}
-
-// ---- Validity.
-pub fn valid(
-    header: &[u64],
-    sets: &[u64],
-    pairs: &[u64],
-    cpu_map: &[u64],
-    cpu_walker: &[u64],
-    dma_map: &[u64],
-    dma_walker: &[u64],
-    memory: &[u64],
-    cpu_slots: usize,
-    dma_slots: usize,
-    cpu_words: [u64; SLOTS as usize],
-    dma_words: [u64; SLOTS as usize],
-) -> bool
-    ensures { λ r. ⌜ Decides r (Whole «cpu_slots» «dma_slots» × BoxValid same (box (now (header .entry)) (now (sets .entry)) (now (pairs .entry)) (now («cpu_map» .entry))
-        (now («cpu_walker» .entry)) «cpu_words» (now («dma_map» .entry)) (now («dma_walker» .entry)) «dma_words» (now (memory .entry)))) ⌝ }
-{
-    if !ready(header, cpu_slots, dma_slots) {
-        return false;
-    }
-    let m = box_header::machine_in(header);
-    let cpu = cpu_words;
-    let dma = dma_words;
-    judge::valid(
-        m,
-        sets,
-        pairs,
-        cpu_map,
-        cpu_walker,
-        &cpu,
-        dma_map,
-        dma_walker,
-        &dma,
-        memory,
-    )
-}
-
 // ---- One operation, as a row.
 pub fn operation(
     header: &mut [u64],
@@ -117,11 +67,13 @@ pub fn operation(
     cpu_words: [u64; SLOTS as usize],
     dma_words: [u64; SLOTS as usize],
 ) -> Finished
-    ensures { λ r. ⌜ Judgement (Whole «cpu_slots» «dma_slots» × OperationAsked same (box (now (header .entry)) (now (sets .entry)) (now (pairs .entry)) (now («cpu_map» .entry))
-        (now («cpu_walker» .entry)) «cpu_words» (now («dma_map» .entry)) (now («dma_walker» .entry)) «dma_words» (now (memory .entry))) (now (row .entry)) (now (answer .entry)))
-        (operationGives same same (box (now (header .entry)) (now (sets .entry)) (now (pairs .entry)) (now («cpu_map» .entry)) (now («cpu_walker» .entry)) «cpu_words» (now («dma_map» .entry)) (now («dma_walker» .entry)) «dma_words» (now (memory .entry))) (now (row .entry)) (now (answer .entry)))
-        (operationRefused (box (now (header .entry)) (now (sets .entry)) (now (pairs .entry)) (now («cpu_map» .entry)) (now («cpu_walker» .entry)) «cpu_words» (now («dma_map» .entry)) (now («dma_walker» .entry)) «dma_words» (now (memory .entry))) (now (answer .entry)))
-        (given (r .number) (now (answer .exit)) (box (now (header .exit)) (now (sets .exit)) (now (pairs .exit)) (now («cpu_map» .exit)) (now («cpu_walker» .exit)) (r .cpu) (now («dma_map» .exit)) (now («dma_walker» .exit)) (r .dma) (now (memory .exit)))) ⌝ }
+    ensures { λ r. ⌜ (let before = box (now (header .entry)) (now (sets .entry)) (now (pairs .entry)) (now («cpu_map» .entry)) (now («cpu_walker» .entry)) «cpu_words»
+        (now («dma_map» .entry)) (now («dma_walker» .entry)) «dma_words» (now (memory .entry)) in
+        let left = box (now (header .exit)) (now (sets .exit)) (now (pairs .exit)) (now («cpu_map» .exit)) (now («cpu_walker» .exit)) (r .cpu)
+        (now («dma_map» .exit)) (now («dma_walker» .exit)) (r .dma) (now (memory .exit)) in
+        Judgement (Whole «cpu_slots» «dma_slots» × OperationAsked same before (now (row .entry)) (now (answer .entry)))
+        (operationGives same same before (now (row .entry)) (now (answer .entry))) (operationRefused before (now (answer .entry)))
+        (given (r .number) (now (answer .exit)) left)) ⌝ }
 {
     if !row_ready(header, row, answer, cpu_slots, dma_slots) {
         let refused = numbers::refuse(Refusal::StateNotValid, 0);
@@ -177,10 +129,13 @@ pub fn sequence(
     cpu_words: [u64; SLOTS as usize],
     dma_words: [u64; SLOTS as usize],
 ) -> Finished
-    ensures { λ r. ⌜ Judgement (Whole «cpu_slots» «dma_slots» × BoxValid same (box (now (header .entry)) (now (sets .entry)) (now (pairs .entry)) (now («cpu_map» .entry)) (now («cpu_walker» .entry)) «cpu_words» (now («dma_map» .entry)) (now («dma_walker» .entry)) «dma_words» (now (memory .entry))))
-        (sequenceGives same same (box (now (header .entry)) (now (sets .entry)) (now (pairs .entry)) (now («cpu_map» .entry)) (now («cpu_walker» .entry)) «cpu_words» (now («dma_map» .entry)) (now («dma_walker» .entry)) «dma_words» (now (memory .entry))) (now (rows .entry)) (now (answers .entry)))
-        (refusedWhole (box (now (header .entry)) (now (sets .entry)) (now (pairs .entry)) (now («cpu_map» .entry)) (now («cpu_walker» .entry)) «cpu_words» (now («dma_map» .entry)) (now («dma_walker» .entry)) «dma_words» (now (memory .entry))) (now (answers .entry)))
-        (given (r .number) (now (answers .exit)) (box (now (header .exit)) (now (sets .exit)) (now (pairs .exit)) (now («cpu_map» .exit)) (now («cpu_walker» .exit)) (r .cpu) (now («dma_map» .exit)) (now («dma_walker» .exit)) (r .dma) (now (memory .exit)))) ⌝ }
+    ensures { λ r. ⌜ (let before = box (now (header .entry)) (now (sets .entry)) (now (pairs .entry)) (now («cpu_map» .entry)) (now («cpu_walker» .entry)) «cpu_words»
+        (now («dma_map» .entry)) (now («dma_walker» .entry)) «dma_words» (now (memory .entry)) in
+        let left = box (now (header .exit)) (now (sets .exit)) (now (pairs .exit)) (now («cpu_map» .exit)) (now («cpu_walker» .exit)) (r .cpu)
+        (now («dma_map» .exit)) (now («dma_walker» .exit)) (r .dma) (now (memory .exit)) in
+        Judgement (Whole «cpu_slots» «dma_slots» × BoxValid same before)
+        (sequenceGives same same before (now (rows .entry)) (now (answers .entry))) (refusedWhole before (now (answers .entry)))
+        (given (r .number) (now (answers .exit)) left)) ⌝ }
 {
     if !ready(header, cpu_slots, dma_slots) {
         let refused = numbers::refuse(Refusal::StateNotValid, 0);
@@ -217,54 +172,6 @@ pub fn sequence(
     }
 }
 
-// ---- The free query.
-pub fn free(
-    header: &[u64],
-    sets: &[u64],
-    pairs: &[u64],
-    cpu_map: &[u64],
-    cpu_walker: &[u64],
-    dma_map: &[u64],
-    dma_walker: &[u64],
-    memory: &[u64],
-    free_pages: &mut [u64],
-    cpu_slots: usize,
-    dma_slots: usize,
-    cpu_words: [u64; SLOTS as usize],
-    dma_words: [u64; SLOTS as usize],
-) -> u64
-    ensures { λ r. ⌜ Judgement (Whole «cpu_slots» «dma_slots» × FreeAsked same (box (now (header .entry)) (now (sets .entry)) (now (pairs .entry)) (now («cpu_map» .entry))
-        (now («cpu_walker» .entry)) «cpu_words» (now («dma_map» .entry)) (now («dma_walker» .entry)) «dma_words» (now (memory .entry))) (now («free_pages» .entry)))
-        (freeGives same (box (now (header .entry)) (now (sets .entry)) (now (pairs .entry)) (now («cpu_map» .entry)) (now («cpu_walker» .entry)) «cpu_words» (now («dma_map» .entry)) (now («dma_walker» .entry)) «dma_words» (now (memory .entry))) (now («free_pages» .entry)))
-        (freeTold (now («free_pages» .entry)) freeRefused)
-        (freeGiven r (now («free_pages» .exit))) ⌝ }
-{
-    if !free_ready(header, free_pages, cpu_slots, dma_slots) {
-        let refused = numbers::refuse(Refusal::StateNotValid, 0);
-        box_header::put_free(free_pages, 0, Lowest::Nothing);
-        return box_header::number_of(refused);
-    }
-    let m = box_header::machine_in(header);
-    let cpu = cpu_words;
-    let dma = dma_words;
-    let free = machine::entries::free(
-        m,
-        sets,
-        pairs,
-        cpu_map,
-        cpu_walker,
-        &cpu,
-        dma_map,
-        dma_walker,
-        &dma,
-        memory,
-    );
-    let lowest = free.lowest;
-    let gave = free.answer;
-    box_header::put_free(free_pages, free.count, lowest);
-    box_header::number_of(gave)
-}
-
 // ---- Start.
 pub fn start(
     header: &mut [u64],
@@ -284,10 +191,12 @@ pub fn start(
     cpu_words: [u64; SLOTS as usize],
     dma_words: [u64; SLOTS as usize],
 ) -> Finished
-    ensures { λ r. ⌜ StartOfWords «cpu_slots» «dma_slots» (box (now (header .entry)) (now (sets .entry)) (now (pairs .entry)) (now («cpu_map» .entry)) (now («cpu_walker» .entry))
-        «cpu_words» (now («dma_map» .entry)) (now («dma_walker» .entry)) «dma_words» (now (memory .entry))) (told pages «shared_base» «shared_count» (now (units .entry)))
-        (startGiven (r .number) (box (now (header .exit)) (now (sets .exit)) (now (pairs .exit)) (now («cpu_map» .exit)) (now («cpu_walker» .exit)) (r .cpu) (now («dma_map» .exit))
-        (now («dma_walker» .exit)) (r .dma) (now (memory .exit)))) ⌝ }
+    ensures { λ r. ⌜ (let before = box (now (header .entry)) (now (sets .entry)) (now (pairs .entry)) (now («cpu_map» .entry)) (now («cpu_walker» .entry)) «cpu_words»
+        (now («dma_map» .entry)) (now («dma_walker» .entry)) «dma_words» (now (memory .entry)) in
+        let left = box (now (header .exit)) (now (sets .exit)) (now (pairs .exit)) (now («cpu_map» .exit)) (now («cpu_walker» .exit)) (r .cpu)
+        (now («dma_map» .exit)) (now («dma_walker» .exit)) (r .dma) (now (memory .exit)) in
+        StartOfWords «cpu_slots» «dma_slots» before (told pages «shared_base» «shared_count» (now (units .entry)))
+        (startGiven (r .number) left)) ⌝ }
 {
     let refused = numbers::refuse(Refusal::StateNotValid, 0);
     if header.len() != MACHINE_NUMBERS {

@@ -24,11 +24,13 @@ pub extern "C" fn tiligormis_start(
     shared_count: u64,
     units: &[u64],
 ) -> u64
-    ensures { λ r. ⌜ Judgement (HeaderWhole (now (machine .entry)))
-        (startGives words slotsOf (box (now (machine .entry)) (now (sets .entry)) (now (pairs .entry)) (now («cpu_map» .entry)) (now («cpu_walker» .entry)) (now («cpu_cache» .entry))
-        (now («dma_map» .entry)) (now («dma_walker» .entry)) (now («dma_cache» .entry)) (now (memory .entry))) (told pages «shared_base» «shared_count» (now (units .entry))))
-        (startRefused (box (now (machine .entry)) (now (sets .entry)) (now (pairs .entry)) (now («cpu_map» .entry)) (now («cpu_walker» .entry)) (now («cpu_cache» .entry)) (now («dma_map» .entry)) (now («dma_walker» .entry)) (now («dma_cache» .entry)) (now (memory .entry))))
-        (startGiven r (box (now (machine .exit)) (now (sets .exit)) (now (pairs .exit)) (now («cpu_map» .exit)) (now («cpu_walker» .exit)) (now («cpu_cache» .exit)) (now («dma_map» .exit)) (now («dma_walker» .exit)) (now («dma_cache» .exit)) (now (memory .exit)))) ⌝ }
+    ensures { λ r. ⌜ (let before = box (now (machine .entry)) (now (sets .entry)) (now (pairs .entry)) (now («cpu_map» .entry)) (now («cpu_walker» .entry)) (now («cpu_cache» .entry))
+        (now («dma_map» .entry)) (now («dma_walker» .entry)) (now («dma_cache» .entry)) (now (memory .entry)) in
+        let left = box (now (machine .exit)) (now (sets .exit)) (now (pairs .exit)) (now («cpu_map» .exit)) (now («cpu_walker» .exit)) (now («cpu_cache» .exit))
+        (now («dma_map» .exit)) (now («dma_walker» .exit)) (now («dma_cache» .exit)) (now (memory .exit)) in
+        Judgement (HeaderWhole (now (machine .entry)))
+        (startGives words slotsOf before (told pages «shared_base» «shared_count» (now (units .entry)))) (startRefused before)
+        (startGiven r left)) ⌝ }
 {
     let cpu_slots = cpu_cache.len();
     let dma_slots = dma_cache.len();

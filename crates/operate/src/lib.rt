@@ -76,8 +76,11 @@ pub fn step(
     operation: Operation,
 ) -> Stepped
     requires { ⌜ Fit fixed (now sets) (now memory) ⌝ }
-    ensures { λ r. ⌜ outcome (r .answer) (headerOf fixed (r .registers)) (now (sets .exit)) (now (pairs .exit)) (now («cpu_map» .exit)) (now («cpu_walker» .exit)) (now («cpu_cache» .exit)) (now («dma_map» .exit)) (now («dma_walker» .exit)) (now («dma_cache» .exit)) (now (memory .exit))
-        ≡ step (stateOf (headerOf fixed registers) (now (sets .entry)) (now (pairs .entry)) (now («cpu_map» .entry)) (now («cpu_walker» .entry)) (now («cpu_cache» .entry)) (now («dma_map» .entry)) (now («dma_walker» .entry)) (now («dma_cache» .entry)) (now (memory .entry))) operation ⌝ }
+    ensures { λ r. ⌜ (let before = stateOf (headerOf fixed registers) (now (sets .entry)) (now (pairs .entry)) (now («cpu_map» .entry)) (now («cpu_walker» .entry)) (now («cpu_cache» .entry))
+        (now («dma_map» .entry)) (now («dma_walker» .entry)) (now («dma_cache» .entry)) (now (memory .entry)) in
+        let left = outcome (r .answer) (headerOf fixed (r .registers)) (now (sets .exit)) (now (pairs .exit)) (now («cpu_map» .exit)) (now («cpu_walker» .exit)) (now («cpu_cache» .exit))
+        (now («dma_map» .exit)) (now («dma_walker» .exit)) (now («dma_cache» .exit)) (now (memory .exit)) in
+        left ≡ step before operation) ⌝ }
 {
     match operation {
         Operation::AddVm(vm) => {
@@ -252,8 +255,11 @@ pub fn operate(
     operation: Operation,
 ) -> Done
     requires { ⌜ Fit (m .fixed) (now sets) (now memory) ⌝ }
-    ensures { λ r. ⌜ outcome (r .answer) (r .machine) (now (sets .exit)) (now (pairs .exit)) (now («cpu_map» .exit)) (now («cpu_walker» .exit)) (now («cpu_cache» .exit)) (now («dma_map» .exit)) (now («dma_walker» .exit)) (now («dma_cache» .exit)) (now (memory .exit))
-        ≡ step (stateOf m (now (sets .entry)) (now (pairs .entry)) (now («cpu_map» .entry)) (now («cpu_walker» .entry)) (now («cpu_cache» .entry)) (now («dma_map» .entry)) (now («dma_walker» .entry)) (now («dma_cache» .entry)) (now (memory .entry))) operation ⌝ }
+    ensures { λ r. ⌜ (let before = stateOf m (now (sets .entry)) (now (pairs .entry)) (now («cpu_map» .entry)) (now («cpu_walker» .entry)) (now («cpu_cache» .entry))
+        (now («dma_map» .entry)) (now («dma_walker» .entry)) (now («dma_cache» .entry)) (now (memory .entry)) in
+        let left = outcome (r .answer) (r .machine) (now (sets .exit)) (now (pairs .exit)) (now («cpu_map» .exit)) (now («cpu_walker» .exit)) (now («cpu_cache» .exit))
+        (now («dma_map» .exit)) (now («dma_walker» .exit)) (now («dma_cache» .exit)) (now (memory .exit)) in
+        left ≡ step before operation) ⌝ }
 {
     let fixed = m.fixed;
     let registers = m.registers;

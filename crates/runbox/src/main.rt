@@ -1,6 +1,5 @@
 // Runs a box script: reads it from standard input, in pieces, and writes a line for a line (docs/MACHINE.md, 11). What ended
 // it is one line more, on standard error.
-mod lines;
 
 ghost use Rattle.batch.specs.Room.{Orderly};
 use batch::CACHE_WORDS;
@@ -11,6 +10,7 @@ use batch::ROWS_ROOM;
 use batch::SETS_WORDS;
 use batch::UNITS_ROOM;
 use batch::Work;
+use batch::carry::pause;
 use batch::carry::query;
 use batch::carry::settle;
 use libc::STDERR_FILENO;
@@ -161,49 +161,6 @@ fn piece(
     Place { work, reader, bad }
 }
 
-// After a piece, rows that wait are carried out and written: whoever told them may wait for their answers. A box without rows
-// goes on waiting, since units may follow.
-fn pause(
-    place: Place,
-    units: &mut [u64; UNITS_ROOM],
-    sets: &mut [u64; SETS_WORDS],
-    pairs: &mut [u64; PAIRS],
-    cpu_map: &mut [u64; ENTRIES],
-    cpu_walker: &mut [u64; ENTRIES],
-    cpu_cache: &mut [u64; CACHE_WORDS],
-    dma_map: &mut [u64; ENTRIES],
-    dma_walker: &mut [u64; ENTRIES],
-    dma_cache: &mut [u64; CACHE_WORDS],
-    memory: &mut [u64; MEMORY_WORDS],
-    rows: &mut [u64; ROWS_ROOM],
-) -> Place
-    requires { ⌜ Orderly (place .work .units) (place .work .rows) ⌝ }
-    ensures { λ r. ⌜ Orderly (r .work .units) (r .work .rows) ⌝ }
-{
-    let told = place.work;
-    let reader = place.reader;
-    let work = settle(
-        told,
-        batch::rows_wait(told),
-        units,
-        sets,
-        pairs,
-        cpu_map,
-        cpu_walker,
-        cpu_cache,
-        dma_map,
-        dma_walker,
-        dma_cache,
-        memory,
-        rows,
-    );
-    Place {
-        work,
-        reader,
-        bad: place.bad,
-    }
-}
-
 // The last line, with or without a line end, and all that still waits.
 fn finish(
     place: Place,
@@ -320,8 +277,10 @@ fn run(
             memory,
             rows,
         );
-        place = pause(
-            told,
+        let waits = told.work;
+        let reader = told.reader;
+        let work = pause(
+            waits,
             units,
             sets,
             pairs,
@@ -334,7 +293,11 @@ fn run(
             memory,
             rows,
         );
-        let work = place.work;
+        place = Place {
+            work,
+            reader,
+            bad: told.bad,
+        };
         if batch::has_ended(work) {
             return place;
         }

@@ -52,9 +52,11 @@ fn turn(
 ) -> Registers
     requires { ⌜ Fit fixed (now sets) (now memory) ⌝ }
     requires { ⌜ ((k + 1) * ROW-NUMBERS ≤ length (now rows)) × ((k + 1) * ANSWER-NUMBERS ≤ length (now room)) ⌝ }
-    ensures { λ r. ⌜ progress (headerOf fixed r) (now (sets .exit)) (now (pairs .exit)) (now («cpu_map» .exit)) (now («cpu_walker» .exit)) (now («cpu_cache» .exit)) (now («dma_map» .exit)) (now («dma_walker» .exit)) (now («dma_cache» .exit)) (now (memory .exit)) (now (room .exit))
-        ≡ turn (now (rows .entry)) k (progress (headerOf fixed registers) (now (sets .entry)) (now (pairs .entry)) (now («cpu_map» .entry)) (now («cpu_walker» .entry))
-        (now («cpu_cache» .entry)) (now («dma_map» .entry)) (now («dma_walker» .entry)) (now («dma_cache» .entry)) (now (memory .entry)) (now (room .entry))) ⌝ }
+    ensures { λ r. ⌜ (let before = progress (headerOf fixed registers) (now (sets .entry)) (now (pairs .entry)) (now («cpu_map» .entry)) (now («cpu_walker» .entry)) (now («cpu_cache» .entry))
+        (now («dma_map» .entry)) (now («dma_walker» .entry)) (now («dma_cache» .entry)) (now (memory .entry)) (now (room .entry)) in
+        let left = progress (headerOf fixed r) (now (sets .exit)) (now (pairs .exit)) (now («cpu_map» .exit)) (now («cpu_walker» .exit)) (now («cpu_cache» .exit))
+        (now («dma_map» .exit)) (now («dma_walker» .exit)) (now («dma_cache» .exit)) (now (memory .exit)) (now (room .exit)) in
+        left ≡ turn (now (rows .entry)) k before) ⌝ }
 {
     let decoded = rows::operation_at(rows, k);
     match decoded {
@@ -111,9 +113,11 @@ fn run(
 ) -> Registers
     requires { ⌜ Fit fixed (now sets) (now memory) ⌝ }
     requires { ⌜ (count * ROW-NUMBERS ≤ length (now rows)) × (count * ANSWER-NUMBERS ≤ length (now room)) ⌝ }
-    ensures { λ r. ⌜ progress (headerOf fixed r) (now (sets .exit)) (now (pairs .exit)) (now («cpu_map» .exit)) (now («cpu_walker» .exit)) (now («cpu_cache» .exit)) (now («dma_map» .exit)) (now («dma_walker» .exit)) (now («dma_cache» .exit)) (now (memory .exit)) (now (room .exit))
-        ≡ after (now (rows .entry)) count (progress (headerOf fixed registers) (now (sets .entry)) (now (pairs .entry)) (now («cpu_map» .entry)) (now («cpu_walker» .entry))
-        (now («cpu_cache» .entry)) (now («dma_map» .entry)) (now («dma_walker» .entry)) (now («dma_cache» .entry)) (now (memory .entry)) (now (room .entry))) ⌝ }
+    ensures { λ r. ⌜ (let before = progress (headerOf fixed registers) (now (sets .entry)) (now (pairs .entry)) (now («cpu_map» .entry)) (now («cpu_walker» .entry)) (now («cpu_cache» .entry))
+        (now («dma_map» .entry)) (now («dma_walker» .entry)) (now («dma_cache» .entry)) (now (memory .entry)) (now (room .entry)) in
+        let left = progress (headerOf fixed r) (now (sets .exit)) (now (pairs .exit)) (now («cpu_map» .exit)) (now («cpu_walker» .exit)) (now («cpu_cache» .exit))
+        (now («dma_map» .exit)) (now («dma_walker» .exit)) (now («dma_cache» .exit)) (now (memory .exit)) (now (room .exit)) in
+        left ≡ after (now (rows .entry)) count before) ⌝ }
 {
     let mut next = registers;
     let mut k = 0;
@@ -182,8 +186,11 @@ pub fn carry_out(
     room: &mut [u64],
 ) -> Ran
     requires { ⌜ Fit (m .fixed) (now sets) (now memory) ⌝ }
-    ensures { λ r. ⌜ ran (r .answer) (progress (r .machine) (now (sets .exit)) (now (pairs .exit)) (now («cpu_map» .exit)) (now («cpu_walker» .exit)) (now («cpu_cache» .exit)) (now («dma_map» .exit)) (now («dma_walker» .exit)) (now («dma_cache» .exit)) (now (memory .exit)) (now (room .exit)))
-        ≡ sequence (stateOf m (now (sets .entry)) (now (pairs .entry)) (now («cpu_map» .entry)) (now («cpu_walker» .entry)) (now («cpu_cache» .entry)) (now («dma_map» .entry)) (now («dma_walker» .entry)) (now («dma_cache» .entry)) (now (memory .entry))) (now (rows .entry)) (now (room .entry)) ⌝ }
+    ensures { λ r. ⌜ (let before = stateOf m (now (sets .entry)) (now (pairs .entry)) (now («cpu_map» .entry)) (now («cpu_walker» .entry)) (now («cpu_cache» .entry))
+        (now («dma_map» .entry)) (now («dma_walker» .entry)) (now («dma_cache» .entry)) (now (memory .entry)) in
+        let left = ran (r .answer) (progress (r .machine) (now (sets .exit)) (now (pairs .exit)) (now («cpu_map» .exit)) (now («cpu_walker» .exit)) (now («cpu_cache» .exit))
+        (now («dma_map» .exit)) (now («dma_walker» .exit)) (now («dma_cache» .exit)) (now (memory .exit)) (now (room .exit))) in
+        left ≡ sequence before (now (rows .entry)) (now (room .entry))) ⌝ }
 {
     let answer = shape(rows.len(), room.len());
     if let Answer::Refused { refusal, index } = answer {

@@ -29,7 +29,7 @@ pub extern "C" fn tiligormis_valid(
     let dma_slots = dma_cache.len();
     let cpu_words = slots::load(cpu_cache, SLOTS as usize);
     let dma_words = slots::load(dma_cache, SLOTS as usize);
-    box_cores::valid(
+    box_reads::valid(
         machine,
         sets,
         pairs,
@@ -61,12 +61,13 @@ pub extern "C" fn tiligormis_operation(
     row: &[u64],
     answer: &mut [u64],
 ) -> u64
-    ensures { λ r. ⌜ Judgement (OperationAsked words (box (now (machine .entry)) (now (sets .entry)) (now (pairs .entry)) (now («cpu_map» .entry)) (now («cpu_walker» .entry))
-        (now («cpu_cache» .entry)) (now («dma_map» .entry)) (now («dma_walker» .entry)) (now («dma_cache» .entry)) (now (memory .entry))) (now (row .entry)) (now (answer .entry)))
-        (operationGives words slotsOf (box (now (machine .entry)) (now (sets .entry)) (now (pairs .entry)) (now («cpu_map» .entry)) (now («cpu_walker» .entry)) (now («cpu_cache» .entry))
-        (now («dma_map» .entry)) (now («dma_walker» .entry)) (now («dma_cache» .entry)) (now (memory .entry))) (now (row .entry)) (now (answer .entry)))
-        (operationRefused (box (now (machine .entry)) (now (sets .entry)) (now (pairs .entry)) (now («cpu_map» .entry)) (now («cpu_walker» .entry)) (now («cpu_cache» .entry)) (now («dma_map» .entry)) (now («dma_walker» .entry)) (now («dma_cache» .entry)) (now (memory .entry))) (now (answer .entry)))
-        (given r (now (answer .exit)) (box (now (machine .exit)) (now (sets .exit)) (now (pairs .exit)) (now («cpu_map» .exit)) (now («cpu_walker» .exit)) (now («cpu_cache» .exit)) (now («dma_map» .exit)) (now («dma_walker» .exit)) (now («dma_cache» .exit)) (now (memory .exit)))) ⌝ }
+    ensures { λ r. ⌜ (let before = box (now (machine .entry)) (now (sets .entry)) (now (pairs .entry)) (now («cpu_map» .entry)) (now («cpu_walker» .entry)) (now («cpu_cache» .entry))
+        (now («dma_map» .entry)) (now («dma_walker» .entry)) (now («dma_cache» .entry)) (now (memory .entry)) in
+        let left = box (now (machine .exit)) (now (sets .exit)) (now (pairs .exit)) (now («cpu_map» .exit)) (now («cpu_walker» .exit)) (now («cpu_cache» .exit))
+        (now («dma_map» .exit)) (now («dma_walker» .exit)) (now («dma_cache» .exit)) (now (memory .exit)) in
+        Judgement (OperationAsked words before (now (row .entry)) (now (answer .entry)))
+        (operationGives words slotsOf before (now (row .entry)) (now (answer .entry)))
+        (operationRefused before (now (answer .entry))) (given r (now (answer .exit)) left)) ⌝ }
 {
     let cpu_slots = cpu_cache.len();
     let dma_slots = dma_cache.len();
@@ -109,11 +110,12 @@ pub extern "C" fn tiligormis_sequence(
     rows: &[u64],
     answers: &mut [u64],
 ) -> u64
-    ensures { λ r. ⌜ Judgement (BoxValid words (box (now (machine .entry)) (now (sets .entry)) (now (pairs .entry)) (now («cpu_map» .entry)) (now («cpu_walker» .entry)) (now («cpu_cache» .entry)) (now («dma_map» .entry)) (now («dma_walker» .entry)) (now («dma_cache» .entry)) (now (memory .entry))))
-        (sequenceGives words slotsOf (box (now (machine .entry)) (now (sets .entry)) (now (pairs .entry)) (now («cpu_map» .entry)) (now («cpu_walker» .entry)) (now («cpu_cache» .entry))
-        (now («dma_map» .entry)) (now («dma_walker» .entry)) (now («dma_cache» .entry)) (now (memory .entry))) (now (rows .entry)) (now (answers .entry)))
-        (refusedWhole (box (now (machine .entry)) (now (sets .entry)) (now (pairs .entry)) (now («cpu_map» .entry)) (now («cpu_walker» .entry)) (now («cpu_cache» .entry)) (now («dma_map» .entry)) (now («dma_walker» .entry)) (now («dma_cache» .entry)) (now (memory .entry))) (now (answers .entry)))
-        (given r (now (answers .exit)) (box (now (machine .exit)) (now (sets .exit)) (now (pairs .exit)) (now («cpu_map» .exit)) (now («cpu_walker» .exit)) (now («cpu_cache» .exit)) (now («dma_map» .exit)) (now («dma_walker» .exit)) (now («dma_cache» .exit)) (now (memory .exit)))) ⌝ }
+    ensures { λ r. ⌜ (let before = box (now (machine .entry)) (now (sets .entry)) (now (pairs .entry)) (now («cpu_map» .entry)) (now («cpu_walker» .entry)) (now («cpu_cache» .entry))
+        (now («dma_map» .entry)) (now («dma_walker» .entry)) (now («dma_cache» .entry)) (now (memory .entry)) in
+        let left = box (now (machine .exit)) (now (sets .exit)) (now (pairs .exit)) (now («cpu_map» .exit)) (now («cpu_walker» .exit)) (now («cpu_cache» .exit))
+        (now («dma_map» .exit)) (now («dma_walker» .exit)) (now («dma_cache» .exit)) (now (memory .exit)) in
+        Judgement (BoxValid words before) (sequenceGives words slotsOf before (now (rows .entry)) (now (answers .entry)))
+        (refusedWhole before (now (answers .entry))) (given r (now (answers .exit)) left)) ⌝ }
 {
     let cpu_slots = cpu_cache.len();
     let dma_slots = dma_cache.len();
@@ -155,18 +157,16 @@ pub extern "C" fn tiligormis_free(
     memory: &[u64],
     free_pages: &mut [u64],
 ) -> u64
-    ensures { λ r. ⌜ Judgement (FreeAsked words (box (now (machine .entry)) (now (sets .entry)) (now (pairs .entry)) (now («cpu_map» .entry)) (now («cpu_walker» .entry))
-        (now («cpu_cache» .entry)) (now («dma_map» .entry)) (now («dma_walker» .entry)) (now («dma_cache» .entry)) (now (memory .entry))) (now («free_pages» .entry)))
-        (freeGives words (box (now (machine .entry)) (now (sets .entry)) (now (pairs .entry)) (now («cpu_map» .entry)) (now («cpu_walker» .entry)) (now («cpu_cache» .entry))
-        (now («dma_map» .entry)) (now («dma_walker» .entry)) (now («dma_cache» .entry)) (now (memory .entry))) (now («free_pages» .entry)))
-        (freeTold (now («free_pages» .entry)) freeRefused)
-        (freeGiven r (now («free_pages» .exit))) ⌝ }
+    ensures { λ r. ⌜ (let before = box (now (machine .entry)) (now (sets .entry)) (now (pairs .entry)) (now («cpu_map» .entry)) (now («cpu_walker» .entry)) (now («cpu_cache» .entry))
+        (now («dma_map» .entry)) (now («dma_walker» .entry)) (now («dma_cache» .entry)) (now (memory .entry)) in
+        Judgement (FreeAsked words before (now («free_pages» .entry))) (freeGives words before (now («free_pages» .entry)))
+        (freeTold (now («free_pages» .entry)) freeRefused) (freeGiven r (now («free_pages» .exit)))) ⌝ }
 {
     let cpu_slots = cpu_cache.len();
     let dma_slots = dma_cache.len();
     let cpu_words = slots::load(cpu_cache, SLOTS as usize);
     let dma_words = slots::load(dma_cache, SLOTS as usize);
-    box_cores::free(
+    box_reads::free(
         machine,
         sets,
         pairs,

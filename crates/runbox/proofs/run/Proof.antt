@@ -15,16 +15,22 @@ abbrev μ-loop : tie.MeasureT-loop
     turns
 
 sub-turns : tie.Need-sub-turns Inv-loop μ-loop
-sub-turns c = omega (arith, c .before .before .before .before .before .before .before .before .before .before .before .before .before .before .before .before .before .before .before .before .before .before .before .before .before .before .before .before .before .before .before .before .before .before .before .loop-test .taken)
+sub-turns c =
+    let told = c .before .before .before .before .before .before .before .before .before .before .before .before .before .before .before .before in
+    let read = told .before .before .before .before .before .before .before .before .before .before .before .before .before .before .before .before .before .before in
+    omega (arith, read .before .before .loop-test .taken)
 
 loop-less : tie.Need-loop-less Inv-loop μ-loop
-loop-less c = omega (arith, c .before .before .before .before .before .before .before .before .before .before .before .before .before .before .before .before .before .before .before .before .before .before .before .before .before .before .before .before .before .before .before .before .before .before .before .loop-test .taken)
+loop-less c =
+    let told = c .before .before .before .before .before .before .before .before .before .before .before .before .before .before .before .before in
+    let read = told .before .before .before .before .before .before .before .before .before .before .before .before .before .before .before .before .before .before in
+    omega (arith, read .before .before .loop-test .taken)
 
 loop-again : tie.Need-loop-again Inv-loop μ-loop
 loop-again c =
-    let done = c .before .before .before in
-    let got = done .before .before .before .before .before .before .before .before .before .before .before .before .before .before .before .before .before .before .before .before .before .before .before .before .before .before .before .before .before .before in
-    (done .pause .ensures, omega (arith, got .read .kept .1 .0, got .before .before .before .loop .inv .1))
+    let told = c .before .before .before .before .before .before .before .before .before .before .before .before .before .before .before .before in
+    let got = told .before .before .before .before .before .before .before .before .before .before .before .before .before .before .before .before .before .before in
+    (c .before .before .pause .ensures, omega (arith, got .read .kept .1 .0, got .before .before .before .loop .inv .1))
 
 pub run-spec : {M : Type 1} → statement M
 run-spec =

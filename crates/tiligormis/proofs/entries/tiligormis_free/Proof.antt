@@ -48,10 +48,10 @@ use Rattle.slots.proofs.Cited.{Load, to-load, goes-load, Loaded, IsLoaded, load
 use Rattle.slots.proofs.load.Symbol as load-def
 use Rattle.slots.proofs.load.Symbol.{name as #load}
 use Rattle.slots.proofs.load.Met as load-thm
-use Rattle.box_cores.proofs.free as core′
-use Rattle.box_cores.proofs.free.Symbol as core-def
-use Rattle.box_cores.proofs.free.Symbol.{name as #core}
-use Rattle.box_cores.proofs.free.Met as core-thm
+use Rattle.box_reads.proofs.free as core′
+use Rattle.box_reads.proofs.free.Symbol as core-def
+use Rattle.box_reads.proofs.free.Symbol.{name as #core}
+use Rattle.box_reads.proofs.free.Met as core-thm
 use Rattle.tiligormis.proofs.entries.tiligormis_free.Key.{name as #entry}
 use Rattle.tiligormis.proofs.entries.tiligormis_free as entry′
 use Rattle.tiligormis.proofs.entries.tiligormis_free.Statement as stated
@@ -175,4 +175,4 @@ tiligormis-free-spec 𝓤 H 𝓜 𝓖 𝓡 =
     (tables 𝓤 H 𝓜 𝓡 code.env .C) (tables 𝓤 H 𝓜 𝓡 code.env .Λ) #entry code.function (code.unfolded 𝓤 H 𝓜 𝓡)
     (entry-meets 𝓤 H (𝓖 .A) (𝓜 .mem) (𝓡 .run) (givenOf 𝓤 H 𝓜 𝓖) (tablesOf 𝓤 H 𝓜 (tables 𝓤 H 𝓜 𝓡 code.env))
     (cited 𝓤 H (Load 𝓤 H (𝓖 .A) (𝓜 .mem) (𝓡 .run)) 𝓜 𝓡 code.env #load load-def.routine code.calls-slots·load (load-thm.met 𝓤 H 𝓜 𝓖 𝓡))
-    (cited 𝓤 H (Core 𝓤 H (𝓖 .A) (𝓜 .mem) (𝓡 .run)) 𝓜 𝓡 code.env #core core-def.routine code.calls-box-cores·free (core-thm.met 𝓤 H 𝓜 𝓖 𝓡)))
+    (cited 𝓤 H (Core 𝓤 H (𝓖 .A) (𝓜 .mem) (𝓡 .run)) 𝓜 𝓡 code.env #core core-def.routine code.calls-box-reads·free (core-thm.met 𝓤 H 𝓜 𝓖 𝓡)))

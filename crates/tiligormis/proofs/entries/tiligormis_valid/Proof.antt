@@ -49,10 +49,10 @@ use Rattle.slots.proofs.Cited.{Load, to-load, goes-load, Loaded, IsLoaded, load
 use Rattle.slots.proofs.load.Symbol as load-def
 use Rattle.slots.proofs.load.Symbol.{name as #load}
 use Rattle.slots.proofs.load.Met as load-thm
-use Rattle.box_cores.proofs.valid as core′
-use Rattle.box_cores.proofs.valid.Symbol as core-def
-use Rattle.box_cores.proofs.valid.Symbol.{name as #core}
-use Rattle.box_cores.proofs.valid.Met as core-thm
+use Rattle.box_reads.proofs.valid as core′
+use Rattle.box_reads.proofs.valid.Symbol as core-def
+use Rattle.box_reads.proofs.valid.Symbol.{name as #core}
+use Rattle.box_reads.proofs.valid.Met as core-thm
 use Rattle.tiligormis.proofs.entries.tiligormis_valid.Key.{name as #entry}
 use Rattle.tiligormis.proofs.entries.tiligormis_valid as entry′
 use Rattle.tiligormis.proofs.entries.tiligormis_valid.Statement as stated
@@ -171,4 +171,4 @@ tiligormis-valid-spec 𝓤 H 𝓜 𝓖 𝓡 =
     (tables 𝓤 H 𝓜 𝓡 code.env .C) (tables 𝓤 H 𝓜 𝓡 code.env .Λ) #entry code.function (code.unfolded 𝓤 H 𝓜 𝓡)
     (entry-meets 𝓤 H (𝓖 .A) (𝓜 .mem) (𝓡 .run) (givenOf 𝓤 H 𝓜 𝓖) (tablesOf 𝓤 H 𝓜 (tables 𝓤 H 𝓜 𝓡 code.env))
     (cited 𝓤 H (Load 𝓤 H (𝓖 .A) (𝓜 .mem) (𝓡 .run)) 𝓜 𝓡 code.env #load load-def.routine code.calls-slots·load (load-thm.met 𝓤 H 𝓜 𝓖 𝓡))
-    (cited 𝓤 H (Core 𝓤 H (𝓖 .A) (𝓜 .mem) (𝓡 .run)) 𝓜 𝓡 code.env #core core-def.routine code.calls-box-cores·valid (core-thm.met 𝓤 H 𝓜 𝓖 𝓡)))
+    (cited 𝓤 H (Core 𝓤 H (𝓖 .A) (𝓜 .mem) (𝓡 .run)) 𝓜 𝓡 code.env #core core-def.routine code.calls-box-reads·valid (core-thm.met 𝓤 H 𝓜 𝓖 𝓡)))

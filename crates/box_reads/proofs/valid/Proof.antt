@@ -1,9 +1,9 @@
 use borrow.Author.Needs.{needs}
 use mathlib.Core.Path.{sym}
 use Rattle.numbers.specs.DecidesLaws.{says-no, failed, passed}
 use Rattle.box_cores.specs.CoreLaws.{valid-core}
-use Rattle.box_cores.proofs.valid.Statement.{statement}
-use Rattle.box_cores.proofs.valid.Tie as tie
+use Rattle.box_reads.proofs.valid.Statement.{statement}
+use Rattle.box_reads.proofs.valid.Tie as tie
 
 returns : tie.Need-returns
 returns c = says-no (λ p. failed (c .before .ready .ensures) (c .if1 .taken) (p .0, p .1 .header))

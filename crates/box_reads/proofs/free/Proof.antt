@@ -1,10 +1,10 @@
 use borrow.Author.Needs.{needs}
 use mathlib.Core.Path.{sym}
 use Rattle.numbers.specs.DecidesLaws.{failed, passed}
 use Rattle.box_cores.specs.CoreLaws.{free-core}
 use Rattle.box_cores.specs.Given.{unmet}
-use Rattle.box_cores.proofs.free.Statement.{statement}
-use Rattle.box_cores.proofs.free.Tie as tie
+use Rattle.box_reads.proofs.free.Statement.{statement}
+use Rattle.box_reads.proofs.free.Tie as tie
 
 returns : tie.Need-returns
 returns c =

@@ -1,8 +1,8 @@
 use borrow.Author.Needs.{needs}
 use Rattle.numbers.specs.DecidesLaws.{decides-and, decides-equal}
 use Rattle.box_cores.specs.Given.{FREE-NUMBERS}
-use Rattle.box_cores.proofs.free_ready.Statement.{statement}
-use Rattle.box_cores.proofs.free_ready.Tie as tie
+use Rattle.box_reads.proofs.free_ready.Statement.{statement}
+use Rattle.box_reads.proofs.free_ready.Tie as tie
 
 returns : tie.Need-returns
 returns c = decides-and (c .ready .ensures) (decides-equal _ FREE-NUMBERS)
