@@ -1,0 +1,2 @@
+-- Reading what was written, and writing what was read.
+use Prim.Native.Nat.{ℕ}

@@ -1,0 +1,2 @@
+-- Reading and writing numbers in bytes undo each other, at any width and any place.
+use Prim.Native.Nat.{ℕ}
