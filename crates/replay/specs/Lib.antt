@@ -1,0 +1,2 @@
+-- Replay: the records of a log, carried out.
+pub mod Replay
