@@ -1,1 +1,3 @@
+-- What is proved of the log, and what the walks over a reader share.
+pub mod KindNumbers
 pub mod Readers
