@@ -1,2 +1,3 @@
 -- What is proved of the log.
 pub mod KindNumbers
+pub mod ReadWritten
