@@ -2,3 +2,4 @@
 pub mod KindNumbers
 pub mod ReadWritten
 pub mod Readers
+pub mod Worked
