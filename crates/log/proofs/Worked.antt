@@ -4,7 +4,7 @@ use mathlib.Core.List.{List, [], _∷_, _++_, map}
 use mathlib.Core.Path.{_≡_, refl}
 use lib.ListN.{take, replicate}
 use Rattle.log.specs.Kinds.{argumentCounts}
-use Rattle.log.specs.Log.{logRefusalNumber, recordOf, noRecord, recordAt, writtenAt, written}
+use Rattle.log.specs.Log.{logRefusalNumber, recordOf, recordAt, writtenAt, written}
 use Rattle.log.specs.Logs.{logOf, Readings, readAll}
 use Rattle.log.specs.declared.LogRefusal.the-variants.{CutShort, UnknownKind, WrongLength, DoesNotFit}
 use Rattle.log.specs.declared.Found.{Found}
@@ -134,7 +134,11 @@ readings =
     ∷ reading addOne 1000 End
     ∷ []
 
-pub readings-say : map (λ (r : Reading). recordAt (r .log) (r .place)) readings ≡ map (λ (r : Reading). noRecord (r .says) (r .place)) readings
+-- the row is of zeros then, and the place is kept
+abbrev pub saysIn : Reading → Taken
+saysIn r = record { found = r .says; row = replicate 8 0; next = r .place }
+
+pub readings-say : map (λ (r : Reading). recordAt (r .log) (r .place)) readings ≡ map saysIn readings
 unfolding recordAt argumentCounts
 readings-say = refl
 
