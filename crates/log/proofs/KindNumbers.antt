@@ -22,7 +22,7 @@ use Rattle.numbers.specs.declared.SideOperation.the-variants as sided
 use Rattle.model.specs.Sequence.{operationOf, operationIn}
 use Rattle.log.specs.Kinds.{KINDS, isKind, argumentCount, argumentCounts}
 use Rattle.log.specs.Log.{kindOf, argument}
-use Rattle.log.specs.LogLaws.{each-kind}
+use Rattle.log.specs.KindLaws.{each-kind}
 
 -- ---- as many arguments as the operation of that number has
 side-counts : (side : Side) (operation : SideOperation) → length (sideArguments operation) ≡ argumentCount (sideNumber side operation)

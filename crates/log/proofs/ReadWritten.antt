@@ -20,10 +20,10 @@ use Rattle.model.proofs.Rows.{RowWritable, row-back}
 use Rattle.records.specs.Little.{BYTE, two}
 use Rattle.records.specs.LittleLaws.{written-same}
 use Rattle.log.specs.Kinds.{isKind, argumentCounts, argumentCount, bodyLength}
+use Rattle.log.specs.KindLaws.{each-kind}
 use Rattle.log.specs.Log.{LENGTH-BYTES, HEAD-BYTES, kindOf, argument, recordOf, noRecord, rowIn, recordAt, fits, writtenAt, buffered, written}
 use Rattle.log.specs.Logs.{usedRow, AllWritable, logOf, Readings, stopped, readOn, readAll}
 use Rattle.log.specs.LogLaws.{
-  each-kind,
   length-record,
   holds-written,
   holds-between,

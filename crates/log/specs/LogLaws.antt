@@ -18,6 +18,7 @@ use Rattle.model.specs.WriteLaws.{length-written, written-here}
 use Rattle.records.specs.Little.{BYTE, little, two, four, bytesOf}
 use Rattle.records.specs.LittleLaws.{little-same, little-left, little-right, little-bytes, little-below, bytes-little}
 use Rattle.log.specs.Kinds.{KINDS, isKind, argumentCounts, argumentCount, writesValue, FIELD-BYTES, fieldCount, bodyLength}
+use Rattle.log.specs.KindLaws.{kind-bounds, fields-most, value-arguments}
 use Rattle.log.specs.Log.{
   LENGTH-BYTES,
   KIND-BYTES,
@@ -47,30 +48,6 @@ use Rattle.log.specs.declared.Found.the-variants.{Record, End, Refused}
 use Rattle.log.specs.declared.Taken.{Taken}
 use Rattle.log.specs.declared.Written.{Written}
 use Rattle.log.specs.declared.Written.the-variants as put
-
--- ---- two functions that are equal at each kind, by computing both, are equal at every kind
-abbrev pub tabled : {A : Type 0} → (ℕ → A) → ℕ → List A
-tabled f zero = []
-tabled f (suc n) = f (suc n) ∷ tabled f n
-
-each : {A : Type 0} (f g : ℕ → A) (m : ℕ) → tabled f m ≡ tabled g m → (n : ℕ) → 0 < n → n ≤ m → f n ≡ g n
-each f g zero e n h l = absurd (omega arith)
-each f g (suc m) e n h l = ⊎-elim (λ (q : n ≡ suc m). rw q (ap (λ t. getD t 0 (f 0)) e)) (λ ne. each f g m (ap (drop 1) e) n h (omega arith)) (equal n (suc m))
-
-pub kind-bounds : (kind : ℕ) → isKind kind ≡ true → (0 < kind) × (kind ≤ KINDS)
-kind-bounds kind h = decides-and (decides-less 0 kind) (decides-most kind KINDS) .sound h
-
-pub each-kind : {A : Type 0} (f g : ℕ → A) → tabled f KINDS ≡ tabled g KINDS → (kind : ℕ) → isKind kind ≡ true → f kind ≡ g kind
-each-kind f g all kind h = let b = kind-bounds kind h in each f g KINDS all kind (b .0) (b .1)
-
--- no kind has more fields than a body may have; one with a value has them all, and four arguments
-pub fields-most : (kind : ℕ) → isKind kind ≡ true → fieldCount kind ≤ FIELDS
-unfolding argumentCounts
-fields-most kind h = leb-true (fieldCount kind) FIELDS (each-kind (λ k. leb (fieldCount k) FIELDS) (λ k. true) refl kind h)
-
-pub value-arguments : (kind : ℕ) → writesValue kind ≡ true → argumentCount kind ≡ 4
-unfolding argumentCounts
-value-arguments kind v = ⊎-elim (λ (e : kind ≡ 23). rw e) (λ (e : kind ≡ 24). rw e) (decides-or (decides-equal kind 23) (decides-equal kind 24) .sound v)
 
 -- ---- the parts of a record
 pub length-body : (fields : List ℕ) (i n : ℕ) → length (bodyFrom fields i n) ≡ FIELD-BYTES * n
