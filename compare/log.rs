@@ -154,7 +154,7 @@ pub const CHECKS: [(&str, Check, &[u64]); 14] = [
 ];
 
 /// The numbers that were never met, and operations that no replay carried out with success.
-fn missing(all: &[(&str, &[u64], Seen)]) -> Vec<String> {
+pub fn missing(all: &[(&str, &[u64], Seen)]) -> Vec<String> {
     let mut missing = Vec::new();
     for (name, numbers, seen) in all {
         let never = numbers.iter().filter(|number| !seen.calls.contains_key(number));

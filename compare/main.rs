@@ -10,6 +10,7 @@ mod differ;
 mod entries;
 mod flaws;
 mod log;
+mod logflaws;
 mod logs;
 mod pack;
 mod records;

@@ -21,6 +21,8 @@ use crate::supply::Supply;
 /// Rows of a log, each with its turn, and sizes of the pieces in which one is replayed.
 const LENGTHS: [u64; 7] = [40, 2, 150, 12, 400, 0, 80];
 const PIECES: [u64; 9] = [0, 1, 1, 2, 3, 7, 20, 64, 200];
+/// From case to case of a changed state, so that few turns see all kinds of them.
+const STRIDE: usize = 83;
 /// Stands in rooms that nobody may write, or that a replay must overwrite.
 const UNTOLD: u64 = UNWRITTEN.number;
 
@@ -237,7 +239,7 @@ pub fn answers(run: &mut Run) -> Result<(), Difference> {
         let exact = all * ANSWER_NUMBERS;
         let short = run.rng.below(exact as u64 + 1) as usize;
         let near = [exact.saturating_sub(4), exact.saturating_sub(1), exact, exact + 1];
-        for lent in [0, 1, 3, 4, 5, short, exact + 4, exact + 37].into_iter().chain(near) {
+        for lent in [0, 3, 4, 5, short, exact + 37].into_iter().chain(near) {
             replay(run, &twins, &log, u64::MAX, &rooms(0, lent))?;
         }
         let fewer = run.rng.below(all as u64 + 1);
@@ -270,11 +272,9 @@ pub fn lengths(run: &mut Run) -> Result<(), Difference> {
 /// where there is nothing to take, no room, or a log that can't be read; others go on alike.
 pub fn changed(run: &mut Run) -> Result<(), Difference> {
     let mut supply = Supply::new(run.seed);
-    let mut left = run.count;
-    for case in cases().iter().cycle() {
-        if left == 0 {
-            break;
-        }
+    let cases = cases();
+    for turn in 0..run.count as usize {
+        let case = &cases[turn * STRIDE % cases.len()];
         let Some(changed) = case.of_some_state(&mut supply, &mut run.rng) else { continue };
         let log = log_of(&supply.coming(8));
         let second = changed.second.unwrap_or_else(Machine::empty);
@@ -293,7 +293,6 @@ pub fn changed(run: &mut Run) -> Result<(), Difference> {
         }
         let thing = if changed.valid { "states still valid" } else { "states not valid" };
         run.seen.thing(thing, 1);
-        left -= 1;
     }
     Ok(())
 }
@@ -307,15 +306,13 @@ pub fn unreadable(run: &mut Run) -> Result<(), Difference> {
         let (twins, mut log) = source.next(&mut run.rng);
         let Some(fill) = filling(&twins.second, &log, side, &mut run.rng) else { continue };
         log.extend(fill);
+        let records = begins(&log).len() as u64 - 1;
+        let room = rooms(0, records as usize * ANSWER_NUMBERS);
         for bad in bad_ends(&mut run.rng, &log) {
-            let records = begins(&log).len() as u64 - 1;
             let ended = [&log[..], &bad].concat();
-            let room = rooms(0, records as usize * ANSWER_NUMBERS);
-            for most in [records - 1, records, records + 1, u64::MAX] {
+            for most in [records - run.rng.below(2), records + 1] {
                 let after = replay(run, &twins, &ended, most, &room)?;
-                let stopped = most > records;
-                same("unreadable end", after.replay.number != 0, stopped)?;
-                same("unreadable end", after.rooms.place[0] == log.len() as u64, most >= records)?;
+                same("unreadable end", after.replay.number != 0, most > records)?;
             }
         }
         filled += 1;
@@ -347,14 +344,13 @@ fn filling(machine: &Machine, log: &[u8], side: Side, rng: &mut Rng) -> Option<V
 }
 
 /// Ends that can't be read: a record cut short, one that claims more than there is, whole ones of no
-/// kind or of a wrong length, the last with good records behind them.
+/// kind or of a wrong length, with good records behind them and without.
 fn bad_ends(rng: &mut Rng, good: &[u8]) -> Vec<Vec<u8>> {
     let last = rng.pick(&begins(good)[1..]).unwrap_or(0);
     let record = [&[6, 0, 1, 0, 9, 0, 0, 0][..], &good[last..]].concat();
     let cut = 1 + rng.below(7) as usize;
     let mut ends = vec![record[..cut].to_vec(), [&[255, 255, 1, 0][..], good].concat()];
-    for _ in 0..4 {
-        ends.push([&bad_record(rng, good)[..], good].concat());
-    }
+    ends.push([&bad_record(rng, good)[..], good].concat());
+    ends.push(bad_record(rng, good));
     ends
 }
