@@ -97,5 +97,7 @@ bool log_unread_behind(void) {
         memcpy(record, end - sizeof record, sizeof record);
     for (size_t bytes = 0; good && bytes <= sizeof record; bytes++)
         good &= holds(read_before(end, record, bytes), "bytes to read", bytes);
+    for (size_t bytes = 1; good && bytes < 4; bytes++)
+        good &= holds(read_before(end, (const uint8_t[]){0, 0, TILIGORMIS_DATA_BARRIER}, bytes), "bytes of a head", bytes);
     return good && room.memory[GUARD + 3] == 0x0909090909090909 && munmap(end - LOG_PAGES / 2, LOG_PAGES) == 0;
 }

@@ -197,9 +197,15 @@ bool log_unknown_kinds(void) {
     return good;
 }
 
-/* A record of every kind, cut at every byte but before its first. */
+/* A record of every kind, cut at every byte but before its first; and up to three bytes whatever length they say. */
 bool log_cut(void) {
     bool good = true;
+    for (uint8_t length = 0; length < 3; length++) {
+        const uint8_t head[] = {length, 0, TILIGORMIS_DATA_BARRIER};
+        memcpy(room.log + GUARD, head, sizeof head);
+        for (size_t left = 1; left <= sizeof head; left++)
+            good &= holds(read_refused(left, TILIGORMIS_CUT_SHORT), "bytes of a head", left);
+    }
     for (uint64_t kind = 1; kind <= TILIGORMIS_KINDS; kind++) {
         tiligormis_row row = row_of(kind, 0);
         size_t place = ROWS_BYTES, bytes = record_of(&row, room.log + GUARD + place);
