@@ -189,7 +189,8 @@ bool all_refuse(const struct parts *lent);
     TEST(box_unit_counts)                                                                                                      \
     TEST(box_row_counts)                                                                                                       \
     TEST(box_answer_counts)                                                                                                    \
-    TEST(records_of_rows)                                                                                                      \
+    TEST(records_written)                                                                                                      \
+    TEST(records_read)                                                                                                         \
     TEST(dma_pages)                                                                                                            \
     TEST(retirement)                                                                                                           \
     TEST(retirement_by_page)

@@ -231,36 +231,41 @@ bool box_answer_counts(void) {
     return good;
 }
 
-/* Records over rows give and leave what the functions over numbers do: written, not written, read, not read, at the end. */
-bool records_of_rows(void) {
-    static struct room from;
+/* A record of a row is written, or not, as one of numbers is: where it fits and where it lacks a byte, and of no kind. */
+bool records_written(void) {
     static const uint64_t kinds[] = {TILIGORMIS_CPU_WRITE, TILIGORMIS_KINDS + 1};
+    bool good = true;
+    for (size_t k = 0; k < 4; k++) {
+        const size_t bytes = TILIGORMIS_RECORD_BYTES - k % 2;
+        const tiligormis_row row = {{kinds[k / 2], 1, 2, 3, UINT64_MAX}};
+        room = whole;
+        memcpy(room.row + GUARD, &row, sizeof row);
+        uint64_t number = log_write(TILIGORMIS_ROW_NUMBERS, bytes, 1);
+        expected = room;
+        room = whole;
+        memcpy(room.row + GUARD, &row, sizeof row);
+        bool same = number == tiligormis_write_record(row, room.log + GUARD, bytes, room.place + GUARD);
+        good &= holds(same && as_expected(), "case of writing a record", k);
+    }
+    return good;
+}
+
+/* It is read, or not, as one of numbers is: whole, cut short, and at the end. */
+bool records_read(void) {
     static const size_t lengths[] = {ROWS_BYTES, ROWS_BYTES - 1, 0};
     bool good = true;
-    for (size_t k = 0; k < 2; k++)
-        for (size_t bytes = TILIGORMIS_RECORD_BYTES; bytes != TILIGORMIS_RECORD_BYTES - 2; bytes--) {
-            tiligormis_row row = {{kinds[k], 1, 2, 3, UINT64_MAX}};
-            room = whole;
-            memcpy(room.row + GUARD, &row, sizeof row);
-            from = room;
-            uint64_t number = log_write(TILIGORMIS_ROW_NUMBERS, bytes, 1);
-            expected = room;
-            room = from;
-            good &= holds(number == tiligormis_write_record(row, room.log + GUARD, bytes, room.place + GUARD) && as_expected(),
-                          "writing a record in bytes", bytes);
-        }
     for (size_t k = 0; k < 3; k++) {
         tiligormis_row row;
-        from = whole;
-        from.place[GUARD] = ROWS_BYTES / 2;
-        room = from;
+        memcpy(&row, whole.row + GUARD, sizeof row);
+        room = whole;
+        room.place[GUARD] = ROWS_BYTES / 2;
         uint64_t number = log_read(lengths[k], 1, TILIGORMIS_ROW_NUMBERS);
         expected = room;
-        room = from;
-        memcpy(&row, room.row + GUARD, sizeof row);
+        room = whole;
+        room.place[GUARD] = ROWS_BYTES / 2;
         bool same = number == tiligormis_read_record(room.log + GUARD, lengths[k], room.place + GUARD, &row);
         memcpy(room.row + GUARD, &row, sizeof row);
-        good &= holds(same && as_expected(), "reading a record in bytes", lengths[k]);
+        good &= holds(same && as_expected(), "case of reading a record", k);
     }
     return good;
 }
