@@ -12,6 +12,7 @@ use lib.Seq.{getD-append-add, take-add, drop-drop}
 use borrow.Author.Tests.{ltb-true, ltb-false, lt-ltb, le-ltb, leb-true, leb-false, le-leb, lt-leb, eqb-true, eq-eqb, not-false}
 use Rattle.numbers.specs.CaseLaws.{cases, equal}
 use Rattle.numbers.specs.Choice.{if_then_else_}
+use Rattle.numbers.specs.Limits.{ROW-NUMBERS}
 use Rattle.numbers.specs.DecidesLaws.{decides-and, decides-less, decides-most, decides-or, decides-equal, decides-itself}
 use Rattle.model.specs.Sequence.{writeAt}
 use Rattle.model.specs.WriteLaws.{length-written, written-here}
@@ -208,6 +209,29 @@ read-end log at e = ⊎-elim (leb-true (length log) at) inside (cases (leb (leng
         let kind = passed-on isEnd (not (isKind (two log (at + LENGTH-BYTES)))) (Refused UnknownKind) at _ refl (whole .1) in
         let size = passed-on isEnd (not (eqb (two log at) (lengthOf (two log (at + LENGTH-BYTES))))) (Refused WrongLength) at _ refl (kind .1) in
         absurd (true≢false (sym (size .1)))
+
+-- ---- a row that was read has eight numbers, and where none was read it has as many
+row-length : (kind a b c d e : ℕ) → length (rowOf kind a b c d e) ≡ ROW-NUMBERS
+row-length kind a b c d e = go (writesValue kind)
+  where
+    go : (writes : Bool) → length (if writes then kind ∷ a ∷ b ∷ c ∷ (d + FIELD * e) ∷ 0 ∷ 0 ∷ 0 ∷ [] else kind ∷ a ∷ b ∷ c ∷ d ∷ e ∷ 0 ∷ 0 ∷ []) ≡ ROW-NUMBERS
+    go true = refl
+    go false = refl
+
+either-length : (t : Bool) (why : Found) (at : ℕ) (rest : Taken) → length (rest .row) ≡ ROW-NUMBERS → length ((if t then noRecord why at else rest) .row) ≡ ROW-NUMBERS
+either-length true why at rest e = refl
+either-length false why at rest e = e
+
+pub row-numbers : (log : List ℕ) (at : ℕ) → length (recordAt log at .row) ≡ ROW-NUMBERS
+unfolding recordAt
+row-numbers log at =
+    let kind = two log (at + LENGTH-BYTES) in
+    let field = fieldAt log at (fieldCount kind) in
+    either-length (leb (length log) at) End at _
+    (either-length (ltb (length log - at) HEAD-BYTES) (Refused CutShort) at _
+    (either-length (ltb (length log - at - LENGTH-BYTES) (two log at)) (Refused CutShort) at _
+    (either-length (not (isKind kind)) (Refused UnknownKind) at _
+    (either-length (not (eqb (two log at) (lengthOf kind))) (Refused WrongLength) at _ (row-length kind (field 0) (field 1) (field 2) (field 3) (field 4))))))
 
 -- ---- what stands where a row's record was written is that row, as far as its operation has numbers
 -- fields as far as there are any
