@@ -44,20 +44,20 @@ module _ (header sets pairs cpuMap cpuWalker : List ℕ) (cpuSlots : List Slot) 
   dma-words : AllThere → dmaWords ≡ words dmaSlots
   dma-words w = d ∙ loaded-whole dmaSlots (w .1)
 
-  same-state : AllThere → stateIn same ofWords ≡ stateIn words ofSlots
+  pub same-state : AllThere → stateIn same ofWords ≡ stateIn words ofSlots
   same-state w = rw (cpu-words w, dma-words w)
 
   same-lent : AllThere → lentIn same ofWords ≡ lentIn words ofSlots
   same-lent w = rw (cpu-words w, dma-words w)
 
-  valid-slots : AllThere → BoxValid same ofWords → BoxValid words ofSlots
+  pub valid-slots : AllThere → BoxValid same ofWords → BoxValid words ofSlots
   valid-slots w v = record { header = v .header; state = rw (sym (same-state w)) (v .state) }
 
   -- a valid box has whole caches
-  valid-whole : BoxValid words ofSlots → AllThere
+  pub valid-whole : BoxValid words ofSlots → AllThere
   valid-whole v = (sym (length-map cpuSlots wordOf) ∙ v .state .tables .lengths .cpu .cache, sym (length-map dmaSlots wordOf) ∙ v .state .tables .lengths .dma .cache)
 
-  valid-words : BoxValid words ofSlots → BoxValid same ofWords
+  pub valid-words : BoxValid words ofSlots → BoxValid same ofWords
   valid-words v = record { header = v .header; state = rw (same-state (valid-whole v)) (v .state) }
 
   -- ---- the test for validity
@@ -87,11 +87,11 @@ module _ (header sets pairs cpuMap cpuWalker : List ℕ) (cpuSlots : List Slot) 
     kept-in x = box (x .header) (x .sets) (x .pairs) (x .cpuMap) (x .cpuWalker) (stored number (x .cpuCache) cpuSlots) (x .dmaMap) (x .dmaWalker) (stored number (x .dmaCache) dmaSlots) (x .memory)
 
     -- a refusal's are not
-    stored-back : 0 < number → (h : List ℕ) → kept-in (withHeader ofWords h) ≡ withHeader ofSlots h
+    pub stored-back : 0 < number → (h : List ℕ) → kept-in (withHeader ofWords h) ≡ withHeader ofSlots h
     stored-back p h = rw (stored-none number cpuWords cpuSlots p, stored-none number dmaWords dmaSlots p)
 
     -- the words of a new state, in whole caches
-    stored-new : AllThere → number ≡ 0 → (h : List ℕ) (s : State) → leftWords ≡ boxOf same h s → kept-in leftWords ≡ boxOf slotsOf h s
+    pub stored-new : AllThere → number ≡ 0 → (h : List ℕ) (s : State) → leftWords ≡ boxOf same h s → kept-in leftWords ≡ boxOf slotsOf h s
     stored-new w z h s e =
         let p : stored number cpuLeft cpuSlots ≡ slotsOf cpuLeft = ap (λ (k : ℕ). stored k cpuLeft cpuSlots) z ∙ stored-whole cpuLeft cpuSlots cpuLength (w .0) in
         let q : stored number dmaLeft dmaSlots ≡ slotsOf dmaLeft = ap (λ (k : ℕ). stored k dmaLeft dmaSlots) z ∙ stored-whole dmaLeft dmaSlots dmaLength (w .1) in
