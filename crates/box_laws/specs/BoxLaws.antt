@@ -87,7 +87,7 @@ module _ (header sets pairs cpuMap cpuWalker : List ℕ) (cpuSlots : List Slot) 
     kept-in x = box (x .header) (x .sets) (x .pairs) (x .cpuMap) (x .cpuWalker) (stored number (x .cpuCache) cpuSlots) (x .dmaMap) (x .dmaWalker) (stored number (x .dmaCache) dmaSlots) (x .memory)
 
     -- a refusal's are not
-    pub stored-back : 0 < number → (h : List ℕ) → kept-in (withHeader ofWords h) ≡ withHeader ofSlots h
+    stored-back : 0 < number → (h : List ℕ) → kept-in (withHeader ofWords h) ≡ withHeader ofSlots h
     stored-back p h = rw (stored-none number cpuWords cpuSlots p, stored-none number dmaWords dmaSlots p)
 
     -- the words of a new state, in whole caches
@@ -102,7 +102,7 @@ module _ (header sets pairs cpuMap cpuWalker : List ℕ) (cpuSlots : List Slot) 
     stored-kept w (Refused refusal index) old new s z e = ap kept-in e ∙ stored-back (omega (arith, refusal-above refusal, z)) old
 
     -- the box was not judged
-    stored-unjudged : (h : List ℕ) → number ≡ numberOf notValid → leftWords ≡ withHeader ofWords h → kept-in leftWords ≡ withHeader ofSlots h
+    pub stored-unjudged : (h : List ℕ) → number ≡ numberOf notValid → leftWords ≡ withHeader ofWords h → kept-in leftWords ≡ withHeader ofSlots h
     stored-unjudged h z e = ap kept-in e ∙ stored-back (omega (arith, z)) h
 
     module _ (cpuAfter dmaAfter : List Slot) (cpuStored : cpuAfter ≡ stored number cpuLeft cpuSlots) (dmaStored : dmaAfter ≡ stored number dmaLeft dmaSlots) where
