@@ -8,7 +8,7 @@ use lib.ListN.{length, getD}
 use Rattle.numbers.specs.Choice.{if_then_else_}
 use Rattle.model.specs.Sequence.{writeAt}
 use Rattle.records.specs.Little.{two, four, bytesOf}
-use Rattle.log.specs.Kinds.{isKind, argumentCount, writesValue, fieldCount, bodyLength, FIELD-BYTES}
+use Rattle.log.specs.Kinds.{isKind, writesValue, fieldCount, bodyLength, FIELD-BYTES}
 use Rattle.log.specs.declared.LogRefusal.{LogRefusal}
 use Rattle.log.specs.declared.LogRefusal.the-variants.{CutShort, UnknownKind, WrongLength, DoesNotFit}
 use Rattle.log.specs.declared.Found.{Found}
@@ -80,7 +80,7 @@ fieldAt log at n i = if ltb i n then four log (at + HEAD-BYTES + FIELD-BYTES * i
 -- the row of a kind and of five fields
 abbrev pub rowOf : ℕ → ℕ → ℕ → ℕ → ℕ → ℕ → List ℕ
 rowOf kind a b c d e =
-    if writesValue kind then kind ∷ a ∷ b ∷ c ∷ d + FIELD * e ∷ 0 ∷ 0 ∷ 0 ∷ []
+    if writesValue kind then kind ∷ a ∷ b ∷ c ∷ (d + FIELD * e) ∷ 0 ∷ 0 ∷ 0 ∷ []
     else kind ∷ a ∷ b ∷ c ∷ d ∷ e ∷ 0 ∷ 0 ∷ []
 
 -- the row of the record of a kind at a place

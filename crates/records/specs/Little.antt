@@ -7,6 +7,13 @@ use lib.ListN.{getD}
 abbrev pub BYTE : ℕ
 BYTE = 256
 
+-- numbers that two bytes can be, and that four can
+abbrev pub TWO : ℕ
+TWO = 65536
+
+abbrev pub FOUR : ℕ
+FOUR = 4294967296
+
 -- the number that n bytes make from a place on
 abbrev pub little : ℕ → List ℕ → ℕ → ℕ
 little zero bytes at = 0

@@ -3,10 +3,12 @@ ghost use mathlib.Core.Path.{_≡_};
 ghost use Prim.Native.Nat.{_+_, _%_, _≤_, _<_};
 ghost use lib.ListN.{length};
 ghost use Rattle.model.specs.Sequence.{writeAt};
-ghost use Rattle.records.specs.Little.{BYTE, two, four, eight, bytesOf};
+ghost use Rattle.records.specs.Little.{BYTE, TWO, FOUR, two, four, eight, bytesOf};
 
-// Numbers that a byte can be, and that four bytes can.
+// Numbers that a byte can be, and that two bytes and four can.
 const BYTE: u64 = 256;
+
+const TWO: u64 = 65536;
 
 const FOUR: u64 = 4294967296;
 
@@ -27,17 +29,16 @@ fn low(number: u64) -> u8
 
 pub fn two(bytes: &[u8], at: usize) -> u64
     requires { ⌜ at + 2 ≤ length (now bytes) ⌝ }
-    ensures { λ r. ⌜ r ≡ two (now (bytes .entry)) at ⌝ }
+    ensures { λ r. ⌜ (r ≡ two (now (bytes .entry)) at) × (r < TWO) ⌝ }
 {
     wide(bytes[at]) + BYTE * wide(bytes[at + 1])
 }
 
 pub fn four(bytes: &[u8], at: usize) -> u64
     requires { ⌜ at + 4 ≤ length (now bytes) ⌝ }
-    ensures { λ r. ⌜ r ≡ four (now (bytes .entry)) at ⌝ }
+    ensures { λ r. ⌜ (r ≡ four (now (bytes .entry)) at) × (r < FOUR) ⌝ }
 {
-    wide(bytes[at])
-        + BYTE * (wide(bytes[at + 1]) + BYTE * (wide(bytes[at + 2]) + BYTE * wide(bytes[at + 3])))
+    two(bytes, at) + TWO * two(bytes, at + 2)
 }
 
 pub fn eight(bytes: &[u8], at: usize) -> u64
@@ -62,7 +63,7 @@ pub fn put_four(bytes: &mut [u8], at: usize, number: u64)
     ensures { λ _. ⌜ now (bytes .exit) ≡ writeAt (now (bytes .entry)) at (bytesOf 4 number) ⌝ }
 {
     put_two(bytes, at, number);
-    put_two(bytes, at + 2, number / BYTE / BYTE);
+    put_two(bytes, at + 2, number / TWO);
 }
 
 pub fn put_eight(bytes: &mut [u8], at: usize, number: u64)

@@ -1,0 +1,2 @@
+-- What is proved of replay.
+pub mod Pieces
