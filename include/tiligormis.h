@@ -21,10 +21,10 @@
  * walks and still holds, and the firmware does to the hardware what an accepted operation did to them. A read or a write goes
  * to `memory`; where guests and devices reach their memory by themselves, it says what an access is answered.
  *
- * The functions named tiligormis_box_.. fill in every length. Under them stand the library's own, for whoever has the parts of
- * a box apart: there each array crosses as a pointer and a length, and a length is always a number of 64-bit words, of
- * a header 215, of an answer 4, of a unit 6, of a row 8, and never of structs. (A slot is one such word.) A log alone is
- * of bytes, and its length a number of bytes.
+ * The functions named tiligormis_box_.. and tiligormis_.._record fill in every length. Under them stand the library's own, for
+ * whoever has the parts of a box apart: there each array crosses as a pointer and a length, and a length is always a number of
+ * 64-bit words, of a header 215, of an answer 4, of a unit 6, of a row 8, and never of structs. (A slot is one such word.) Only
+ * a log is of bytes, and its length a number of bytes.
  *
  * A box.
  *
@@ -99,7 +99,8 @@
  *   if (number != TILIGORMIS_ACCEPTED)
  *       print(tiligormis_refusal_sentence(number), place);
  *
- * What is no operation is in no log: start, a slot filled or emptied by hand, what devices write to memory by themselves.
+ * What is no operation is in no log: start, a slot filled or emptied by hand, what devices write to memory by themselves. The
+ * record of a write has the value, so a log tells as much as memory does to whoever gets it.
  *
  * What is promised, and proved, for every content and every length of what is lent: the call ends, does nothing undefined, and
  * touches no byte outside. Every entry but start judges the box first (the functions over a log and over one cache, at the

@@ -7,7 +7,7 @@ use mathlib.Core.Option.{Option, none, some}
 use mathlib.Core.Path.{_≡_, refl, sym, _∙_}
 use native.Mathlib.Omega.{arith}
 use lib.Dec.{eqb, leb}
-use lib.ListN.{length, getD}
+use lib.ListN.{length}
 use borrow.Author.Tests.{leb-true, leb-false, ne-eqb}
 use Rattle.numbers.specs.CaseLaws.{cases, equal, none-some}
 use Rattle.numbers.specs.Decides.{Decides}
@@ -22,7 +22,7 @@ use Rattle.numbers.specs.declared.SideOperation.the-variants as sided
 use Rattle.model.specs.Sequence.{operationOf, operationIn}
 use Rattle.log.specs.Kinds.{KINDS, isKind, argumentCount, argumentCounts}
 use Rattle.log.specs.Log.{kindOf, argument}
-use Rattle.log.specs.LogLaws.{each-kind}
+use Rattle.log.specs.KindLaws.{each-kind}
 
 -- ---- as many arguments as the operation of that number has
 side-counts : (side : Side) (operation : SideOperation) → length (sideArguments operation) ≡ argumentCount (sideNumber side operation)

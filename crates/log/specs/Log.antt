@@ -8,7 +8,7 @@ use lib.ListN.{length, getD}
 use Rattle.numbers.specs.Choice.{if_then_else_}
 use Rattle.model.specs.Sequence.{writeAt}
 use Rattle.records.specs.Little.{two, four, bytesOf}
-use Rattle.log.specs.Kinds.{isKind, argumentCount, writesValue, fieldCount, bodyLength, FIELD-BYTES}
+use Rattle.log.specs.Kinds.{isKind, writesValue, fieldCount, bodyLength, FIELD-BYTES}
 use Rattle.log.specs.declared.LogRefusal.{LogRefusal}
 use Rattle.log.specs.declared.LogRefusal.the-variants.{CutShort, UnknownKind, WrongLength, DoesNotFit}
 use Rattle.log.specs.declared.Found.{Found}

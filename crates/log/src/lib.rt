@@ -116,7 +116,7 @@ fn is_kind(kind: u64) -> bool
 
 fn body_length(kind: u64) -> usize
     requires { ⌜ isKind kind ≡ true ⌝ }
-    ensures { λ r. ⌜ r ≡ bodyLength kind ⌝ }
+    ensures { λ r. ⌜ (r ≡ bodyLength kind) × (r ≤ FIELD-BYTES * FIELDS) ⌝ }
 {
     BODIES[(kind - 1) as usize]
 }
@@ -246,7 +246,7 @@ fn fit(fields: [u64; FIELDS], count: usize) -> bool
 {
     let mut i = 0;
     while i < count {
-        if !(fields[i] < FIELD) {
+        if FIELD <= fields[i] {
             return false;
         }
         i += 1;

@@ -2,9 +2,9 @@
 use Prim.Native.Nat.{ℕ, zero, suc, _+_, _*_, _/_, _^_}
 use mathlib.Core.List.{List, [], _∷_, _++_}
 use mathlib.Core.Path.{_≡_, refl, ap, _∙_}
-use native.Mathlib.Nat.{zero-add, suc-add, mul-add, mul-assoc, pow-succ', div-div-eq-div-mul}
+use native.Mathlib.Nat.{zero-add, suc-add, mul-assoc, pow-succ', div-div-eq-div-mul}
 use native.Mathlib.Omega.{arith}
-use lib.ListN.{length, getD, set}
+use lib.ListN.{length, set}
 use Rattle.model.specs.Sequence.{writeAt}
 use Rattle.records.specs.Little.{BYTE, little, bytesOf}
 

@@ -47,6 +47,16 @@ little-written n number bytes at h l =
     rw add-zero at (part ∙ little-bytes n number h)
 
 -- ---- what was read is written
+-- what stands somewhere, written there
+pub written-same : (room : List ℕ) (i n : ℕ) → i + n ≤ length room → writeAt room i (take n (drop i room)) ≡ room
+written-same room i zero h = refl
+written-same room i (suc n) h =
+    let inside : i < length room = omega arith in
+    let next : drop i room ≡ getD room i 0 ∷ drop (i + 1) room = rw add-one (drop-cons room i 0 inside) in
+    ap (λ (l : List ℕ). writeAt room i (take (suc n) l)) next
+    ∙ ap (λ (r : List ℕ). writeAt r (i + 1) (take n (drop (i + 1) room))) (set-getD room i 0)
+    ∙ written-same room (i + 1) n (omega arith)
+
 module _ (bytes : List ℕ) (below : (i : ℕ) → getD bytes i 0 < BYTE) where
   pub little-below : (n at : ℕ) → little n bytes at < BYTE ^ n
   little-below zero at = omega arith
@@ -64,9 +74,4 @@ module _ (bytes : List ℕ) (below : (i : ℕ) → getD bytes i 0 < BYTE) where
       rw (low, high, bytes-little n (at + 1) (omega arith), drop-cons bytes at 0, add-one)
 
   pub written-little : (n at : ℕ) → at + n ≤ length bytes → writeAt bytes at (bytesOf n (little n bytes at)) ≡ bytes
-  written-little zero at h = refl
-  written-little (suc n) at h =
-      let number = little (suc n) bytes at in
-      let low : number % BYTE ≡ getD bytes at 0 = omega (arith, below at) in
-      let high : number / BYTE ≡ little n bytes (at + 1) = omega (arith, below at) in
-      rw (low, high, set-getD) (written-little n (at + 1) (omega arith))
+  written-little n at h = rw (bytes-little n at h) (written-same bytes at n h)

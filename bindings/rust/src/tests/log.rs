@@ -161,6 +161,12 @@ fn records_cut_short_are_refused() {
             unreadable(&bytes[..length], 0, LogRefusal::CutShort);
         }
     }
+    // whatever length they say
+    for length in 0..3 {
+        for left in 1..4 {
+            unreadable(&[length, 0, DATA_BARRIER as u8][..left], 0, LogRefusal::CutShort);
+        }
+    }
     // before the kind is looked at, and whatever it is
     unreadable(&[3, 0, 27, 0], 0, LogRefusal::CutShort);
     unreadable(&[255, 255, 1, 0, 1, 0, 0, 0], 0, LogRefusal::CutShort);

@@ -3,8 +3,8 @@ use mathlib.Core.Path.{_≡_}
 use lib.ListN.{length}
 use Rattle.batch.specs.Room.{Orderly}
 use borrow.Author.Needs.{needs}
-use Rattle.runbox.proofs.run.Statement.{statement}
-use Rattle.runbox.proofs.run.Tie as tie
+use Rattle.reading.proofs.run.Statement.{statement}
+use Rattle.reading.proofs.run.Tie as tie
 
 abbrev Inv-loop : tie.InvT-loop
 Inv-loop units₀ sets₀ pairs₀ cpu-map₀ cpu-walker₀ cpu-cache₀ dma-map₀ dma-walker₀ dma-cache₀ memory₀ rows₀ place₀ bytes₀ turns₀ units sets pairs cpu-map cpu-walker cpu-cache dma-map dma-walker dma-cache memory rows place bytes turns =

@@ -3,8 +3,8 @@ use Prim.Native.Nat.{_-_}
 use lib.ListN.{length}
 use Rattle.batch.specs.Room.{Orderly}
 use borrow.Author.Needs.{needs}
-use Rattle.runbox.proofs.piece.Statement.{statement}
-use Rattle.runbox.proofs.piece.Tie as tie
+use Rattle.reading.proofs.piece.Statement.{statement}
+use Rattle.reading.proofs.piece.Tie as tie
 
 abbrev Inv-loop : tie.InvT-loop
 Inv-loop bytes units₀ sets₀ pairs₀ cpu-map₀ cpu-walker₀ cpu-cache₀ dma-map₀ dma-walker₀ dma-cache₀ memory₀ rows₀ work₀ reader₀ bad₀ i₀ units sets pairs cpu-map cpu-walker cpu-cache dma-map dma-walker dma-cache memory rows work reader bad i =

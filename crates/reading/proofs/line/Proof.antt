@@ -1,6 +1,6 @@
 use borrow.Author.Needs.{needs}
-use Rattle.runbox.proofs.line.Statement.{statement}
-use Rattle.runbox.proofs.line.Tie as tie
+use Rattle.reading.proofs.line.Statement.{statement}
+use Rattle.reading.proofs.line.Tie as tie
 
 returns-2 : tie.Need-returns-2
 returns-2 c =
