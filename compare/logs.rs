@@ -1,4 +1,5 @@
-//! Whole logs out of the second program's generator, as they are and changed, read record by record.
+//! Whole logs out of the second program's generator, as they are and changed, read record by
+//! record.
 
 use second::author::Rng;
 use second::generate::{go_on, single};

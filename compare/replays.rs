@@ -266,14 +266,14 @@ pub fn lengths(run: &mut Run) -> Result<(), Difference> {
     let none = Twins { owned: Owned::new(8), second: Machine::empty() };
     let logs: [&[u8]; 4] = [&[6, 0, 1, 0, 1, 0, 0, 0], &[6, 0, 1], &[2, 0, 27, 0], &[]];
     let lengths = [(0, 1), (2, 1), (1, 0), (1, 2), (0, 0), (2, 2), (7, 8)];
-    for (box_, log, (place, taken)) in [&twins, &none]
+    for (given, log, (place, taken)) in [&twins, &none]
         .into_iter()
         .flat_map(|twins| logs.into_iter().map(move |log| (twins, log)))
         .flat_map(|(twins, log)| lengths.map(|lengths| (twins, log, lengths)))
     {
         let rooms = Rooms { place: vec![0; place], taken: vec![UNTOLD; taken], ..rooms(0, 8) };
         for most in [0, 1, u64::MAX] {
-            replay(run, box_, log, most, &rooms)?;
+            replay(run, given, log, most, &rooms)?;
         }
     }
     Ok(())
@@ -353,8 +353,8 @@ fn filling(machine: &Machine, log: &[u8], side: Side, rng: &mut Rng) -> Option<V
     (accepted && slots(&machine) != before).then(|| log_of(&rows))
 }
 
-/// Ends that can't be read: a record cut short, one that claims more than there is, whole ones of no
-/// kind or of a wrong length, with good records behind them and without.
+/// Ends that can't be read: a record cut short, one that claims more than there is, whole ones of
+/// no kind or of a wrong length, with good records behind them and without.
 fn bad_ends(rng: &mut Rng, good: &[u8]) -> Vec<Vec<u8>> {
     let last = rng.pick(&begins(good)[1..]).unwrap_or(0);
     let record = [&[6, 0, 1, 0, 9, 0, 0, 0][..], &good[last..]].concat();
