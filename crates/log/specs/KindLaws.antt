@@ -1,16 +1,16 @@
 -- What is true of each kind, by computing it for all of them: the bytes of its body stand in the code's table, and its fields are few.
-use Prim.Native.Nat.{ℕ, zero, suc, _-_, _≤_, _<_}
-use mathlib.Core.Bool.{true}
+use Prim.Native.Nat.{ℕ, zero, suc, _+_, _*_, _-_, _≤_, _<_}
+use mathlib.Core.Bool.{true, false, true≢false}
 use mathlib.Core.List.{List, [], _∷_}
 use mathlib.Core.Logic.{⊎-elim}
-use mathlib.Core.Path.{_≡_, refl, ap}
-use native.Mathlib.Omega.{arith}
+use mathlib.Core.Path.{_≡_, refl, sym, ap, _∙_}
+use native.Mathlib.Omega.{arith, by-contra}
 use lib.Dec.{leb}
-use lib.ListN.{getD, drop}
+use lib.ListN.{getD, drop, List·getD-eq-default}
 use borrow.Author.Tests.{leb-true}
 use Rattle.numbers.specs.CaseLaws.{equal}
 use Rattle.numbers.specs.DecidesLaws.{decides-and, decides-less, decides-most, decides-or, decides-equal}
-use Rattle.log.specs.Kinds.{KINDS, isKind, argumentCounts, argumentCount, writesValue, fieldCount, bodyLength}
+use Rattle.log.specs.Kinds.{KINDS, isKind, argumentCounts, argumentCount, writesValue, FIELD-BYTES, fieldCount, bodyLength}
 use Rattle.log.specs.Log.{FIELDS}
 
 pub kind-bounds : (kind : ℕ) → isKind kind ≡ true → (0 < kind) × (kind ≤ KINDS)
@@ -44,3 +44,20 @@ fields-most kind h = leb-true (fieldCount kind) FIELDS (each-kind (λ k. leb (fi
 pub value-arguments : (kind : ℕ) → writesValue kind ≡ true → argumentCount kind ≡ 4
 unfolding argumentCounts
 value-arguments kind v = ⊎-elim (λ (e : kind ≡ 23). rw e) (λ (e : kind ≡ 24). rw e) (decides-or (decides-equal kind 23) (decides-equal kind 24) .sound v)
+
+-- ---- the arguments by the bytes of the body; what is no kind has none
+pub body-value : (kind body : ℕ) → body ≡ bodyLength kind → writesValue kind ≡ true → body ≡ FIELD-BYTES * (argumentCount kind + 1)
+body-value kind body b v = rw v at b
+
+pub body-plain : (kind body : ℕ) → body ≡ bodyLength kind → writesValue kind ≡ false → body ≡ FIELD-BYTES * argumentCount kind
+body-plain kind body b v = let e : body ≡ FIELD-BYTES * (argumentCount kind + 0) = rw v at b in omega arith
+
+pub no-arguments : (kind : ℕ) → isKind kind ≡ false → argumentCount kind ≡ 0
+unfolding argumentCounts
+no-arguments kind h =
+    ⊎-elim
+    (λ (e : kind ≡ 0). rw e)
+    (λ ne.
+    let known = decides-and (decides-less 0 kind) (decides-most kind KINDS) .complete in
+    List·getD-eq-default argumentCounts 0 (by-contra 27 kind (λ small. true≢false (sym (known (omega arith, omega arith)) ∙ h))))
+    (equal kind 0)

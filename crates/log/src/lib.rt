@@ -4,7 +4,7 @@ ghost use mathlib.Core.Path.{_≡_};
 ghost use Prim.Native.Nat.{_+_, _*_, _≤_, _<_};
 ghost use lib.ListN.{length};
 ghost use Rattle.model.specs.Sequence.{writeAt};
-ghost use Rattle.log.specs.Kinds.{isKind, writesValue, bodyLength, FIELD-BYTES};
+ghost use Rattle.log.specs.Kinds.{isKind, argumentCount, writesValue, bodyLength, FIELD-BYTES};
 ghost use Rattle.log.specs.Log.{logRefusalNumber, HEAD-BYTES, FIELD, FIELDS, noRecord, fieldAt, rowOf, recordAt, fieldsOf, bodyFrom, fitFrom, writtenAt, written};
 use numbers::ROW_NUMBERS;
 
@@ -125,6 +125,20 @@ fn writes_value(kind: u64) -> bool
     ensures { λ r. ⌜ r ≡ writesValue kind ⌝ }
 {
     (kind == CPU_WRITE) | (kind == DMA_WRITE)
+}
+
+// How many arguments the operation of a kind has: a field each, and a value two. What is no kind has none.
+pub fn argument_count(kind: u64) -> usize
+    ensures { λ r. ⌜ (r ≡ argumentCount kind) × (r ≤ FIELDS) ⌝ }
+{
+    if !is_kind(kind) {
+        return 0;
+    }
+    let fields = body_length(kind) / FIELD_BYTES;
+    if writes_value(kind) {
+        return fields - 1;
+    }
+    fields
 }
 
 // ---- Reading.

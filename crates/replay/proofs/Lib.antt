@@ -1,2 +1,3 @@
 -- What is proved of replay.
 pub mod Pieces
+pub mod Places

@@ -19,7 +19,7 @@ use Rattle.replay.specs.declared.Stop.{Stop}
 use Rattle.replay.specs.declared.Stop.the-variants.{Done, Unreadable, NotValid}
 
 -- what holds where it stops and of the rest holds of a record more
-goes-on : (P : Replayed → Type 0) (found : Found) (c : Course) (rest : Replayed) → P (stopped Done c) → ((why : LogRefusal) → P (stopped (Unreadable why) c)) → P rest → P (goesOn found c rest)
+pub goes-on : (P : Replayed → Type 0) (found : Found) (c : Course) (rest : Replayed) → P (stopped Done c) → ((why : LogRefusal) → P (stopped (Unreadable why) c)) → P rest → P (goesOn found c rest)
 goes-on P Record c rest done unreadable on = on
 goes-on P End c rest done unreadable on = done
 goes-on P (Refused why) c rest done unreadable on = unreadable why
