@@ -1,2 +1,4 @@
 -- What is proved of replay.
 pub mod Pieces
+pub mod ReplayRows
+pub mod ReplaySecret
