@@ -8,7 +8,7 @@ use Rattle.log.specs.Log.{recordAt}
 use Rattle.log.specs.declared.Found.{Found}
 use Rattle.log.specs.declared.Found.the-variants.{Record, End, Refused}
 use Rattle.replay.specs.Replay.{Course, Replayed, onward, goesOn, replayFrom, replay}
-use Rattle.replay.proofs.Kept.{replay-valid}
+use Rattle.replay.proofs.Pieces.{replay-valid}
 use Rattle.box_cores.specs.Boxes.{Box, BoxValid, stateIn}
 use Rattle.box_laws.proofs.BoxesKept.{row-setup, left-state, left-valid}
 use Rattle.box_laws.proofs.SlotBoxes.{words-again}
@@ -31,7 +31,7 @@ from-setup (suc most) log c =
 
 module _ (b : Box (List Slot)) (v : BoxValid words b) (log place : List ℕ) (most : ℕ) (answers : List ℕ) where
   kept : Valid (replay (stateIn words b) log (getD place 0 0) most answers .course .state)
-  kept = replay-valid (stateIn words b) (v .state) log (getD place 0 0) most answers
+  kept = replay-valid (stateIn words b) log (getD place 0 0) most answers (v .state)
 
   pub replay-slots-state : stateIn words (replayGives words slotsOf b log place most answers .box) ≡ replay (stateIn words b) log (getD place 0 0) most answers .course .state
   replay-slots-state = left-state words slotsOf words-again b _ (v .header) kept (from-setup most log _)
