@@ -1,7 +1,9 @@
 //! Functions over a log that are wrong in one place each, to see that the comparison says so.
 
+use second::machine::OPERATIONS;
 use tiligormis::{
-    Owned, Slot, CUT_SHORT, DOES_NOT_FIT, STATE_NOT_VALID, UNKNOWN_KIND, WRONG_LENGTH,
+    Owned, Slot, CUT_SHORT, DATA_BARRIER, DMA_READ, DMA_WRITE, DOES_NOT_FIT, STATE_NOT_VALID,
+    UNKNOWN_KIND, WRONG_LENGTH,
 };
 
 use crate::calls::{Functions, Rooms, C};
@@ -54,7 +56,7 @@ fn argument_cut_off(row: &[u64], log: &mut [u8], place: &mut [u64]) -> u64 {
 
 fn wide_value(row: &[u64], log: &mut [u8], place: &mut [u64]) -> u64 {
     match row {
-        [24, _, _, _, value, ..] if value >> 32 != 0 => DOES_NOT_FIT,
+        [DMA_WRITE, _, _, _, value, ..] if value >> 32 != 0 => DOES_NOT_FIT,
         _ => (C.write)(row, log, place),
     }
 }
@@ -69,7 +71,7 @@ fn past_the_arguments(row: &[u64], log: &mut [u8], place: &mut [u64]) -> u64 {
 /// The sum of place and record is taken for its low half.
 fn place_comes_round(row: &[u64], log: &mut [u8], place: &mut [u64]) -> u64 {
     match (C.write)(row, log, place) {
-        DOES_NOT_FIT if place[0] == u64::MAX && row[0] == 25 => 0,
+        DOES_NOT_FIT if place[0] == u64::MAX && row[0] == DATA_BARRIER => 0,
         number => number,
     }
 }
@@ -138,7 +140,7 @@ pub const READERS: &[LogFlaw] = &[
 /// Whether the bytes from the place on begin with a record of a kind that there is.
 fn known(log: &[u8], place: u64) -> bool {
     let header = log.get(place as usize..).unwrap_or_default();
-    matches!(header, [_, _, 1..=26, 0, ..])
+    matches!(header, &[_, _, kind, 0, ..] if (1..=OPERATIONS).contains(&kind.into()))
 }
 
 fn kind_before_end(log: &[u8], place: &mut [u64], row: &mut [u64]) -> u64 {
@@ -187,7 +189,7 @@ fn old_numbers_stay(log: &[u8], place: &mut [u64], row: &mut [u64]) -> u64 {
 /// The last argument of a DMA read is read with its sign.
 fn wide_argument(log: &[u8], place: &mut [u64], row: &mut [u64]) -> u64 {
     let number = (C.read)(log, place, row);
-    if (number, row[0]) == (0, 22) {
+    if (number, row[0]) == (0, DMA_READ) {
         row[3] = row[3] as i32 as u64;
     }
     number

@@ -1,4 +1,5 @@
-//! Whole logs out of the second program's generator, as they are and changed, read record by record.
+//! Whole logs out of the second program's generator, as they are and changed, read record by
+//! record.
 
 use second::author::Rng;
 use second::generate::{go_on, single};
@@ -14,7 +15,9 @@ use crate::trial::{trials, Step};
 
 /// Rows of a log, each with its turn.
 const LENGTHS: [u64; 6] = [20, 3, 120, 60, 1, 300];
-/// How many bytes of a long log are changed, one at a time, and at how many places it is cut.
+/// Rows of one that has more bytes than two bytes can count.
+const LONG: u64 = 6000;
+/// How many bytes of a longer log are changed, one at a time, and at how many places it is cut.
 const TRIES: usize = 24;
 
 /// A box to be started, and rows that a log can hold.
@@ -27,6 +30,10 @@ impl Made {
     pub fn new(seed: u64, rows: u64) -> Self {
         let trial = trials(&single(seed, rows)).swap_remove(0);
         Made { rows: trial.steps.iter().filter_map(Step::row).collect(), setup: trial.setup }
+    }
+
+    pub fn long(seed: u64) -> Self {
+        Made::new(seed, LONG)
     }
 
     /// The log of a turn, each turn another.
@@ -63,10 +70,11 @@ pub fn begins(log: &[u8]) -> Vec<usize> {
     begins
 }
 
-/// Logs as they were made: read from every place and far past the end, and written again.
+/// Logs as they were made, read and written again; a short one from every place, and far past it.
 pub fn made(run: &mut Run) -> Result<(), Difference> {
-    for turn in 0..run.count {
-        let Made { rows, .. } = Made::of_turn(run.seed, turn);
+    let (seed, turns) = (run.seed, 0..run.count);
+    let logs = turns.map(|turn| Made::of_turn(seed, turn)).chain([Made::long(seed)]);
+    for Made { rows, .. } in logs {
         let log = log_of(&rows);
         run.read_on(&log, 0)?;
         written_again(run, &log, &rows)?;

@@ -1,7 +1,7 @@
 //! One record: written at every limit and every place of a buffer, read under every header.
 
 use second::log::record;
-use second::machine::ROW_NUMBERS;
+use second::machine::{OPERATIONS, ROW_NUMBERS};
 use second::operate::{arguments, Row};
 
 use crate::log::Run;
@@ -10,7 +10,7 @@ use crate::pack::Difference;
 /// Numbers around the widths that an argument may have.
 const LIMITS: [u64; 7] = [0, 1, 0xFFFF, 1 << 16, 0xFFFF_FFFF, 1 << 32, u64::MAX];
 /// Every kind and some beyond, then numbers that are one of them where they are cut off.
-const NEAR_KINDS: u64 = 30;
+const NEAR_KINDS: u64 = OPERATIONS + 4;
 const FAR_KINDS: [u64; 8] =
     [65_535, 65_536, 65_537, 65_546, 1 << 32, (1 << 32) + 7, (1 << 63) + 1, u64::MAX];
 

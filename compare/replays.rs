@@ -3,9 +3,11 @@
 
 use second::author::Rng;
 use second::log::{Reader, Replay};
-use second::machine::{Machine, Side, ANSWER_NUMBERS, PORTS, ROW_NUMBERS};
+use second::machine::{Machine, Side, ANSWER_NUMBERS, PORTS};
 use second::operate::Row;
-use tiligormis::{Answer, Owned, STATE_NOT_VALID};
+use tiligormis::{
+    row, Answer, Owned, BIND_DEVICE, CPU_FILL, DMA_FILL, STATE_NOT_VALID, SWITCH_CPU,
+};
 
 use crate::calls::{second_replay, Functions, Rooms};
 use crate::cases::cases;
@@ -167,7 +169,7 @@ pub fn whole(run: &mut Run) -> Result<(), Difference> {
         let all = begins.len() as u64 - 1;
         let room = (all as usize + 1) * ANSWER_NUMBERS;
         let some = run.rng.below(all + 1);
-        for most in [0, 1, some, all, all + 1, u64::MAX] {
+        for most in [0, 1, some, all, all + 1, 1 << 32, u64::MAX] {
             let after = replay(run, &twins, &log, most, &rooms(0, room))?;
             if most == some {
                 as_a_sequence(run, &twins, &after)?;
@@ -176,8 +178,9 @@ pub fn whole(run: &mut Run) -> Result<(), Difference> {
         let begin = run.rng.pick(&begins).unwrap_or(0) as u64;
         let end = log.len() as u64;
         let any = run.rng.below(end + 1);
-        for place in [begin, any, end, end + 1, 1 << 63, u64::MAX] {
-            replay(run, &twins, &log, u64::MAX, &rooms(place, room))?;
+        for place in [begin, any, end, end + 1, (1 << 32) + begin, u64::MAX] {
+            let most = run.rng.pick(&[0, 1, u64::MAX]).unwrap_or(0);
+            replay(run, &twins, &log, most, &rooms(place, room))?;
         }
         run.seen.thing("boxes", 1);
     }
@@ -199,34 +202,42 @@ fn as_a_sequence(run: &mut Run, before: &Twins, after: &After) -> Result<(), Dif
     Ok(())
 }
 
-/// A log in pieces of random sizes leaves what one call leaves: box, place, number and answers.
+/// Logs in pieces of random sizes leave what one call leaves, the first of them a long one.
 pub fn pieces(run: &mut Run) -> Result<(), Difference> {
+    let made = Made::long(run.seed);
+    in_pieces(run, started(&made), &log_of(&made.rows))?;
     let mut source = Source::new(run.seed);
     for _ in 0..run.count {
         let (twins, log) = source.next(&mut run.rng);
         let log = any_change(log, &mut run.rng);
-        let room = begins(&log).len() * ANSWER_NUMBERS;
-        let one = replay(run, &twins, &log, u64::MAX, &rooms(0, room))?;
-        let (mut now, mut place, mut answers) = (twins, 0, Vec::new());
-        let number = loop {
-            let most = run.rng.pick(&PIECES).unwrap_or(1);
-            let after = replay(run, &now, &log, most, &rooms(place, room))?;
-            let taken = after.replay.taken.len();
-            answers.extend_from_slice(&after.rooms.answers[..taken * ANSWER_NUMBERS]);
-            (now, place) = (after.twins, after.rooms.place[0]);
-            run.seen.thing("pieces", 1);
-            if after.replay.number != 0 || (taken as u64) < most {
-                break after.replay.number;
-            }
-        };
-        same("number after pieces", number, one.replay.number)?;
-        same("place after pieces", place, one.rooms.place[0])?;
-        same("answers of pieces", &answers[..], &one.rooms.answers[..answers.len()])?;
-        if now.owned != one.twins.owned {
-            return Err(Difference::new("box after pieces", "it is not that of one call"));
-        }
+        in_pieces(run, twins, &log)?;
     }
     Ok(())
+}
+
+/// Number, place, answers and the very box of one call.
+fn in_pieces(run: &mut Run, twins: Twins, log: &[u8]) -> Result<(), Difference> {
+    let room = begins(log).len() * ANSWER_NUMBERS;
+    let one = replay(run, &twins, log, u64::MAX, &rooms(0, room))?;
+    let (mut now, mut place, mut answers) = (twins, 0, Vec::new());
+    let number = loop {
+        let most = run.rng.pick(&PIECES).unwrap_or(1);
+        let after = replay(run, &now, log, most, &rooms(place, room))?;
+        let taken = after.replay.taken.len();
+        answers.extend_from_slice(&after.rooms.answers[..taken * ANSWER_NUMBERS]);
+        (now, place) = (after.twins, after.rooms.place[0]);
+        run.seen.thing("pieces", 1);
+        if after.replay.number != 0 || (taken as u64) < most {
+            break after.replay.number;
+        }
+    };
+    same("number after pieces", number, one.replay.number)?;
+    same("place after pieces", place, one.rooms.place[0])?;
+    same("answers of pieces", &answers[..], &one.rooms.answers[..answers.len()])?;
+    match now.owned == one.twins.owned {
+        true => Ok(()),
+        false => Err(Difference::new("box after pieces", "it is not that of one call")),
+    }
 }
 
 /// Rooms for answers that are empty, of no whole answer, too short, exact, too long.
@@ -255,14 +266,14 @@ pub fn lengths(run: &mut Run) -> Result<(), Difference> {
     let none = Twins { owned: Owned::new(8), second: Machine::empty() };
     let logs: [&[u8]; 4] = [&[6, 0, 1, 0, 1, 0, 0, 0], &[6, 0, 1], &[2, 0, 27, 0], &[]];
     let lengths = [(0, 1), (2, 1), (1, 0), (1, 2), (0, 0), (2, 2), (7, 8)];
-    for (box_, log, (place, taken)) in [&twins, &none]
+    for (given, log, (place, taken)) in [&twins, &none]
         .into_iter()
         .flat_map(|twins| logs.into_iter().map(move |log| (twins, log)))
         .flat_map(|(twins, log)| lengths.map(|lengths| (twins, log, lengths)))
     {
         let rooms = Rooms { place: vec![0; place], taken: vec![UNTOLD; taken], ..rooms(0, 8) };
         for most in [0, 1, u64::MAX] {
-            replay(run, box_, log, most, &rooms)?;
+            replay(run, given, log, most, &rooms)?;
         }
     }
     Ok(())
@@ -331,20 +342,19 @@ fn filling(machine: &Machine, log: &[u8], side: Side, rng: &mut Rng) -> Option<V
     second_replay(&mut machine, log, u64::MAX, &mut rooms(0, 0));
     let keys: Vec<_> = machine.half(side).walker.keys().copied().collect();
     let ((vm, guest), port) = (rng.pick(&keys)?, rng.below(PORTS as u64));
-    let other = u64::from(side == Side::Dma);
-    let rows = [[15 + other, port, vm], [17 + other, port, guest]].map(|numbers| {
-        let mut row = [0; ROW_NUMBERS];
-        row[..3].copy_from_slice(&numbers);
-        row
-    });
+    let [switch, fill] = match side {
+        Side::Cpu => [SWITCH_CPU, CPU_FILL],
+        Side::Dma => [BIND_DEVICE, DMA_FILL],
+    };
+    let rows = [row([switch, port, vm]), row([fill, port, guest])];
     let slots = |machine: &Machine| machine.half(side).cache.slots.iter().flatten().count();
     let before = slots(&machine);
     let accepted = rows.iter().all(|row| machine.apply(row).number == 0);
     (accepted && slots(&machine) != before).then(|| log_of(&rows))
 }
 
-/// Ends that can't be read: a record cut short, one that claims more than there is, whole ones of no
-/// kind or of a wrong length, with good records behind them and without.
+/// Ends that can't be read: a record cut short, one that claims more than there is, whole ones of
+/// no kind or of a wrong length, with good records behind them and without.
 fn bad_ends(rng: &mut Rng, good: &[u8]) -> Vec<Vec<u8>> {
     let last = rng.pick(&begins(good)[1..]).unwrap_or(0);
     let record = [&[6, 0, 1, 0, 9, 0, 0, 0][..], &good[last..]].concat();

@@ -220,8 +220,8 @@ const PLANTED: &[(Where, &str, &str, &str)] = &[
     (Manual, "CPU, DMA fill", "DMA, CPU fill", "operation 17"),
     (Crate("rows"), "26 =>", "27 =>", "operation 26"),
     (Numbers, "DMA_READ: u64 = ", "DMA_READ: u64 = 1 + ", "DMA_READ"),
-    (Crate("log"), "    12,\n", "    16,\n", "operation 5, body"),
-    (Crate("log"), "    20,\n    0,\n", "    16,\n    0,\n", "operation 24, body"),
+    (Crate("log"), "    12, // 5\n", "    16, // 5\n", "operation 5, body"),
+    (Crate("log"), "    20, // 24\n", "    16, // 24\n", "operation 24, body"),
     (Crate("log"), "const CPU_WRITE: u64 = ", "const CPU_WRITE: u64 = 1 + ", "CPU_WRITE"),
     // structs, sizes and places
     (Header, "uint32_t entry;", "uint64_t entry;", "bytes of Slot"),

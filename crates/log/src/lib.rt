@@ -12,34 +12,34 @@ use numbers::ROW_NUMBERS;
 
 // The last kind: kinds are the operations' numbers.
 pub const KINDS: u64 = 26;
-// The bytes of each kind's body, from kind 1 on.
+// The bytes of each kind's body, from kind 1 on, beside its number.
 const BODIES: [usize; KINDS as usize] = [
-    4,
-    4,
-    8,
-    8,
-    12,
-    12,
-    20,
-    20,
-    8,
-    8,
-    20,
-    20,
-    20,
-    20,
-    8,
-    8,
-    8,
-    8,
-    4,
-    4,
-    12,
-    12,
-    20,
-    20,
-    0,
-    0,
+    4, // 1
+    4, // 2
+    8, // 3
+    8, // 4
+    12, // 5
+    12, // 6
+    20, // 7
+    20, // 8
+    8, // 9
+    8, // 10
+    20, // 11
+    20, // 12
+    20, // 13
+    20, // 14
+    8, // 15
+    8, // 16
+    8, // 17
+    8, // 18
+    4, // 19
+    4, // 20
+    12, // 21
+    12, // 22
+    20, // 23
+    20, // 24
+    0, // 25
+    0, // 26
 ];
 // The kinds whose last argument is a value of 64 bits.
 const CPU_WRITE: u64 = 23;

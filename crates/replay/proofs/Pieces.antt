@@ -15,7 +15,6 @@ use Rattle.log.specs.declared.Found.the-variants.{Record, End, Refused}
 use Rattle.log.specs.declared.LogRefusal.{LogRefusal}
 use Rattle.replay.specs.Replay.{Course, Replayed, setOut, answeredAt, onward, stopped, goesOn, replayFrom, replay, replayRefused, JudgedReplay}
 use Rattle.replay.specs.Run.{courseOf}
-use Rattle.replay.specs.declared.Stop.{Stop}
 use Rattle.replay.specs.declared.Stop.the-variants.{Done, Unreadable, NotValid}
 
 -- what holds where it stops and of the rest holds of a record more
@@ -68,12 +67,12 @@ module _ (s : State) (log : List ℕ) (place most : ℕ) (room : List ℕ) (resu
 
 -- ---- in pieces
 -- from where the first m have led; where none more are asked for, the whole stops as those did
-pub courses-in-pieces : (m n : ℕ) (log : List ℕ) (c : Course) → replayFrom (m + suc n) log c ≡ replayFrom (suc n) log (replayFrom m log c .course)
+pub replay-in-pieces : (m n : ℕ) (log : List ℕ) (c : Course) → replayFrom (m + suc n) log c ≡ replayFrom (suc n) log (replayFrom m log c .course)
 unfolding replayFrom
-courses-in-pieces zero n log c = let z : 0 + suc n ≡ suc n = omega arith in rw z
-courses-in-pieces (suc m) n log c =
+replay-in-pieces zero n log c = let z : 0 + suc n ≡ suc n = omega arith in rw z
+replay-in-pieces (suc m) n log c =
     let z : suc m + suc n ≡ suc (m + suc n) = omega arith in
-    rw z (go (recordAt log (c .place) .found) refl _ (courses-in-pieces m n log (onward c (recordAt log (c .place)))))
+    rw z (go (recordAt log (c .place) .found) refl _ (replay-in-pieces m n log (onward c (recordAt log (c .place)))))
   where
     go : (found : Found) → recordAt log (c .place) .found ≡ found → {all : Replayed} (some : Replayed) → all ≡ replayFrom (suc n) log (some .course) →
         goesOn found c all ≡ replayFrom (suc n) log (goesOn found c some .course)
@@ -84,7 +83,7 @@ courses-in-pieces (suc m) n log c =
 pub course-in-pieces : (m n : ℕ) (log : List ℕ) (c : Course) → replayFrom (m + n) log c .course ≡ replayFrom n log (replayFrom m log c .course) .course
 unfolding replayFrom
 course-in-pieces m zero log c = let z : m + 0 ≡ m = omega arith in rw z
-course-in-pieces m (suc n) log c = ap (λ (r : Replayed). r .course) (courses-in-pieces m n log c)
+course-in-pieces m (suc n) log c = ap (λ (r : Replayed). r .course) (replay-in-pieces m n log c)
 
 -- where it stops does not lie at the answer room, nor at how many records came before
 record SameEnd (k k′ : ℕ) (a b : Replayed) : Type 0 where
@@ -130,7 +129,7 @@ module _ (s : State) (log : List ℕ) (place m n : ℕ) (room₁ room₂ room : 
 
   stops : (n : ℕ) → 0 < n → replayFrom n log led .stop ≡ replay s log place (m + n) room .stop
   stops zero h = absurd (omega arith)
-  stops (suc n) h = sym (ap (λ (r : Replayed). r .stop) (courses-in-pieces m n log (setOut s room place)))
+  stops (suc n) h = sym (ap (λ (r : Replayed). r .stop) (replay-in-pieces m n log (setOut s room place)))
 
   pub replay-pieces : InPieces n first (replay (first .course .state) log (first .course .place) n room₂) (replay s log place (m + n) room)
   replay-pieces =

@@ -1,9 +1,9 @@
 -- What carrying out a record is in terms of the sequence, and what holds after some records: what is left to do from there, and that no
 -- list has changed its length.
-use Prim.Native.Nat.{ℕ, zero, suc, _+_, _*_, _-_, _/_, _≤_, _<_}
+use Prim.Native.Nat.{ℕ, suc, _+_, _*_, _-_, _/_, _≤_, _<_}
 use mathlib.Core.Bool.{Bool, true, false}
 use mathlib.Core.List.{List, [], _∷_, _++_, append-nil}
-use mathlib.Core.Path.{_≡_, refl, sym, ap, _∙_}
+use mathlib.Core.Path.{_≡_, refl, ap, _∙_}
 use native.Mathlib.Omega.{arith}
 use lib.Dec.{leb}
 use lib.ListN.{length, set, take, drop, take-append-drop, length-drop, drop-of-length-le}
@@ -22,7 +22,7 @@ use Rattle.log.specs.Log.{recordAt}
 use Rattle.log.specs.declared.Found.the-variants.{Record, End, Refused}
 use Rattle.log.specs.declared.LogRefusal.{LogRefusal}
 use Rattle.log.specs.declared.Taken.{Taken}
-use Rattle.replay.specs.Replay.{Course, Replayed, setOut, answeredAt, onward, stopped, replayFrom}
+use Rattle.replay.specs.Replay.{Course, setOut, answeredAt, onward, stopped, replayFrom}
 use Rattle.replay.specs.Run.{carried, courseOf}
 use Rattle.replay.specs.declared.Stop.the-variants.{Done, Unreadable}
 

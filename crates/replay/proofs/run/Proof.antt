@@ -22,20 +22,27 @@ loop-holds : tie.Need-loop-holds Inv-loop μ-loop
 loop-holds c = replay-start _ _ _ _ _
 
 returns : tie.Need-returns Inv-loop μ-loop
-returns c = rw (c .halt .ensures) (replay-out _ _ (c .before .before .before .before .before .loop .inv) (c .before .before .before .before .loop-test .taken) (c .before .before .before .read-at .ensures) (c .before .enum-told2 .given .1))
+returns c =
+    let c3 = c .before .before .before in
+    rw (c .halt .ensures) (replay-out _ _ (c3 .before .before .loop .inv) (c3 .before .loop-test .taken) (c3 .read-at .ensures) (c .before .enum-told2 .given .1))
 
 returns-2 : tie.Need-returns-2 Inv-loop μ-loop
-returns-2 c = rw (c .halt2 .ensures) (replay-unread _ _ (c .before .before .before .before .before .before .loop .inv) (c .before .before .before .before .before .loop-test .taken) (c .before .before .before .before .read-at .ensures) (c .before .before .found .given .1))
+returns-2 c =
+    let c2 = c .before .before in
+    rw (c .halt2 .ensures) (replay-unread _ _ (c2 .before .before .before .before .loop .inv) (c2 .before .before .before .loop-test .taken) (c2 .before .before .read-at .ensures) (c2 .found .given .1))
 
 carry-requires : tie.Need-carry-requires Inv-loop μ-loop
 carry-requires c κs =
-    let v = c .before .before .before .before .before .before .before .before .before .before .before .before .before .before .before .loop .inv in
-    fit-kept (c .before .before .before .before .before .before .before .before .before .before .before .before .before .before .before .before .before .before .before .before .before .before .before .before .before .before .before .args .fixed) _ _ _ _ (c .before .before .before .before .before .before .before .before .before .before .before .before .before .before .before .before .before .before .before .before .before .before .before .before .before .before .before .pre) (v .sizes .tables .sets) (v .sizes .memory)
+    let c15 = c .before .before .before .before .before .before .before .before .before .before .before .before .before .before .before in
+    let c27 = c15 .before .before .before .before .before .before .before .before .before .before .before .before in
+    let v = c15 .loop .inv in
+    fit-kept (c27 .args .fixed) _ _ _ _ (c27 .pre) (v .sizes .tables .sets) (v .sizes .memory)
 
 add-taken : tie.Need-add-taken Inv-loop μ-loop
 add-taken c =
-    let l = c .before .before .before .before .before .before .before .before .before .before .before .before .before .before .before .before .before .before .before .before .before .before .before .before .before .before .before .before .before .before .before .before .before .before .before .loop-test .taken in
-    let f = c .before .before .before .before .before .before .before .before .before .before .before .before .before .before .before .before .before .before .before .before .before .before .before .before .before .before .before .before .before .before .before .before .before .before .before .before .before .before .before .before .before .before .before .before .before .before .before .before .fits in
+    let c35 = c .before .before .before .before .before .before .before .before .before .before .before .before .before .before .before .before .before .before .before .before .before .before .before .before .before .before .before .before .before .before .before .before .before .before .before in
+    let l = c35 .loop-test .taken in
+    let f = c35 .before .before .before .before .before .before .before .before .before .before .before .before .before .fits in
     omega arith
 
 loop-less : tie.Need-loop-less Inv-loop μ-loop
@@ -43,7 +50,9 @@ loop-less c = omega (arith, c .before .before .before .before .before .before .b
 
 loop-again : tie.Need-loop-again Inv-loop μ-loop
 loop-again c =
-    replay-next _ _ (c .before .before .before .before .before .before .before .before .before .before .before .before .before .before .before .before .before .before .before .before .before .before .before .before .before .before .before .before .before .before .before .before .before .before .before .before .loop .inv) (c .before .before .before .before .before .before .before .before .before .before .before .before .before .before .before .before .before .before .before .before .before .before .before .before .before .before .before .before .before .before .before .before .before .before .before .loop-test .taken) (c .before .before .before .before .before .before .before .before .before .before .before .before .before .before .before .before .before .before .before .before .before .before .before .before .before .before .before .before .before .before .before .before .before .before .read-at .ensures) _ (c .before .before .before .before .before .before .before .before .before .before .before .before .before .before .before .before .before .before .before .before .before .before .before .before .before .before .before .before .before .before .before .before .enum-told .given .1) (c .before .before .before .before .before .before .before .before .before .before .before .before .before .before .before .before .before .before .before .before .carry .ensures)
+    let c20 = c .before .before .before .before .before .before .before .before .before .before .before .before .before .before .before .before .before .before .before .before in
+    let c32 = c20 .before .before .before .before .before .before .before .before .before .before .before .before in
+    replay-next _ _ (c32 .before .before .before .before .loop .inv) (c32 .before .before .before .loop-test .taken) (c32 .before .before .read-at .ensures) _ (c32 .enum-told .given .1) (c20 .carry .ensures)
 
 returns-3 : tie.Need-returns-3 Inv-loop μ-loop
 returns-3 c = rw (c .halt3 .ensures) (replay-end _ (c .before .before .loop .inv) (c .before .loop-test .left))
