@@ -1,6 +1,7 @@
 //! Compares the library with the second program: see README.md.
 
 mod bits;
+mod calls;
 mod cases;
 mod couple;
 mod damage;
@@ -8,7 +9,12 @@ mod damaged;
 mod differ;
 mod entries;
 mod flaws;
+mod log;
+mod logflaws;
+mod logs;
 mod pack;
+mod records;
+mod replays;
 mod report;
 mod rows;
 mod selftest;
@@ -23,8 +29,8 @@ use std::process::ExitCode;
 
 use subject::library;
 
-const USAGE: &str =
-    "usage: compare rows SEED ROWS | damaged SEED COUNT | slots SEED CALLS | self-test";
+const USAGE: &str = "usage: compare rows SEED ROWS | damaged SEED COUNT | slots SEED CALLS
+               | log SEED COUNT | self-test";
 
 fn main() -> ExitCode {
     let arguments: Vec<String> = std::env::args().skip(1).collect();
@@ -34,6 +40,7 @@ fn main() -> ExitCode {
         (Some("rows"), Some(&[seed, rows])) => rows::report(seed, rows, &library),
         (Some("damaged"), Some(&[seed, count])) => damaged::report(seed, count, &library),
         (Some("slots"), Some(&[seed, calls])) => slots::report(seed, calls),
+        (Some("log"), Some(&[seed, count])) => log::report(seed, count),
         (Some("self-test"), Some([])) => selftest::report(),
         _ => {
             eprintln!("{USAGE}");

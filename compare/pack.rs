@@ -18,6 +18,11 @@ impl Difference {
     pub fn new(part: &'static str, detail: impl fmt::Display) -> Self {
         Difference { part, detail: detail.to_string() }
     }
+
+    /// The same, and where it was seen.
+    pub fn at(self, place: impl fmt::Display) -> Self {
+        Difference { detail: format!("{place}: {}", self.detail), ..self }
+    }
 }
 
 /// Fields of a word: the lowest bit and how many there are.

@@ -14,6 +14,8 @@ use crate::couple::{run, Check, Finding};
 use crate::damaged::{self, Asked};
 use crate::differ::state;
 use crate::flaws::{Flaw, Flawed, Place, ANSWERS, DAMAGED, TABLES};
+use crate::log::{self, Run, Seen, CHECKS};
+use crate::logflaws::{LogFlaw, READERS, REPLAYS, WRITERS};
 use crate::pack::pack;
 use crate::report::Report;
 use crate::rows::{compare, Outcome};
@@ -22,6 +24,9 @@ use crate::subject::{library, Library, Subject};
 use crate::supply::Supply;
 use crate::tally::Tally;
 use crate::trial::{trials, Step, Trial};
+
+/// How many random logs and boxes must be enough to find a flaw of a function over logs.
+const LOGS: u64 = 30;
 
 /// Brings something into every table; each of its rows is accepted.
 const RICH: &str = "
@@ -209,6 +214,29 @@ fn slot_functions() -> Result<(), String> {
     Ok(())
 }
 
+/// A flaw of a function over logs is found by its check and in its part.
+fn found_in_log(&(_, name, part, functions): &LogFlaw) -> Result<(), String> {
+    let (_, check, _) = CHECKS.iter().find(|check| check.0 == name).ok_or("no such check")?;
+    match check(&mut Run::new(&functions, 1, LOGS)) {
+        Err(difference) if difference.part == part => Ok(()),
+        Err(difference) => Err(format!("elsewhere: {difference:?}")),
+        Ok(()) => Err("not found".to_string()),
+    }
+}
+
+/// So is a number that no log has given, and an operation that none has carried out.
+fn missing_of_logs() -> Result<(), String> {
+    let mut seen = Seen::default();
+    seen.call(0);
+    seen.replayed.answer(5, 0);
+    seen.replayed.answer(6, 2);
+    let missing = log::missing(&[("cut", &[0, 20], seen)]);
+    let listed = |line: &str| missing.iter().any(|other| other == line);
+    let right = listed("20 in cut") && listed("a replayed operation 6");
+    let wrong = listed("0 in cut") || listed("a replayed operation 5");
+    expect(right && !wrong, missing.join(", "))
+}
+
 /// What was not seen is listed.
 fn missing_answers() -> Result<(), String> {
     let mut outcome = Outcome::default();
@@ -221,7 +249,7 @@ fn missing_answers() -> Result<(), String> {
 
 pub fn report() -> ExitCode {
     let mut report = Report::new();
-    let checks: [(&str, fn() -> Result<(), String>); 9] = [
+    let checks: [(&str, fn() -> Result<(), String>); 10] = [
         ("no_flaw_no_finding", no_flaw_no_finding),
         ("every_bit_of_a_box", every_bit),
         ("every_case_of_damage", every_case),
@@ -231,6 +259,7 @@ pub fn report() -> ExitCode {
         ("missing_answers", missing_answers),
         ("damaged_run", found_by_the_damaged_run),
         ("slot_functions", slot_functions),
+        ("missing_of_logs", missing_of_logs),
     ];
     for (name, check) in checks {
         report.check(&format!("self_test_{name}"), check());
@@ -244,6 +273,11 @@ pub fn report() -> ExitCode {
     }
     for flaw in DAMAGED {
         report.check(&format!("self_test_damaged_{}", flaw.0), found_in_damaged(flaw));
+    }
+    for (kind, flaws) in [("write", WRITERS), ("read", READERS), ("replay", REPLAYS)] {
+        for flaw in flaws {
+            report.check(&format!("self_test_log_{kind}_{}", flaw.0), found_in_log(flaw));
+        }
     }
     report.finish()
 }

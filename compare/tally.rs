@@ -74,7 +74,7 @@ impl Tally {
 }
 
 /// Numbers and how often each was seen.
-fn list(counts: impl IntoIterator<Item = (impl fmt::Display, impl fmt::Display)>) -> String {
+pub fn list(counts: impl IntoIterator<Item = (impl fmt::Display, impl fmt::Display)>) -> String {
     let cells: Vec<String> = counts.into_iter().map(|(n, times)| format!("{n}:{times}")).collect();
     cells.join(" ")
 }

@@ -21,9 +21,10 @@
  * walks and still holds, and the firmware does to the hardware what an accepted operation did to them. A read or a write goes
  * to `memory`; where guests and devices reach their memory by themselves, it says what an access is answered.
  *
- * The functions named tiligormis_box_.. fill in every length. Under them stand the library's own, for whoever has the parts of
- * a box apart: there each array crosses as a pointer and a length, and a length is always a number of 64-bit words, of
- * a header 215, of an answer 4, of a unit 6, of a row 8, and never of structs. (A slot is one such word.)
+ * The functions named tiligormis_box_.. and tiligormis_.._record fill in every length. Under them stand the library's own, for
+ * whoever has the parts of a box apart: there each array crosses as a pointer and a length, and a length is always a number of
+ * 64-bit words, of a header 215, of an answer 4, of a unit 6, of a row 8, and never of structs. (A slot is one such word.) Only
+ * a log is of bytes, and its length a number of bytes.
  *
  * A box.
  *
@@ -78,17 +79,41 @@
  * Step 5 may come before 3 and 4. A page is cleared when the VM's last claim on it ends, and slots are dropped with the
  * mappings that they hold.
  *
+ * How a box is replayed elsewhere. The firmware keeps an operation log: after each operation, accepted or refused, it writes
+ * the row's record and puts it into a ring or a file of its own; the library keeps none. A row that was refused with 1 is left
+ * out: the box was not valid then, and the one that it is replayed on is.
+ *
+ *   uint8_t record[TILIGORMIS_RECORD_BYTES];
+ *   uint64_t bytes = 0;
+ *   number = tiligormis_box_operation(&box, row, &answer);
+ *   if (number != TILIGORMIS_STATE_NOT_VALID &&
+ *       tiligormis_write_record(row, record, sizeof record, &bytes) == TILIGORMIS_ACCEPTED)
+ *       append(record, bytes);
+ *
+ * A row of which no record can be made is refused by the machine as well, so no change of the box is missing. Support takes the
+ * box as it was when the log began, started anew with the same units or copied then with its memory, and replays the log on
+ * it, whole or in pieces; that ends where the firmware's box was after the last record.
+ *
+ *   uint64_t place = 0, taken;
+ *   number = tiligormis_box_replay(&copy, log, log_bytes, &place, UINT64_MAX, NULL, 0, &taken);
+ *   if (number != TILIGORMIS_ACCEPTED)
+ *       print(tiligormis_refusal_sentence(number), place);
+ *
+ * What is no operation is in no log: start, a slot filled or emptied by hand, what devices write to memory by themselves. The
+ * record of a write has the value, so a log tells as much as memory does to whoever gets it.
+ *
  * What is promised, and proved, for every content and every length of what is lent: the call ends, does nothing undefined, and
- * touches no byte outside. Every entry but start judges the box first (the three functions over one cache, at the end, are no
- * entries). One that is not valid is refused with TILIGORMIS_STATE_NOT_VALID and left as it was: a length that is not the one
- * named below (a null pointer with length 0 among them), a mark that is none of the three, a count of units above
+ * touches no byte outside. Every entry but start judges the box first (the functions over a log and over one cache, at the
+ * end, are no entries). One that is not valid is refused with TILIGORMIS_STATE_NOT_VALID and left as it was: a length that is
+ * not the one named below (a null pointer with length 0 among them), a mark that is none of the three, a count of units above
  * TILIGORMIS_UNITS, any number out of range, any rule of validity broken. The inline functions of this header are C, and not
  * proved; they are tested.
  *
  * What C must see to, since no library can: a pointer with a length other than 0 points to that many elements, aligned as C
- * aligns them; no two arrays of a call overlap, header, answers and rows included, except that two which are both const may;
- * and nothing else writes to them during the call. Memory is one of them: a device that writes by itself is kept, while a call
- * runs, off the pages that its operations read, write or clear. The code touches no other word of it; start writes all.
+ * aligns them; no two arrays of a call overlap, header, answers, rows, log and place included, except that two which are both
+ * const may; and nothing else writes to them during the call. Memory is one of them: a device that writes by itself is kept,
+ * while a call runs, off the pages that its operations read, write or clear. The code touches no other word of it; start
+ * writes all.
  *
  * What it needs. A 64-bit little-endian processor, aarch64 or x86-64, and of it the general registers alone: the code reads and
  * writes no vector or floating-point register (on x86-64 no SSE, x87 or MMX), and nothing below the stack pointer (no red
@@ -103,7 +128,10 @@
  *     tiligormis_fill_slot       1,792     1,792
  *     tiligormis_find_slot       1,280     1,280
  *     tiligormis_free           16,640    16,640
+ *     tiligormis_log_read          512       512
+ *     tiligormis_log_write         256       256
  *     tiligormis_operation      17,920    17,920
+ *     tiligormis_replay         16,896    16,640
  *     tiligormis_sequence       18,176    18,176
  *     tiligormis_start           6,400     6,400
  *     tiligormis_valid          16,640    16,640
@@ -124,7 +152,7 @@ extern "C" {
 /* ---- Version ------------------------------------------------------------------------------------------------------------ */
 
 #define TILIGORMIS_VERSION_MAJOR 0
-#define TILIGORMIS_VERSION_MINOR 2
+#define TILIGORMIS_VERSION_MINOR 3
 #define TILIGORMIS_VERSION (1000 * TILIGORMIS_VERSION_MAJOR + TILIGORMIS_VERSION_MINOR)
 
 /* ---- Limits ------------------------------------------------------------------------------------------------------------- */
@@ -148,6 +176,9 @@ extern "C" {
 #define TILIGORMIS_UNIT_NUMBERS 6    /* numbers of a unit */
 #define TILIGORMIS_FREE_NUMBERS 2    /* numbers of the free query's result */
 #define TILIGORMIS_MACHINE_NUMBERS 215 /* numbers of a machine header */
+
+#define TILIGORMIS_KINDS 26          /* kinds of a log's records: 1 to 26, the operations' numbers */
+#define TILIGORMIS_RECORD_BYTES 24   /* bytes of the longest record that a row makes */
 
 #define TILIGORMIS_IDLE 4294967295u  /* how rows and the header write that a port is idle */
 #define TILIGORMIS_NO_PAGE UINT64_MAX /* the lowest free page where none is free */
@@ -184,7 +215,15 @@ enum tiligormis_refusal {
     TILIGORMIS_ACCESS_LACKING = 16   /* the mapping's access lacks the needed bit */
 };
 
-/* The name above of a refusal's number; "unknown" of any other number. */
+/* Why a record of a log is not read or not written. No answer of the machine has one of these. */
+enum tiligormis_log_refusal {
+    TILIGORMIS_CUT_SHORT = 20,    /* a record is cut short: one to three bytes are left, or fewer than its length says */
+    TILIGORMIS_UNKNOWN_KIND = 21, /* a record's kind is unknown: no operation has this number */
+    TILIGORMIS_WRONG_LENGTH = 22, /* a record's length is wrong: not that of its kind */
+    TILIGORMIS_DOES_NOT_FIT = 23  /* a record does not fit: an argument is over four bytes, or there is too little room */
+};
+
+/* The name above of a refusal's number, of the machine or of a log; "unknown" of any other number. */
 static inline const char *tiligormis_refusal_name(uint64_t number) {
     static const char *const names[] = {
         "TILIGORMIS_ACCEPTED",
@@ -204,11 +243,18 @@ static inline const char *tiligormis_refusal_name(uint64_t number) {
         "TILIGORMIS_NO_ROOM",
         "TILIGORMIS_PORT_IDLE",
         "TILIGORMIS_ACCESS_LACKING",
+        "unknown",
+        "unknown",
+        "unknown",
+        "TILIGORMIS_CUT_SHORT",
+        "TILIGORMIS_UNKNOWN_KIND",
+        "TILIGORMIS_WRONG_LENGTH",
+        "TILIGORMIS_DOES_NOT_FIT",
     };
     return number < sizeof names / sizeof *names ? names[number] : "unknown";
 }
 
-/* The sentence above of a refusal's number, for people; "unknown" of any other number. */
+/* The sentence above of a refusal's number, likewise, for people; "unknown" of any other number. */
 static inline const char *tiligormis_refusal_sentence(uint64_t number) {
     static const char *const sentences[] = {
         "accepted",
@@ -228,6 +274,13 @@ static inline const char *tiligormis_refusal_sentence(uint64_t number) {
         "there is no room: too few entries are free",
         "the port is idle",
         "the mapping's access lacks the needed bit",
+        "unknown",
+        "unknown",
+        "unknown",
+        "a record is cut short: one to three bytes are left, or fewer than its length says",
+        "a record's kind is unknown: no operation has this number",
+        "a record's length is wrong: not that of its kind",
+        "a record does not fit: an argument is over four bytes, or there is too little room",
     };
     return number < sizeof sentences / sizeof *sentences ? sentences[number] : "unknown";
 }
@@ -692,7 +745,7 @@ static inline tiligormis_box tiligormis_box_of(tiligormis_machine *machine, tili
         TILIGORMIS_SLOTS, (box)->dma_map, TILIGORMIS_ENTRIES, (box)->dma_walker, TILIGORMIS_ENTRIES, (box)->dma_cache,         \
         TILIGORMIS_SLOTS, (box)->memory, (box)->memory_length
 
-/* ---- The entries, for whoever has the parts of a box apart. Every length is a number of 64-bit words. --------------------- */
+/* ---- The entries, for whoever has the parts of a box apart. Lengths are numbers of 64-bit words, a log's of bytes. -------- */
 
 /*
  * Starts a machine of `pages` pages. The shared span may have count 0. `units_numbers` is six for each unit. The header
@@ -737,6 +790,25 @@ uint64_t tiligormis_sequence(tiligormis_machine *machine, size_t machine_numbers
                              size_t dma_walker_length, tiligormis_slot *dma_cache, size_t dma_cache_length, uint64_t *memory,
                              size_t memory_length, const uint64_t *rows, size_t rows_length, tiligormis_answer *answers,
                              size_t answers_numbers);
+
+/*
+ * Replays a log: carries out at most `most` records from place[0] on, as a sequence carries out rows; it goes on after a
+ * refused operation. The box is judged once, before the first record. Answers are written, of 4 numbers for each record, as
+ * far as `answers` has room for whole ones; it may be empty, and room that gets none keeps its content. Then place[0] is where
+ * the next record begins, and taken[0] how many were carried out, refused operations among them. At the log's end, or past it,
+ * there is none to take. Returns 0 where `most` records are taken or the log has ended, or
+ *   1           the box is not valid: taken[0] is 0, and all else stays as it was
+ *   20, 21, 22  the record at place[0] cannot be read (see tiligormis_log_read); what was done before it stands
+ * A `place` or `taken` that is not of 1 number is refused with 1, and nothing is written, neither of the two.
+ */
+uint64_t tiligormis_replay(tiligormis_machine *machine, size_t machine_numbers, uint64_t *sets, size_t sets_length,
+                           uint64_t *pairs, size_t pairs_length, uint64_t *cpu_map, size_t cpu_map_length,
+                           uint64_t *cpu_walker, size_t cpu_walker_length, tiligormis_slot *cpu_cache,
+                           size_t cpu_cache_length, uint64_t *dma_map, size_t dma_map_length, uint64_t *dma_walker,
+                           size_t dma_walker_length, tiligormis_slot *dma_cache, size_t dma_cache_length, uint64_t *memory,
+                           size_t memory_length, const uint8_t *log, size_t log_length, uint64_t *place, size_t place_length,
+                           uint64_t most, tiligormis_answer *answers, size_t answers_numbers, uint64_t *taken,
+                           size_t taken_length);
 
 /* Whether the box is valid. */
 bool tiligormis_valid(const tiligormis_machine *machine, size_t machine_numbers, const uint64_t *sets, size_t sets_length,
@@ -790,12 +862,82 @@ static inline uint64_t tiligormis_box_sequence(const tiligormis_box *box, const 
                                answers, TILIGORMIS_ANSWER_NUMBERS * answer_count);
 }
 
+/*
+ * At most `most` records of a log of `log_bytes` bytes, from *place on, with answers as far as there is room for them; without
+ * any, `answers` may be null. A count of answers that is more than there can be is refused as above: with 2, or with 1 where
+ * the box is not valid. Then *taken is 0, and nothing else changes.
+ */
+static inline uint64_t tiligormis_box_replay(const tiligormis_box *box, const uint8_t *log, size_t log_bytes, uint64_t *place,
+                                             uint64_t most, tiligormis_answer *answers, size_t answer_count,
+                                             uint64_t *taken) {
+    if (answer_count > SIZE_MAX / TILIGORMIS_ANSWER_NUMBERS) {
+        *taken = 0;
+        return tiligormis_valid(TILIGORMIS_LENT(box)) ? TILIGORMIS_OUT_OF_RANGE : TILIGORMIS_STATE_NOT_VALID;
+    }
+    return tiligormis_replay(TILIGORMIS_LENT(box), log, log_bytes, place, 1, most, answers,
+                             TILIGORMIS_ANSWER_NUMBERS * answer_count, taken, 1);
+}
+
 /* Whether the box is valid. */
 static inline bool tiligormis_box_valid(const tiligormis_box *box) { return tiligormis_valid(TILIGORMIS_LENT(box)); }
 
 /* How many pages are in the pool, and the lowest of them. Returns 0, or 1 where the box is not valid. */
 static inline uint64_t tiligormis_box_free(const tiligormis_box *box, tiligormis_free_pages *free_pages) {
     return tiligormis_free(TILIGORMIS_LENT(box), free_pages, TILIGORMIS_FREE_NUMBERS);
+}
+
+/* ---- The log ------------------------------------------------------------------------------------------------------------ */
+
+/*
+ * A log is records, one after the other from its first byte on, with nothing between them. A record is
+ *
+ *   bytes 0 and 1  its length: how many bytes follow these two
+ *   bytes 2 and 3  its kind: the operation's number, 1 to TILIGORMIS_KINDS
+ *   the rest       its body: the operation's arguments in order, four bytes each, the value of a write eight
+ *
+ * with the lowest byte of each number first. 06 00 01 00 01 00 00 00 adds VM 1. The kind fixes the length. An argument may be
+ * any number that its bytes hold: what is out of range is for the machine to refuse.
+ *
+ * A place is the offset of a byte in the log, where a record begins or the log ends. It is the caller's: these functions keep
+ * nothing, and look at no box. Reading what was written gives the same rows, with 0 where a number is none of the arguments,
+ * and writing what was read gives the same bytes.
+ */
+
+/*
+ * Writes the record of a row, of 8 numbers, into the log at place[0], and moves place[0] past it. Returns 0, or in this order
+ *   1   the row is not of 8 numbers, or `place` not of 1
+ *   21  the row's first number is no kind
+ *   23  an argument is over four bytes, or the log has no room for the record from place[0] on
+ * Refused, log and place stay as they were. Bytes of the log outside the record always do.
+ */
+uint64_t tiligormis_log_write(const uint64_t *row, size_t row_length, uint8_t *log, size_t log_length, uint64_t *place,
+                              size_t place_length);
+
+/*
+ * Reads the record at place[0] into the row, of 8 numbers, those that are no arguments 0, and moves place[0] past it. At the
+ * log's end, or past it, the row becomes all 0, which no record is, and place[0] stays; a log of length 0, null or not, has
+ * its end at 0. Returns 0, or in this order
+ *   1   the row is not of 8 numbers, or `place` not of 1
+ *   20  one to three bytes are left, or fewer than the record's length says
+ *   21  the record's kind is no operation's number
+ *   22  the record's length is not that of its kind; 0 and 1 never are
+ * Refused, row and place stay as they were: place[0] is where the unreadable record begins.
+ */
+uint64_t tiligormis_log_read(const uint8_t *log, size_t log_length, uint64_t *place, size_t place_length, uint64_t *row,
+                             size_t row_length);
+
+/* The record of a row into a log of `log_bytes` bytes at *place, which moves past it. Returns 0, 21 or 23. */
+static inline uint64_t tiligormis_write_record(tiligormis_row row, uint8_t *log, size_t log_bytes, uint64_t *place) {
+    return tiligormis_log_write(row.numbers, TILIGORMIS_ROW_NUMBERS, log, log_bytes, place, 1);
+}
+
+/*
+ * The record at *place into a row, and *place past it. Returns 0, 20, 21 or 22. A whole log is read by
+ *
+ *   while (tiligormis_read_record(log, log_bytes, &place, &row) == TILIGORMIS_ACCEPTED && row.numbers[0] != 0)
+ */
+static inline uint64_t tiligormis_read_record(const uint8_t *log, size_t log_bytes, uint64_t *place, tiligormis_row *row) {
+    return tiligormis_log_read(log, log_bytes, place, 1, row->numbers, TILIGORMIS_ROW_NUMBERS);
 }
 
 /* ---- Slots. ------------------------------------------------------------------------------------------------------------- */

@@ -52,6 +52,11 @@ impl Author {
         Author { text: String::new(), machine: Machine::empty(), alive: false }
     }
 
+    /// Goes on where another script has left a valid machine.
+    pub fn resume(machine: Machine) -> Self {
+        Author { text: String::new(), machine, alive: true }
+    }
+
     pub fn note(&mut self, text: &str) {
         self.line(&format!("# {text}"));
     }

@@ -4,6 +4,7 @@
 use crate::author::{Author, Rng};
 use crate::coverage::refusals;
 use crate::directed::SCENARIOS;
+use crate::log;
 use crate::machine::*;
 use crate::operate::{arguments, Kind, Row};
 
@@ -25,6 +26,9 @@ const ODD: [u64; 14] = [
     u64::MAX,
 ];
 
+/// VMs that a box for the log never adds, so that some stay unknown.
+const STRANGERS: std::ops::Range<Vm> = 10..VMS - 1;
+
 /// How many rows the writer tries for one wanted answer.
 const TRIES: usize = 24;
 
@@ -40,6 +44,9 @@ enum Mood {
     Pairs,
     Maps,
     Sweep,
+    /// Maps get full while units stay free, then regions find no room.
+    Full,
+    Brim,
 }
 
 impl Mood {
@@ -73,24 +80,32 @@ impl Mood {
             Mood::Sweep => {
                 [0, 1, 0, 8, 0, 12, 0, 0, 40, 40, 0, 8, 0, 8, 1, 1, 1, 1, 0, 0, 0, 0, 0, 0, 0, 0]
             }
+            Mood::Full => {
+                [0, 0, 0, 0, 1, 0, 99, 99, 0, 0, 0, 0, 0, 0, 1, 1, 1, 1, 0, 0, 1, 1, 1, 1, 0, 0]
+            }
+            Mood::Brim => {
+                [1, 0, 0, 0, 9, 0, 22, 22, 0, 0, 40, 0, 40, 0, 1, 1, 1, 1, 1, 1, 1, 1, 1, 1, 0, 0]
+            }
         }
     }
 
     /// How many rows it lasts: long enough to bring its table to the brim.
     fn length(self) -> u64 {
         match self {
-            Mood::Any | Mood::Grow | Mood::Shrink | Mood::Guests | Mood::Regions => 120,
             Mood::Fills | Mood::Pairs => 400,
             Mood::Maps => 1700,
+            Mood::Full => 1500,
             Mood::Sweep => 1000,
+            _ => 120,
         }
     }
 
     /// How many rows of a hundred want to be accepted.
     fn accepted(self) -> u64 {
         match self {
-            Mood::Any | Mood::Guests => 60,
+            Mood::Any | Mood::Guests | Mood::Brim => 60,
             Mood::Grow | Mood::Regions => 75,
+            Mood::Full => 97,
             _ => 90,
         }
     }
@@ -105,6 +120,10 @@ struct Writer {
     left: u64,
     /// Guest pages are mostly taken below this number, so that they meet.
     guests: u64,
+    /// Only rows that a log can hold, and ways to what one box seldom meets.
+    logged: bool,
+    /// Rows that come next, the last one first.
+    planned: Vec<Row>,
 }
 
 /// A script of one random box with `rows` rows.
@@ -126,17 +145,28 @@ pub fn generate_of_size(seed: u64, pages: u64, rows: u64) -> String {
 fn generate_sized(rng: Rng, pages: u64, rows: u64) -> String {
     let mut writer = Writer::new(rng);
     writer.open(pages);
-    for row in 0..rows {
-        writer.write_row();
-        writer.left -= 1;
-        if writer.left == 0 {
-            let early = rows >= 2400 && row < 200;
-            writer.change_mood(early);
-        }
-        if writer.rng.chance(3) {
-            writer.author.free();
-        }
-    }
+    writer.write_rows(rows);
+    writer.author.text
+}
+
+/// A script of one random box with rows that a log can hold. It is of middle
+/// size and has a shared page, so that it can reach nearly everything alone.
+pub fn single(seed: u64, rows: u64) -> String {
+    let mut rng = Rng::new(seed);
+    let pages = rng.pick(&[65, 80, 100, 130]).unwrap_or(65);
+    let mut writer = Writer { logged: true, ..Writer::new(rng) };
+    let ([_, base, count], units) = writer.configuration(pages);
+    let base = if count > 0 { base } else { pages - 1 };
+    writer.author.open(pages, base, count.max(1), &units);
+    writer.write_rows(rows);
+    writer.author.text
+}
+
+/// Rows that go on from a valid machine, all of which a log can hold.
+pub fn go_on(seed: u64, rows: u64, machine: Machine) -> String {
+    let author = Author::resume(machine);
+    let mut writer = Writer { logged: true, author, ..Writer::new(Rng::new(seed)) };
+    writer.write_rows(rows);
     writer.author.text
 }
 
@@ -191,7 +221,8 @@ fn random_starts(seed: u64) -> String {
 impl Writer {
     fn new(rng: Rng) -> Self {
         let (author, mood) = (Author::new(), Mood::Grow);
-        Writer { rng, author, mood, left: mood.length(), guests: 24 }
+        let (left, planned) = (mood.length(), Vec::new());
+        Writer { rng, author, mood, left, guests: 24, logged: false, planned }
     }
 
     fn open(&mut self, pages: u64) {
@@ -260,26 +291,87 @@ impl Writer {
         let rare = [Mood::Fills, Mood::Pairs, Mood::Maps];
         self.mood = match self.mood {
             _ if to_maps => Mood::Maps,
+            Mood::Full => Mood::Brim,
+            Mood::Brim => Mood::Pairs,
+            Mood::Pairs if self.logged => Mood::Fills,
             Mood::Maps => Mood::Fills,
             Mood::Fills | Mood::Pairs => Mood::Sweep,
             Mood::Sweep => Mood::Regions,
             _ if self.rng.chance(85) => self.rng.pick(&common).unwrap_or(Mood::Any),
             _ => self.rng.pick(&rare).unwrap_or(Mood::Any),
         };
+        if self.logged && self.mood == Mood::Maps {
+            self.mood = Mood::Full;
+            for _ in 0..3 {
+                if let Some(region) = self.free_a_unit() {
+                    self.plan_region(14, region);
+                }
+            }
+        }
         self.left = self.mood.length();
         self.guests = match self.mood {
-            Mood::Maps => GUESTS,
+            Mood::Maps | Mood::Full => GUESTS,
             _ => self.rng.pick(&[8, 24, 24, 100, GUESTS]).unwrap_or(24),
         };
     }
 }
 
+/// Makes of a row one that a log can hold: the operation a known one, of an
+/// argument too wide its upper half.
+fn mend(row: &mut Row) {
+    if log::body(row[0]).is_none() {
+        row[0] = 1 + row[0] % OPERATIONS;
+    }
+    let widths = log::widths(row[0]);
+    for (number, width) in row[1..].iter_mut().zip(widths) {
+        if width < 8 && *number >> 32 > 0 {
+            *number >>= 32;
+        }
+    }
+}
+
 /// Rows.
 impl Writer {
+    fn write_rows(&mut self, rows: u64) {
+        for row in 0..rows {
+            self.write_row();
+            self.left -= 1;
+            if self.left == 0 {
+                let early = rows >= 2400 && row < 200;
+                self.change_mood(early);
+            }
+            if self.rng.chance(3) {
+                self.author.free();
+            }
+        }
+    }
+
     fn write_row(&mut self) {
-        let row = if self.rng.chance(4) { self.noise() } else { self.aimed() };
+        let row = if self.logged { self.logged_row() } else { self.any_row() };
         let spelling = self.spell(&row);
         self.author.row_as(&row, &spelling);
+    }
+
+    fn any_row(&mut self) -> Row {
+        if self.rng.chance(4) {
+            self.noise()
+        } else {
+            self.aimed()
+        }
+    }
+
+    /// A planned row or any other, such that a log can hold it.
+    fn logged_row(&mut self) -> Row {
+        let percent = if self.mood == Mood::Regions { 4 } else { 1 };
+        if self.planned.is_empty() && self.rng.chance(percent) {
+            self.plan();
+        }
+        let mut row = self.planned.pop().unwrap_or_else(|| self.any_row());
+        mend(&mut row);
+        if row[0] == 1 && STRANGERS.contains(&row[1]) {
+            row[1] -= STRANGERS.start;
+        }
+        row
     }
 
     /// Any operation with any numbers at all.
@@ -355,6 +447,7 @@ impl Writer {
         match operation {
             4 | 5 => self.held_page(&mut row),
             6 => self.stored_pair(&mut row),
+            7 | 8 if self.logged && self.rng.chance(50) => self.own_page(&mut row),
             7 | 8 => self.mapped_key(&mut row, 10),
             9 | 10 => self.mapped_key(&mut row, 85),
             11..=14 => self.unit_region(&mut row),
@@ -425,12 +518,16 @@ impl Writer {
         }
     }
 
+    /// Every VM with every page that it holds on a side.
+    fn held(&self, side: Side) -> Vec<(Vm, Page)> {
+        let owned = self.author.machine.half(side).owned.iter();
+        owned.flat_map(|(&vm, pages)| pages.iter().map(move |&page| (vm, page))).collect()
+    }
+
     /// A VM with one of its CPU pages, for share another VM between them.
     fn held_page(&mut self, row: &mut Row) {
         self.plain(row);
-        let held: Vec<(Vm, Page)> = (self.author.machine.cpu.owned.iter())
-            .flat_map(|(&vm, pages)| pages.iter().map(move |&page| (vm, page)))
-            .collect();
+        let held = self.held(Side::Cpu);
         if let (Some((vm, page)), true) = (self.rng.pick(&held), self.rng.chance(80)) {
             row[1] = vm;
             row[if row[0] == 4 { 2 } else { 3 }] = page;
@@ -476,6 +573,9 @@ impl Writer {
                 _ => self.rng.below(8),
             };
         }
+        if self.logged && self.rng.chance(4) {
+            row[1] = STRANGERS.start;
+        }
     }
 
     /// A port that runs a VM, and a guest page which that VM maps.
@@ -519,6 +619,97 @@ impl Writer {
             6 => format!("\n# between\r\n{text}"),
             7 if arguments < ROW_NUMBERS - 1 => format!("{text} {}", u64::MAX),
             _ => text,
+        }
+    }
+}
+
+/// Ways to states that one box seldom meets by chance.
+impl Writer {
+    /// A row of 7 or 8 with a VM and a page that it holds.
+    fn own_page(&mut self, row: &mut Row) {
+        self.plain(row);
+        let held = self.held(if row[0] == 7 { Side::Cpu } else { Side::Dma });
+        if let Some((vm, page)) = self.rng.pick(&held) {
+            (row[1], row[3]) = (vm, page);
+        }
+    }
+
+    /// A unit of few pages, mostly of a known VM.
+    fn small_unit(&mut self) -> Option<Region> {
+        let m = &self.author.machine;
+        let small = m.units.iter().map(|unit| unit.region).filter(|region| region.count <= 4);
+        let (known, others): (Vec<Region>, Vec<Region>) =
+            small.partition(|region| m.known.contains(&region.vm));
+        let units = if known.is_empty() || self.rng.chance(10) { others } else { known };
+        self.rng.pick(&units)
+    }
+
+    /// Behind the rows that are planned already.
+    fn plan_row(&mut self, numbers: &[u64]) {
+        let mut row = Row::default();
+        row[..numbers.len()].copy_from_slice(numbers);
+        self.planned.insert(0, row);
+    }
+
+    fn plan_region(&mut self, operation: u64, region: Region) {
+        let Region { vm, guest, page, count, access } = region;
+        self.plan_row(&[operation, vm, guest, page, count, access]);
+    }
+
+    /// Plans rows after which the pages of a unit are in the pool; gives the unit.
+    fn free_a_unit(&mut self) -> Option<Region> {
+        let region = self.small_unit()?;
+        let m = &self.author.machine;
+        let named = |page: Page| Span { base: region.page, count: region.count }.contains(page);
+        let mappings = m.cpu.software.iter().filter(|(_, entry)| named(entry.page));
+        let unmaps = mappings.map(|(key, _)| [9, key.0, key.1, 0]);
+        let pairs = m.pairs.iter().filter(|pair| named(pair.2));
+        let unshares = pairs.map(|&(low, high, page)| [6, low, high, page]);
+        let held = self.held(Side::Cpu).into_iter().filter(|&(_, page)| named(page));
+        let reclaims = held.map(|(vm, page)| [4, vm, page, 0]);
+        let rows: Vec<[u64; 4]> = unmaps.chain(unshares).chain(reclaims).collect();
+        rows.iter().for_each(|row| self.plan_row(row));
+        Some(region)
+    }
+
+    /// Plans to free a unit and insert it: with one of its guest pages mapped
+    /// before, with a page shared or mapped again after, or with a page held
+    /// for DMA by another VM.
+    fn plan(&mut self) {
+        let Some(region) = self.free_a_unit() else { return };
+        let (vm, index, other) = (region.vm, self.rng.below(region.count), self.vm());
+        let (insert, remove, map) = if self.rng.chance(70) { (11, 12, 7) } else { (13, 14, 8) };
+        let way = self.rng.below(4);
+        if way == 0 {
+            let held = self.held(Side::Cpu);
+            let own: Vec<_> = held.into_iter().filter(|&(holder, _)| holder == vm).collect();
+            if let Some((_, page)) = self.rng.pick(&own) {
+                self.plan_row(&[7, vm, region.guest + index, page, 3]);
+            }
+        } else if way == 1 {
+            self.plan_rival(region);
+        }
+        self.plan_region(insert, region);
+        match way {
+            2 => self.plan_row(&[5, vm, other, region.page + index]),
+            3 => self.plan_row(&[map, vm, region.guest + region.count, region.page + index, 1]),
+            _ => return,
+        }
+        self.plan_region(remove, region);
+    }
+
+    /// Plans to insert for DMA another VM's unit that meets the region.
+    fn plan_rival(&mut self, region: Region) {
+        let meets = |other: &Region| {
+            other.vm != region.vm
+                && other.page < region.page + region.count
+                && region.page < other.page + other.count
+        };
+        let units = self.author.machine.units.iter().map(|unit| unit.region);
+        let rivals: Vec<Region> = units.filter(meets).collect();
+        if let Some(rival) = self.rng.pick(&rivals) {
+            self.plan_row(&[1, rival.vm]);
+            self.plan_region(13, rival);
         }
     }
 }

@@ -5,6 +5,7 @@ pub mod author;
 pub mod coverage;
 pub mod directed;
 pub mod generate;
+pub mod log;
 pub mod machine;
 pub mod operate;
 pub mod script;

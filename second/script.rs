@@ -2,6 +2,7 @@
 
 use std::io::{self, BufRead, Write};
 
+use crate::log::{self, Reader};
 use crate::machine::{
     Free, Lent, Machine, Span, UnitNumbers, ANSWER_NUMBERS, IDLE, ROW_NUMBERS, UNITS,
 };
@@ -51,6 +52,11 @@ fn number(word: &[u8]) -> Option<u64> {
     })
 }
 
+/// The same where there must be a digit.
+pub fn decimal(word: &str) -> Option<u64> {
+    (!word.is_empty()).then(|| number(word.as_bytes())).flatten()
+}
+
 /// Exactly as many numbers as there is room for.
 fn numbers<const COUNT: usize>(words: &[&[u8]]) -> Option<[u64; COUNT]> {
     let values: Option<Vec<u64>> = words.iter().map(|word| number(word)).collect();
@@ -85,12 +91,12 @@ fn parse(line: &[u8]) -> Option<Line> {
 }
 
 /// The events of a script with the numbers of their lines. A start comes once
-/// its units end, with the number of the line that ends them.
+/// its units end, with the number of its box line.
 pub struct Events<R> {
     input: R,
     line: u64,
-    /// A box whose units may still go on.
-    open: Option<Setup>,
+    /// A box whose units may still go on, and its line.
+    open: Option<(u64, Setup)>,
     any_box: bool,
     /// What the line that ended the units asks for.
     next: Option<Event>,
@@ -119,11 +125,11 @@ impl<R: BufRead> Events<R> {
     }
 
     /// The event of a line, if it has one, after the start that it brings about.
-    fn take(&mut self, line: &[u8]) -> Option<Event> {
+    fn take(&mut self, line: &[u8]) -> Option<(u64, Event)> {
         let event = match parse(line) {
             Some(Line::Blank) => return None,
             Some(Line::Unit(unit)) => {
-                if let Some(setup) = &mut self.open {
+                if let Some((_, setup)) = &mut self.open {
                     // One unit too many decides the answer, so no more are kept.
                     if setup.units.len() <= UNITS {
                         setup.units.push(unit);
@@ -135,33 +141,38 @@ impl<R: BufRead> Events<R> {
             Some(Line::Box([pages, base, count])) => {
                 let shared = Span { base, count };
                 self.any_box = true;
-                let ended = self.open.replace(Setup { pages, shared, units: Vec::new() });
-                return ended.map(Event::Start);
+                let opened = Setup { pages, shared, units: Vec::new() };
+                return self.open.replace((self.line, opened)).map(started);
             }
             Some(Line::Row(row)) if self.any_box => Event::Row(row),
             Some(Line::Free) if self.any_box => Event::Free,
             _ => Event::Bad,
         };
         match self.open.take() {
-            Some(setup) => {
+            Some(ended) => {
                 self.next = Some(event);
-                Some(Event::Start(setup))
+                Some(started(ended))
             }
-            None => Some(event),
+            None => Some((self.line, event)),
         }
     }
 
-    fn advance(&mut self) -> io::Result<Option<Event>> {
+    fn advance(&mut self) -> io::Result<Option<(u64, Event)>> {
         if let Some(event) = self.next.take() {
-            return Ok(Some(event));
+            return Ok(Some((self.line, event)));
         }
         while let Some(line) = self.read_line()? {
             if let Some(event) = self.take(&line) {
                 return Ok(Some(event));
             }
         }
-        Ok(self.open.take().map(Event::Start))
+        Ok(self.open.take().map(started))
     }
+}
+
+/// The start of a box whose units have ended.
+fn started((line, setup): (u64, Setup)) -> (u64, Event) {
+    (line, Event::Start(setup))
 }
 
 impl<R: BufRead> Iterator for Events<R> {
@@ -172,8 +183,8 @@ impl<R: BufRead> Iterator for Events<R> {
             return None;
         }
         let event = self.advance().transpose()?;
-        self.over = matches!(event, Ok(Event::Bad) | Err(_));
-        Some(event.map(|event| (self.line, event)))
+        self.over = matches!(event, Ok((_, Event::Bad)) | Err(_));
+        Some(event)
     }
 }
 
@@ -228,7 +239,9 @@ impl Batch {
 }
 
 /// Runs a script, rows between queries through the sequence entry in batches.
-pub fn run(input: impl BufRead, output: &mut impl Write) -> io::Result<()> {
+/// Gives the machine that stands at its end, nothing if a line can't be read.
+pub fn run(input: impl BufRead, output: &mut impl Write) -> io::Result<Option<Machine>> {
+    let mut readable = true;
     let mut machine = Machine::empty();
     let mut batch = Batch::new();
     for event in Events::new(input) {
@@ -247,10 +260,77 @@ pub fn run(input: impl BufRead, output: &mut impl Write) -> io::Result<()> {
                 writeln!(output, "start {number}")?;
             }
             Event::Free => print_free(output, machine.free())?,
-            _ => print_bad(output, line)?,
+            _ => {
+                print_bad(output, line)?;
+                readable = false;
+            }
         }
     }
-    batch.flush(&mut machine, output)
+    batch.flush(&mut machine, output)?;
+    Ok(readable.then_some(machine))
+}
+
+/// Writes the rows of a script as a log. Gives the line that ends it before
+/// its time, and why.
+pub fn write_log(
+    input: impl BufRead,
+    output: &mut impl Write,
+) -> io::Result<Result<(), (u64, &'static str)>> {
+    let mut boxes = 0;
+    for event in Events::new(input) {
+        let (line, event) = event?;
+        let why = match event {
+            Event::Start(_) => {
+                boxes += 1;
+                (boxes > 1).then_some("a second box")
+            }
+            Event::Row(row) => match log::record(&row) {
+                Ok(bytes) => {
+                    output.write_all(&bytes)?;
+                    None
+                }
+                Err(number) => Some(log::meaning(number)),
+            },
+            Event::Free => None,
+            Event::Bad => Some("not understood"),
+        };
+        if let Some(why) = why {
+            return Ok(Err((line, why)));
+        }
+    }
+    Ok(Ok(()))
+}
+
+/// A record's kind and arguments, and its answer.
+fn print_record(output: &mut impl Write, row: &Row, answer: Answer) -> io::Result<()> {
+    write!(output, "{}", row[0])?;
+    for (number, _) in row[1..].iter().zip(log::widths(row[0])) {
+        write!(output, " {number}")?;
+    }
+    write!(output, ": ")?;
+    print_answer(output, &answer.numbers())
+}
+
+/// Runs a script, and then at most so many records of a log on the machine
+/// that it leaves.
+pub fn replay(
+    input: impl BufRead,
+    log: &[u8],
+    most: u64,
+    output: &mut impl Write,
+) -> io::Result<()> {
+    let Some(mut machine) = run(input, output)? else { return Ok(()) };
+    let mut reader = Reader::new(log);
+    let replay = log::replay(&mut machine, &mut reader, most);
+    for (row, answer) in &replay.taken {
+        print_record(output, row, *answer)?;
+    }
+    match replay.number {
+        0 => {}
+        1 => writeln!(output, "refused 1")?,
+        number => writeln!(output, "byte {}: {}", reader.place, log::meaning(number))?,
+    }
+    writeln!(output, "taken {}", replay.taken.len())
 }
 
 /// Runs a script row by row through the one-operation entry. After each row

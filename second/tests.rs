@@ -1,12 +1,14 @@
-//! Tests: the worked table, entries, validity, the script format, the suite.
+//! Tests: the worked table, entries, validity, the script format, the suite,
+//! the log.
 
 use std::collections::BTreeSet;
 
-use crate::coverage::Coverage;
-use crate::generate::{generate, suite};
+use crate::coverage::{refusals, Coverage};
+use crate::generate::{generate, go_on, single, suite};
+use crate::log::{self, Reader};
 use crate::machine::*;
 use crate::operate::{Answer, Row};
-use crate::script::{check, look, run, Event, Events};
+use crate::script::{self, check, look, run, Event, Events};
 use crate::valid::{broken, CLAUSES};
 
 const UNITS_OF_TABLE: [UnitNumbers; 2] = [[1, 16, 0, 3, 3, 3], [2, 16, 2, 2, 3, 1]];
@@ -730,5 +732,575 @@ mod generated {
             let rows = events.iter().filter(|event| matches!(event, Event::Row(_))).count();
             assert_eq!(rows, 300);
         }
+    }
+}
+
+/// Scripts and logs at hand for the tests of the log.
+mod samples {
+    use super::*;
+
+    /// A row from its first numbers.
+    pub fn row(numbers: &[u64]) -> Row {
+        let mut row = Row::default();
+        row[..numbers.len()].copy_from_slice(numbers);
+        row
+    }
+
+    /// The rows of a script, in order.
+    pub fn rows(script: &str) -> Vec<Row> {
+        let events = Events::new(script.as_bytes()).map(|event| event.expect("memory reads").1);
+        let rows = events.filter_map(|event| match event {
+            Event::Row(row) => Some(row),
+            _ => None,
+        });
+        rows.collect()
+    }
+
+    /// The records of rows that a log can hold.
+    pub fn log_of(rows: &[Row]) -> Vec<u8> {
+        rows.iter().flat_map(|row| log::record(row).expect("the row can be written")).collect()
+    }
+
+    /// The machine that a script leaves.
+    pub fn machine_of(script: &str) -> Machine {
+        run(script.as_bytes(), &mut std::io::sink()).expect("memory reads").expect("readable")
+    }
+
+    /// A row of each kind with arguments of all bytes, and the bytes that
+    /// each argument has in the body, told by hand.
+    pub const KINDS: [(&[u64], &[u64]); 26] = [
+        (&[1, 0x0403_0201], &[4]),
+        (&[2, 0x1413_1211], &[4]),
+        (&[3, 0x0403_0201, 0x0807_0605], &[4, 4]),
+        (&[4, 0x1413_1211, 0x1817_1615], &[4, 4]),
+        (&[5, 1, 2, 0xFFFF_FFFF], &[4, 4, 4]),
+        (&[6, 0xFFFF_FFFF, 0, 3], &[4, 4, 4]),
+        (&[7, 1, 70_000, 3, 4, 65_536], &[4, 4, 4, 4, 4]),
+        (&[8, 70_000, 2, 0x8000_0000, 4, 5], &[4, 4, 4, 4, 4]),
+        (&[9, 1, 0x0102_0304], &[4, 4]),
+        (&[10, 0, 0xFFFF_FFFF], &[4, 4]),
+        (&[11, 1, 2, 3, 4, 5], &[4, 4, 4, 4, 4]),
+        (&[12, 0xFFFF_FFFF, 0xFFFF_FFFF, 0, 0xFFFF_FFFF, 1], &[4, 4, 4, 4, 4]),
+        (&[13, 5, 4, 3, 2, 1], &[4, 4, 4, 4, 4]),
+        (&[14, 0, 0, 0, 0, 0xFFFF_FFFF], &[4, 4, 4, 4, 4]),
+        (&[15, 0, 4_294_967_295], &[4, 4]),
+        (&[16, 7, 15], &[4, 4]),
+        (&[17, 8, 65_536], &[4, 4]),
+        (&[18, 1, 2], &[4, 4]),
+        (&[19, 64], &[4]),
+        (&[20, 0xFFFF_FFFF], &[4]),
+        (&[21, 1, 2, 512], &[4, 4, 4]),
+        (&[22, 0xFFFF_FFFF, 0xFFFF_FFFF, 0xFFFF_FFFF], &[4, 4, 4]),
+        (&[23, 1, 2, 3, 0x0807_0605_0403_0201], &[4, 4, 4, 8]),
+        (&[24, 1, 2, 0xFFFF_FFFF, u64::MAX], &[4, 4, 4, 8]),
+        (&[25], &[]),
+        (&[26], &[]),
+    ];
+}
+
+mod records {
+    use super::samples::*;
+    use super::*;
+
+    /// Reads one record at a place; gives what was read and the place after.
+    fn read(log: &[u8], place: usize) -> (Result<Option<Row>, u64>, usize) {
+        let mut reader = Reader { log, place };
+        (reader.read(), reader.place)
+    }
+
+    /// A refusal leaves the reader where it was, at the front of a log and
+    /// after another record.
+    fn refused(bytes: &[u8], number: u64) {
+        assert_eq!(read(bytes, 0), (Err(number), 0), "{bytes:?}");
+        let mut log = log_of(&[row(&[1, 1])]);
+        log.extend_from_slice(bytes);
+        assert_eq!(read(&log, 0), (Ok(Some(row(&[1, 1]))), 8));
+        assert_eq!(read(&log, 8), (Err(number), 8), "{bytes:?}");
+    }
+
+    #[test]
+    fn adding_vm_1() {
+        let bytes = [6, 0, 1, 0, 1, 0, 0, 0];
+        assert_eq!(log::record(&row(&[1, 1])), Ok(bytes.to_vec()));
+        assert_eq!(read(&bytes, 0), (Ok(Some(row(&[1, 1]))), 8));
+    }
+
+    #[test]
+    fn a_write_by_hand() {
+        let bytes = [22, 0, 23, 0, 7, 0, 0, 0, 0, 1, 0, 0, 255, 1, 0, 0, 1, 2, 3, 4, 5, 6, 7, 8];
+        let write = row(&[23, 7, 256, 511, 0x0807_0605_0403_0201]);
+        assert_eq!(log::record(&write), Ok(bytes.to_vec()));
+        assert_eq!(read(&bytes, 0), (Ok(Some(write)), 24));
+    }
+
+    #[test]
+    fn bodies_are_the_arguments() {
+        for (place, (numbers, bytes)) in KINDS.iter().enumerate() {
+            let kind = place as u64 + 1;
+            let total = bytes.iter().sum::<u64>() as usize;
+            assert_eq!((numbers[0], numbers.len()), (kind, bytes.len() + 1));
+            assert_eq!((log::BODIES[place], log::body(kind)), (total, Some(total)));
+            assert!(log::widths(kind).eq(bytes.iter().map(|&width| width as usize)));
+            let record = log::record(&row(numbers)).expect("the row can be written");
+            let mut by_hand = (2 + total as u16).to_le_bytes().to_vec();
+            by_hand.extend((kind as u16).to_le_bytes());
+            for (number, &width) in numbers[1..].iter().zip(*bytes) {
+                by_hand.extend((0..width).map(|byte| (number >> (8 * byte)) as u8));
+            }
+            assert_eq!(record, by_hand, "kind {kind}");
+        }
+        for kind in [0, OPERATIONS + 1, 64, 255, 257, 65_535, 65_537, 1 << 32, u64::MAX] {
+            assert_eq!(log::body(kind), None);
+        }
+    }
+
+    #[test]
+    fn the_end_is_no_refusal() {
+        assert_eq!(read(&[], 0), (Ok(None), 0));
+        let log = log_of(&[row(&[25]), row(&[2, 3])]);
+        for place in [log.len(), log.len() + 1, log.len() + 9, usize::MAX] {
+            assert_eq!(read(&log, place), (Ok(None), place));
+        }
+    }
+
+    #[test]
+    fn one_to_three_bytes_left_are_cut_short() {
+        for bytes in [[6, 0, 1], [0, 0, 0], [1, 0, 99], [2, 0, 25], [255, 255, 255]] {
+            for count in 1..=3 {
+                refused(&bytes[..count], 20);
+            }
+        }
+    }
+
+    #[test]
+    fn every_record_cut_anywhere_is_cut_short() {
+        for (numbers, _) in KINDS {
+            let record = log_of(&[row(numbers)]);
+            for count in 1..record.len() {
+                refused(&record[..count], 20);
+            }
+        }
+    }
+
+    #[test]
+    fn cut_short_comes_before_unknown_kind_and_wrong_length() {
+        // Length one too long for what is left, by kinds known and unknown.
+        for kind in [0, 27, 99, 1, 25] {
+            refused(&[3, 0, kind, 0], 20);
+            refused(&[6, 0, kind, 0, 1, 0, 0], 20);
+            refused(&[0, 1, kind, 0, 1, 0, 0, 0], 20);
+            refused(&[255, 255, kind, 0, 1, 0, 0, 0], 20);
+        }
+    }
+
+    #[test]
+    fn unknown_kind_comes_before_wrong_length() {
+        for kind in [0, 27, 28, 64, 255] {
+            for length in 0..=6 {
+                refused(&[length, 0, kind, 0, 1, 0, 0, 0], 21);
+            }
+        }
+        // Only the upper byte of the kind is wrong.
+        refused(&[6, 0, 1, 1, 1, 0, 0, 0], 21);
+        refused(&[2, 0, 25, 128], 21);
+    }
+
+    #[test]
+    fn wrong_length() {
+        for length in [0, 1] {
+            refused(&[length, 0, 1, 0], 22);
+            refused(&[length, 0, 25, 0], 22);
+            refused(&[length, 0, 26, 0, 9, 9], 22);
+            refused(&[length, 0, 27, 0], 21);
+            refused(&[length, 0, 0, 0], 21);
+            refused(&[length, 0, 0, 0, 9], 21);
+        }
+        for (numbers, bytes) in KINDS {
+            let right = 2 + bytes.iter().sum::<u64>() as u16;
+            for length in (0..40u16).filter(|&length| length != right) {
+                let mut record = length.to_le_bytes().to_vec();
+                record.extend([numbers[0] as u8, 0]);
+                record.resize(2 + usize::from(length).max(2), 7);
+                refused(&record, 22);
+            }
+        }
+        // Only the upper byte of the length is wrong.
+        let mut long = vec![6, 1, 1, 0];
+        long.resize(2 + 262, 0);
+        refused(&long, 22);
+    }
+
+    #[test]
+    fn the_writer_refuses_21_before_23() {
+        let mut buffer = [7; 3];
+        for kind in [0, OPERATIONS + 1, 65_536 + 1, 1 << 32, u64::MAX] {
+            for place in [0, 3, 4, usize::MAX] {
+                let wide = row(&[kind, u64::MAX, u64::MAX]);
+                assert_eq!(log::write(&wide, &mut buffer, place), Err(21));
+            }
+        }
+        assert_eq!(buffer, [7; 3]);
+    }
+
+    #[test]
+    fn the_writer_refuses_an_argument_over_four_bytes() {
+        for (numbers, bytes) in KINDS {
+            for (place, &width) in bytes.iter().enumerate() {
+                for wide in [1 << 32, 1 << 40, u64::MAX] {
+                    let mut row = row(numbers);
+                    row[place + 1] = wide;
+                    let mut buffer = [7; 40];
+                    let result = log::write(&row, &mut buffer, 0);
+                    assert_eq!(result.is_ok(), width == 8, "{row:?}");
+                    assert!(width == 8 || (result == Err(23) && buffer == [7; 40]));
+                }
+            }
+        }
+    }
+
+    #[test]
+    fn the_writer_needs_room_for_all_of_it() {
+        for (numbers, _) in KINDS {
+            let row = row(numbers);
+            let record = log_of(&[row]);
+            for short in 1..=record.len() {
+                for place in [0, 5] {
+                    let mut buffer = vec![7; place + record.len() - short];
+                    let before = buffer.clone();
+                    assert_eq!(log::write(&row, &mut buffer, place), Err(23));
+                    assert_eq!(buffer, before);
+                }
+            }
+            let mut buffer = vec![7; 3 + record.len() + 2];
+            assert_eq!(log::write(&row, &mut buffer, 3), Ok(3 + record.len()));
+            assert_eq!(buffer[3..3 + record.len()], record);
+            assert_eq!((&buffer[..3], &buffer[3 + record.len()..]), (&[7; 3][..], &[7; 2][..]));
+            for place in [buffer.len(), buffer.len() + 1, usize::MAX] {
+                let before = buffer.clone();
+                assert_eq!(log::write(&row, &mut buffer, place), Err(23));
+                assert_eq!(buffer, before);
+            }
+        }
+    }
+
+    #[test]
+    fn numbers_past_the_arguments_are_ignored_and_read_as_0() {
+        for (numbers, _) in KINDS {
+            let mut row = row(numbers);
+            let record = log_of(&[row]);
+            row[numbers.len()..].fill(u64::MAX);
+            assert_eq!(log::record(&row), Ok(record.clone()));
+            row[numbers.len()..].fill(0);
+            assert_eq!(read(&record, 0), (Ok(Some(row)), record.len()));
+        }
+    }
+
+    #[test]
+    fn reading_what_was_written_and_writing_what_was_read() {
+        let rows = rows(&single(11, 3000));
+        let mut log = vec![0; 24 * rows.len()];
+        let mut end = 0;
+        for row in &rows {
+            end = log::write(row, &mut log, end).expect("the row can be written");
+        }
+        log.truncate(end);
+        let mut reader = Reader::new(&log);
+        let mut again = Vec::new();
+        for row in &rows {
+            let used = 1 + log::widths(row[0]).count();
+            let read = reader.read().expect("readable").expect("as many records as rows");
+            assert_eq!(read[..used], row[..used]);
+            assert!(read[used..].iter().all(|&number| number == 0));
+            again.push(read);
+        }
+        assert_eq!((reader.read(), reader.place), (Ok(None), log.len()));
+        assert_eq!(log_of(&again), log);
+    }
+
+    /// Any four bytes in front of enough others: what can be read is written
+    /// the same, and all else is one of the two refusals.
+    #[test]
+    fn any_length_and_kind() {
+        let mut log = vec![0; 4 + 65_536];
+        for length in (0..=30u16).chain([256, 262, 65_535]) {
+            for kind in (0..=70u16).chain([256, 257, 65_535]) {
+                log[..2].copy_from_slice(&length.to_le_bytes());
+                log[2..4].copy_from_slice(&kind.to_le_bytes());
+                let known = log::body(u64::from(kind));
+                let (result, place) = read(&log, 0);
+                match known {
+                    None => assert_eq!(result, Err(21)),
+                    Some(body) if usize::from(length) != 2 + body => assert_eq!(result, Err(22)),
+                    Some(body) => {
+                        let row = result.expect("readable").expect("a record");
+                        assert_eq!((place, log_of(&[row])), (4 + body, log[..4 + body].to_vec()));
+                    }
+                }
+            }
+        }
+    }
+}
+
+mod replays {
+    use super::samples::*;
+    use super::*;
+
+    /// Carries out rows one by one; each with its answer.
+    fn by_rows(machine: &mut Machine, rows: &[Row]) -> Vec<(Row, Answer)> {
+        rows.iter().map(|row| (*row, machine.operate(row))).collect()
+    }
+
+    /// Some rows of a box to begin with, and others that go on from there.
+    fn sample(rows_on: u64) -> (Machine, Vec<Row>) {
+        let machine = machine_of(&single(5, 60));
+        let mut rows = rows(&format!("box 1 0 0\n{}", go_on(6, rows_on, machine.clone())));
+        for row in &mut rows {
+            let used = 1 + log::widths(row[0]).count();
+            row[used..].fill(0);
+        }
+        (machine, rows)
+    }
+
+    #[test]
+    fn a_replay_is_its_rows() {
+        let (mut machine, rows) = sample(300);
+        let mut other = machine.clone();
+        let log = log_of(&rows);
+        let mut reader = Reader::new(&log);
+        let replay = log::replay(&mut machine, &mut reader, u64::MAX);
+        assert_eq!((replay.number, reader.place), (0, log.len()));
+        assert_eq!(replay.taken, by_rows(&mut other, &rows));
+        assert_eq!(machine, other);
+        let refused = replay.taken.iter().filter(|(_, answer)| answer.number != 0).count();
+        assert!(replay.taken.len() == 300 && refused > 50 && refused < 250);
+    }
+
+    #[test]
+    fn a_replay_in_pieces_is_the_whole() {
+        let (start, rows) = sample(200);
+        let log = log_of(&rows);
+        let mut whole = start.clone();
+        let all = log::replay(&mut whole, &mut Reader::new(&log), 200);
+        for piece in [1, 2, 7, 199, 200, 201] {
+            let (mut machine, mut reader) = (start.clone(), Reader::new(&log));
+            let mut taken = Vec::new();
+            while reader.place < log.len() {
+                let replay = log::replay(&mut machine, &mut reader, piece);
+                assert_eq!(replay.number, 0);
+                assert!(replay.taken.len() as u64 == piece || reader.place == log.len());
+                taken.extend(replay.taken);
+            }
+            assert_eq!((&taken, &machine), (&all.taken, &whole));
+        }
+    }
+
+    #[test]
+    fn an_invalid_machine_takes_none() {
+        let unreadable = [9, 9];
+        let log = log_of(&[row(&[1, 1])]);
+        let mut broken = with_u1();
+        broken.cpu.walker.clear();
+        for before in [Machine::empty(), broken] {
+            for bytes in [&unreadable[..], &log, &[]] {
+                for most in [0, 1, u64::MAX] {
+                    let (mut machine, mut reader) = (before.clone(), Reader::new(bytes));
+                    let replay = log::replay(&mut machine, &mut reader, most);
+                    assert_eq!((replay.number, replay.taken.len(), reader.place), (1, 0, 0));
+                    assert_eq!(machine, before);
+                }
+            }
+        }
+    }
+
+    #[test]
+    fn refused_operations_count_and_change_nothing() {
+        let rows = [[4, 1, 0], [1, 1, 0], [1, 70_000, 0], [12, 1, 5], [25, 0, 0]];
+        let rows: Vec<Row> = rows.iter().map(|numbers| row(numbers)).collect();
+        let log = log_of(&rows);
+        let mut machine = with_u1();
+        let replay = log::replay(&mut machine, &mut Reader::new(&log), u64::MAX);
+        let numbers: Vec<u64> = replay.taken.iter().map(|(_, answer)| answer.number).collect();
+        assert_eq!((replay.number, numbers), (0, vec![11, 5, 2, 3, 0]));
+        assert_eq!(machine, with_u1());
+    }
+
+    #[test]
+    fn an_unreadable_record_ends_it_unless_enough_were_taken() {
+        let rows = [row(&[1, 3]), row(&[1, 3]), row(&[3, 3, 4])];
+        let front = log_of(&rows);
+        let ends: [(&[u8], u64); 4] = [
+            (&[6, 0, 1], 20),
+            (&[6, 0, 99, 0, 1, 0, 0, 0], 21),
+            (&[5, 0, 1, 0, 1, 0, 0], 22),
+            (&[1, 0, 25, 0], 22),
+        ];
+        for (end, number) in ends {
+            let mut log = [&front, end].concat();
+            log.extend(log_of(&[row(&[1, 9])]));
+            if number == 20 {
+                log.truncate(front.len() + end.len());
+            }
+            for (most, ending) in [(0, 0), (1, 0), (3, 0), (4, number), (u64::MAX, number)] {
+                let (mut machine, mut reader) = (with_u1(), Reader::new(&log));
+                let replay = log::replay(&mut machine, &mut reader, most);
+                let taken = replay.taken.len();
+                assert_eq!((replay.number, taken as u64), (ending, most.min(3)));
+                assert_eq!(reader.place, [0, 8, 16, front.len()][taken]);
+                let mut other = with_u1();
+                assert_eq!(replay.taken, by_rows(&mut other, &rows[..taken]));
+                assert_eq!(machine, other);
+            }
+        }
+    }
+}
+
+mod log_commands {
+    use super::samples::*;
+    use super::*;
+
+    fn written(script: &str) -> (Vec<u8>, Result<(), (u64, &'static str)>) {
+        let mut output = Vec::new();
+        let verdict = script::write_log(script.as_bytes(), &mut output).expect("memory reads");
+        (output, verdict)
+    }
+
+    fn replayed(script: &str, log: &[u8], most: u64) -> String {
+        let mut output = Vec::new();
+        script::replay(script.as_bytes(), log, most, &mut output).expect("memory reads");
+        String::from_utf8(output).expect("the output is plain text")
+    }
+
+    #[test]
+    fn rows_alone_are_written() {
+        let script = "# c\nbox 8 7 1\nunit 1 0 0 1 1 1\n1 1\nfree\n\n15 0 idle 9\r\n25 # x\nfree";
+        let log = log_of(&[row(&[1, 1]), row(&[15, 0, IDLE]), row(&[25])]);
+        assert_eq!(written(script), (log, Ok(())));
+        assert_eq!(written(""), (Vec::new(), Ok(())));
+        assert_eq!(written("box 0 0 0\n26"), (vec![2, 0, 26, 0], Ok(())));
+    }
+
+    #[test]
+    fn what_ends_a_log_early() {
+        let one = log_of(&[row(&[1, 1])]);
+        let unit = "unit 1 0 0 1 1 1";
+        let ends = [
+            ("x\n1 2", 3, "not understood"),
+            (unit, 3, "not understood"),
+            ("0 1\nx", 3, "unknown kind"),
+            ("27 18446744073709551615", 3, "unknown kind"),
+            ("# c\n65537 1", 4, "unknown kind"),
+            ("1 4294967296\n0", 3, "does not fit"),
+            ("free\n24 0 0 4294967296 1", 4, "does not fit"),
+            ("box 8 7 1\nx", 3, "a second box"),
+            ("box 8 7 1", 3, "a second box"),
+            ("free\n\nbox 8 7 1\nunit 1 0 0 1 1 1\n\n1 2\n", 5, "a second box"),
+            ("box 8 7 1\n\nbox 8 7 1\n1 2\n", 3, "a second box"),
+            ("box 8 7\nbox 8 7 1", 3, "not understood"),
+        ];
+        for (end, line, why) in ends {
+            let script = format!("box 8 7 1\n1 1\n{end}");
+            assert_eq!(written(&script), (one.clone(), Err((line, why))), "{script:?}");
+        }
+        for (script, line) in [("1 1", 1), ("\nfree\n", 2), (unit, 1)] {
+            assert_eq!(written(script), (Vec::new(), Err((line, "not understood"))));
+        }
+        assert_eq!(written("box 8 7 1\nbox 8 7 1\nx"), (Vec::new(), Err((2, "a second box"))));
+    }
+
+    #[test]
+    fn a_replay_prints_the_run_then_the_records() {
+        let script = "box 8 7 1\nunit 1 16 0 3 3 3\n1 1\nfree\n15 0 1\n";
+        let rows: [&[u64]; 6] = [
+            &[11, 1, 16, 0, 3, 3],
+            &[23, 0, 16, 5, u64::MAX],
+            &[21, 0, 16, 5],
+            &[15, 0, IDLE],
+            &[1, 1],
+            &[25],
+        ];
+        let log = log_of(&rows.map(row));
+        let front = ["start 0", "0 0 0 0", "free 7 0", "0 0 0 0"];
+        let lines = [
+            "11 1 16 0 3 3: 0 0 0 0",
+            "23 0 16 5 18446744073709551615: 0 0 0 0",
+            "21 0 16 5: 0 0 0 18446744073709551615",
+            "15 0 4294967295: 0 0 0 0",
+            "1 1: 5 0 0 0",
+            "25: 0 0 0 0",
+        ];
+        let joined = |lines: &[&[&str]]| lines.concat().join("\n") + "\n";
+        assert_eq!(replayed(script, &log, u64::MAX), joined(&[&front, &lines, &["taken 6"]]));
+        assert_eq!(replayed(script, &log, 2), joined(&[&front, &lines[..2], &["taken 2"]]));
+        assert_eq!(replayed(script, &log, 0), joined(&[&front, &["taken 0"]]));
+        let ends: [(&[u8], &str); 3] = [
+            (&[9], "byte 88: cut short"),
+            (&[2, 0, 27, 0], "byte 88: unknown kind"),
+            (&[0, 0, 1, 0], "byte 88: wrong length"),
+        ];
+        for (end, line) in ends {
+            let log = [&log, end].concat();
+            let expected = joined(&[&front, &lines, &[line, "taken 6"]]);
+            assert_eq!(replayed(script, &log, 7), expected);
+            assert_eq!(replayed(script, &log, 6), joined(&[&front, &lines, &["taken 6"]]));
+        }
+    }
+
+    #[test]
+    fn a_replay_without_a_box() {
+        let log = log_of(&[row(&[1, 1])]);
+        assert_eq!(replayed("", &log, 9), "refused 1\ntaken 0\n");
+        assert_eq!(replayed("# c\n", &[9], 0), "refused 1\ntaken 0\n");
+        let refused = "start 1\n1 0 0 0\nrefused 1\ntaken 0\n";
+        assert_eq!(replayed("box 0 0 0\n1 1", &log, 9), refused);
+        let last = "start 0\nstart 3\nrefused 1\ntaken 0\n";
+        assert_eq!(replayed("box 8 7 1\nbox 8 9 0", &log, 9), last);
+        let last = "start 1\nstart 0\n1 1: 0 0 0 0\ntaken 1\n";
+        assert_eq!(replayed("box 0 0 0\nbox 8 7 1", &log, 9), last);
+        let unread = "start 0\n0 0 0 0\nline 3: not understood\n";
+        assert_eq!(replayed("box 8 7 1\n1 1\nx\n1 2", &log, 9), unread);
+        assert_eq!(replayed("1 1", &log, 9), "line 1: not understood\n");
+    }
+
+    #[test]
+    fn numbers_of_records() {
+        assert_eq!(script::decimal("18446744073709551615"), Some(u64::MAX));
+        assert_eq!((script::decimal("0"), script::decimal("007")), (Some(0), Some(7)));
+        for word in ["", "18446744073709551616", "-1", "+1", "1 ", "0x1", "x"] {
+            assert_eq!(script::decimal(word), None);
+        }
+    }
+
+    #[test]
+    fn a_box_told_by_its_log_is_the_box() {
+        let script = single(12, 1500);
+        let (log, verdict) = written(&script);
+        assert_eq!(verdict, Ok(()));
+        let setup = script.lines().take_while(|line| line.starts_with(['b', 'u']));
+        let setup: String = setup.map(|line| format!("{line}\n")).collect();
+        let mut machine = machine_of(&setup);
+        let replay = log::replay(&mut machine, &mut Reader::new(&log), u64::MAX);
+        assert_eq!((replay.number, replay.taken.len()), (0, 1500));
+        assert_eq!(machine, machine_of(&script));
+        let lines = replayed(&setup, &log, u64::MAX);
+        let answers = lines.lines().filter_map(|line| line.split_once(": ")).map(|(_, it)| it);
+        let told = output_of(script.as_bytes());
+        assert!(answers.eq(told.lines().skip(1).filter(|line| !line.starts_with("free"))));
+    }
+
+    #[test]
+    fn single_boxes_can_be_written_and_reach_everything() {
+        let scripts = [1, 2, 3].map(|seed| single(seed, 20_000));
+        for script in &scripts {
+            assert_eq!(rows(script).len(), 20_000);
+            assert_eq!(written(script).1, Ok(()));
+        }
+        let record = Coverage::of(scripts.concat().as_bytes()).expect("memory reads");
+        for operation in 1..=OPERATIONS {
+            let range = if operation < 25 { &[0, 2][..] } else { &[0] };
+            for &number in range.iter().chain(refusals(operation)) {
+                assert!(record.answers.contains_key(&(operation, number)), "{operation} {number}");
+            }
+        }
+        assert_eq!(single(9, 500), single(9, 500));
     }
 }

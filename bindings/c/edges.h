@@ -13,6 +13,7 @@ enum { PAGES = 8, SHARED_BASE = 7, SHARED_COUNT = 1, UNIT_COUNT = 2 };
 enum { SETS = TILIGORMIS_SETS * TILIGORMIS_SET_WORDS, MEMORY = PAGES * TILIGORMIS_PAGE_WORDS };
 enum { ROWS = 2, ROWS_LENGTH = ROWS * TILIGORMIS_ROW_NUMBERS, ANSWERS_LENGTH = ROWS * TILIGORMIS_ANSWER_NUMBERS };
 enum { UNITS_LENGTH = UNIT_COUNT * TILIGORMIS_UNIT_NUMBERS, UNITS_ROOM = (TILIGORMIS_UNITS + 1) * TILIGORMIS_UNIT_NUMBERS };
+enum { LOG_ROOM = 400, ROWS_BYTES = ROWS * 8 }; /* bytes: room for a record of every kind, and the records of the two rows */
 
 /* An array is lent from its element GUARD on; the structs of numbers from their second on. */
 enum { GUARD = 8, SECOND = 1 };
@@ -33,6 +34,10 @@ struct room {
     tiligormis_answer answers[1 + ROWS + 1];
     tiligormis_answer answer[3];
     tiligormis_free_pages free_pages[3];
+    uint64_t row[GUARDED(TILIGORMIS_ROW_NUMBERS)];
+    uint8_t log[GUARDED(LOG_ROOM)];
+    uint64_t place[GUARDED(1)];
+    uint64_t taken[GUARDED(1)];
 };
 
 /* The room of a machine at work; the room that calls are made in, like it before each test; what that must be afterwards. */
@@ -96,6 +101,11 @@ uint64_t start(const struct parts *lent);
 uint64_t operation(const struct parts *lent, size_t row_length, size_t answer_numbers);
 uint64_t sequence(const struct parts *lent, size_t rows_length, size_t answers_length);
 uint64_t free_pages(const struct parts *lent, size_t free_numbers);
+uint64_t log_write(size_t row_length, size_t log_length, size_t place_length);
+uint64_t log_read(size_t log_length, size_t place_length, size_t row_length);
+uint64_t replay_with(const struct parts *lent, size_t log_length, size_t place_length, uint64_t most, size_t answers_length,
+                     size_t taken_length);
+uint64_t replay(const struct parts *lent, size_t log_length, uint64_t most, size_t answers_length);
 
 /* ---- What is expected -----------------------------------------------------------------------------------------------------
  */
@@ -114,7 +124,7 @@ tiligormis_machine empty_machine(void);
 /* Start gave this number, and it is this refusal; all but the header is left, and that too where it has not its length. */
 bool start_refused(const struct parts *lent, uint64_t number, uint64_t refusal);
 
-/* Every entry but start refuses with 1 and leaves the room, but for the answer and the free query's result. */
+/* Every entry but start refuses with 1 and leaves the room, but for the answer, the free query's result and what is taken. */
 bool entries_refuse(const struct parts *lent);
 
 /* So does start, all of them from the room of a machine at work. */
@@ -153,6 +163,24 @@ bool all_refuse(const struct parts *lent);
     TEST(empty_slot)                                                                                                           \
     TEST(wrong_cache_unread)                                                                                                   \
     TEST(refusal_unwritten)                                                                                                    \
+    TEST(log_unread_behind)                                                                                                    \
+    TEST(log_lengths)                                                                                                          \
+    TEST(log_example)                                                                                                          \
+    TEST(log_kinds)                                                                                                            \
+    TEST(log_other_numbers)                                                                                                    \
+    TEST(log_short)                                                                                                            \
+    TEST(log_past)                                                                                                             \
+    TEST(log_arguments)                                                                                                        \
+    TEST(log_unknown_kinds)                                                                                                    \
+    TEST(log_cut)                                                                                                              \
+    TEST(log_wrong)                                                                                                            \
+    TEST(log_end)                                                                                                              \
+    TEST(replay_lengths)                                                                                                       \
+    TEST(replay_pieces)                                                                                                        \
+    TEST(replay_most)                                                                                                          \
+    TEST(replay_answers)                                                                                                       \
+    TEST(replay_unreadable)                                                                                                    \
+    TEST(replay_end)                                                                                                           \
     TEST(row_constructors)                                                                                                     \
     TEST(refusal_names)                                                                                                        \
     TEST(entry_fields)                                                                                                         \
@@ -160,6 +188,9 @@ bool all_refuse(const struct parts *lent);
     TEST(box_like_parts)                                                                                                       \
     TEST(box_unit_counts)                                                                                                      \
     TEST(box_row_counts)                                                                                                       \
+    TEST(box_answer_counts)                                                                                                    \
+    TEST(records_written)                                                                                                      \
+    TEST(records_read)                                                                                                         \
     TEST(dma_pages)                                                                                                            \
     TEST(retirement)                                                                                                           \
     TEST(retirement_by_page)

@@ -1,4 +1,4 @@
-/* What the inline functions of the header give: rows, names, fields of an entry, and the entries over a box. */
+/* What the inline functions of the header give: rows, names, fields of an entry, the entries over a box, records. */
 #include "edges.h"
 
 #include <string.h>
@@ -55,11 +55,14 @@ bool refusal_names(void) {
         NAMED(ACCEPTED),        NAMED(STATE_NOT_VALID), NAMED(OUT_OF_RANGE), NAMED(BAD_SPAN),     NAMED(VM_UNKNOWN),
         NAMED(VM_KNOWN),        NAMED(PAGE_NOT_HELD),   NAMED(PAGE_CLAIMED), NAMED(NO_SUCH_UNIT), NAMED(MAPPING_DIFFERS),
         NAMED(MAPPING_PRESENT), NAMED(STILL_IN_USE),    NAMED(PAIR_WRONG),   NAMED(VM_BUSY),      NAMED(NO_ROOM),
-        NAMED(PORT_IDLE),       NAMED(ACCESS_LACKING),
+        NAMED(PORT_IDLE),       NAMED(ACCESS_LACKING),  NAMED(CUT_SHORT),    NAMED(UNKNOWN_KIND), NAMED(WRONG_LENGTH),
+        NAMED(DOES_NOT_FIT),
     };
-    static const uint64_t others[] = {TILIGORMIS_ACCESS_LACKING + 1, (uint64_t)1 << 32, UINT64_MAX};
+    static const uint64_t others[] = {
+        TILIGORMIS_ACCESS_LACKING + 1, 18, TILIGORMIS_CUT_SHORT - 1, TILIGORMIS_DOES_NOT_FIT + 1, (uint64_t)1 << 32, UINT64_MAX,
+    };
     const size_t count = sizeof cases / sizeof *cases;
-    bool good = count == TILIGORMIS_ACCESS_LACKING + 1;
+    bool good = count == TILIGORMIS_ACCESS_LACKING + 1 + 4;
     for (size_t k = 0; k < count; k++) {
         const char *sentence = tiligormis_refusal_sentence(cases[k].number);
         good &= holds(strcmp(tiligormis_refusal_name(cases[k].number), cases[k].name) == 0, cases[k].name, cases[k].number);
@@ -67,7 +70,7 @@ bool refusal_names(void) {
         for (size_t other = 0; other < k; other++)
             good &= holds(strcmp(sentence, tiligormis_refusal_sentence(cases[other].number)) != 0, sentence, cases[k].number);
     }
-    for (size_t k = 0; k < 3; k++) {
+    for (size_t k = 0; k < sizeof others / sizeof *others; k++) {
         good &= holds(strcmp(tiligormis_refusal_name(others[k]), "unknown") == 0, "name of", others[k]);
         good &= holds(strcmp(tiligormis_refusal_sentence(others[k]), "unknown") == 0, "sentence of", others[k]);
     }
@@ -139,6 +142,17 @@ static bool like_parts(const struct room *from) {
     ALIKE("too few answers", sequence(&box, ROWS_LENGTH, TILIGORMIS_ANSWER_NUMBERS),
           tiligormis_box_sequence(&made, rows, ROWS, &room.answers[SECOND], ROWS - 1));
     ALIKE("no rows", sequence(&box, 0, 0), tiligormis_box_sequence(&made, NULL, 0, NULL, 0));
+    ALIKE("replay", replay(&box, ROWS_BYTES, ROWS, ANSWERS_LENGTH),
+          tiligormis_box_replay(&made, room.log + GUARD, ROWS_BYTES, room.place + GUARD, ROWS, &room.answers[SECOND], ROWS,
+                                room.taken + GUARD));
+    ALIKE("replay of one", replay(&box, ROWS_BYTES - 1, 1, TILIGORMIS_ANSWER_NUMBERS),
+          tiligormis_box_replay(&made, room.log + GUARD, ROWS_BYTES - 1, room.place + GUARD, 1, &room.answers[SECOND], 1,
+                                room.taken + GUARD));
+    ALIKE(
+        "replay of a log cut short", replay(&box, ROWS_BYTES - 1, ROWS, 0),
+        tiligormis_box_replay(&made, room.log + GUARD, ROWS_BYTES - 1, room.place + GUARD, ROWS, NULL, 0, room.taken + GUARD));
+    ALIKE("no log", replay(&box, 0, ROWS, 0),
+          tiligormis_box_replay(&made, NULL, 0, room.place + GUARD, ROWS, NULL, 0, room.taken + GUARD));
     ALIKE("valid", tiligormis_valid(LENT(&box)), tiligormis_box_valid(&made));
     ALIKE("free", free_pages(&box, TILIGORMIS_FREE_NUMBERS), tiligormis_box_free(&made, &room.free_pages[SECOND]));
     ALIKE("start", start(&box), tiligormis_box_start(&made, SHARED_BASE, SHARED_COUNT, &room.units[SECOND], UNIT_COUNT));
@@ -194,6 +208,64 @@ bool box_row_counts(void) {
         uint64_t number = tiligormis_box_sequence(&made, &row, (size_t)1 << 61, NULL, 0);
         good &= holds(number == refusal && as_expected(), "rows of 0 words", (size_t)1 << 61);
         room.machine[SECOND].unit_count = TILIGORMIS_UNITS + 1;
+    }
+    return good;
+}
+
+/* A count of answers of which the words wrap is refused likewise, and no record is taken. */
+bool box_answer_counts(void) {
+    static const size_t counts[] = {SIZE_MAX / TILIGORMIS_ANSWER_NUMBERS + 1, (size_t)1 << 63, SIZE_MAX};
+    const tiligormis_box made = boxed();
+    bool good = true;
+    for (uint64_t refusal = TILIGORMIS_OUT_OF_RANGE; refusal != TILIGORMIS_ACCEPTED; refusal--) {
+        for (size_t k = 0; k < 3; k++) {
+            room.taken[GUARD] = 9;
+            expected = room;
+            expected.taken[GUARD] = 0;
+            uint64_t number = tiligormis_box_replay(&made, room.log + GUARD, ROWS_BYTES, room.place + GUARD, ROWS,
+                                                    &room.answers[SECOND], counts[k], room.taken + GUARD);
+            good &= holds(number == refusal && as_expected(), "answers of a replay", counts[k]);
+        }
+        room.machine[SECOND].unit_count = TILIGORMIS_UNITS + 1;
+    }
+    return good;
+}
+
+/* A record of a row is written, or not, as one of numbers is: where it fits and where it lacks a byte, and of no kind. */
+bool records_written(void) {
+    static const uint64_t kinds[] = {TILIGORMIS_CPU_WRITE, TILIGORMIS_KINDS + 1};
+    bool good = true;
+    for (size_t k = 0; k < 4; k++) {
+        const size_t bytes = TILIGORMIS_RECORD_BYTES - k % 2;
+        const tiligormis_row row = {{kinds[k / 2], 1, 2, 3, UINT64_MAX}};
+        room = whole;
+        memcpy(room.row + GUARD, &row, sizeof row);
+        uint64_t number = log_write(TILIGORMIS_ROW_NUMBERS, bytes, 1);
+        expected = room;
+        room = whole;
+        memcpy(room.row + GUARD, &row, sizeof row);
+        bool same = number == tiligormis_write_record(row, room.log + GUARD, bytes, room.place + GUARD);
+        good &= holds(same && as_expected(), "case of writing a record", k);
+    }
+    return good;
+}
+
+/* It is read, or not, as one of numbers is: whole, cut short, and at the end. */
+bool records_read(void) {
+    static const size_t lengths[] = {ROWS_BYTES, ROWS_BYTES - 1, 0};
+    bool good = true;
+    for (size_t k = 0; k < 3; k++) {
+        tiligormis_row row;
+        memcpy(&row, whole.row + GUARD, sizeof row);
+        room = whole;
+        room.place[GUARD] = ROWS_BYTES / 2;
+        uint64_t number = log_read(lengths[k], 1, TILIGORMIS_ROW_NUMBERS);
+        expected = room;
+        room = whole;
+        room.place[GUARD] = ROWS_BYTES / 2;
+        bool same = number == tiligormis_read_record(room.log + GUARD, lengths[k], room.place + GUARD, &row);
+        memcpy(room.row + GUARD, &row, sizeof row);
+        good &= holds(same && as_expected(), "case of reading a record", k);
     }
     return good;
 }

@@ -34,6 +34,30 @@ uint64_t free_pages(const struct parts *lent, size_t free_numbers) {
     return tiligormis_free(LENT(lent), free_numbers == 0 ? NULL : &room.free_pages[SECOND], free_numbers);
 }
 
+uint64_t log_write(size_t row_length, size_t log_length, size_t place_length) {
+    return tiligormis_log_write(row_length == 0 ? NULL : room.row + GUARD, row_length,
+                                log_length == 0 ? NULL : room.log + GUARD, log_length,
+                                place_length == 0 ? NULL : room.place + GUARD, place_length);
+}
+
+uint64_t log_read(size_t log_length, size_t place_length, size_t row_length) {
+    return tiligormis_log_read(log_length == 0 ? NULL : room.log + GUARD, log_length,
+                               place_length == 0 ? NULL : room.place + GUARD, place_length,
+                               row_length == 0 ? NULL : room.row + GUARD, row_length);
+}
+
+uint64_t replay_with(const struct parts *lent, size_t log_length, size_t place_length, uint64_t most, size_t answers_length,
+                     size_t taken_length) {
+    return tiligormis_replay(LENT(lent), log_length == 0 ? NULL : room.log + GUARD, log_length,
+                             place_length == 0 ? NULL : room.place + GUARD, place_length, most,
+                             answers_length == 0 ? NULL : &room.answers[SECOND], answers_length,
+                             taken_length == 0 ? NULL : room.taken + GUARD, taken_length);
+}
+
+uint64_t replay(const struct parts *lent, size_t log_length, uint64_t most, size_t answers_length) {
+    return replay_with(lent, log_length, 1, most, answers_length, 1);
+}
+
 bool make_whole(void) {
     static const tiligormis_unit units[UNIT_COUNT] = {{1, 16, 0, 3, 3, TILIGORMIS_MARK_BOTH},
                                                       {2, 16, 2, 2, 3, TILIGORMIS_MARK_CPU}};
@@ -52,6 +76,7 @@ bool make_whole(void) {
         {TILIGORMIS_DMA_WRITE, 0, 18, TILIGORMIS_PAGE_WORDS - 1, 2222},
     };
     static const uint64_t rows[ROWS][TILIGORMIS_ROW_NUMBERS] = {{TILIGORMIS_ADD_VM, 3}, {TILIGORMIS_ADD_VM, 3}};
+    static const uint8_t log[ROWS_BYTES] = {6, 0, 1, 0, 3, 0, 0, 0, 6, 0, 1, 0, 3, 0, 0, 0};
     memset(&room, 0xa5, sizeof room);
     memcpy(&room.units[SECOND], units, sizeof units);
     uint64_t refused = start(&box);
@@ -62,6 +87,8 @@ bool make_whole(void) {
     memset(&whole, 0xa5, sizeof whole);
     memcpy(&whole.units[SECOND], units, sizeof units);
     memcpy(whole.rows + GUARD, rows, sizeof rows);
+    memcpy(whole.log + GUARD, log, sizeof log);
+    whole.place[GUARD] = 0;
 #define KEPT(part, length) memcpy((char *)&whole + ((char *)box.part - (char *)&room), box.part, sizeof(uint64_t) * box.length);
     PARTS(KEPT)
     return refused == TILIGORMIS_ACCEPTED;
@@ -96,6 +123,8 @@ bool entries_refuse(const struct parts *lent) {
     expected = room;
     bool good = !tiligormis_valid(LENT(lent)) && as_expected();
     good &= sequence(lent, ROWS_LENGTH, ANSWERS_LENGTH) == TILIGORMIS_STATE_NOT_VALID && as_expected();
+    expected.taken[GUARD] = 0;
+    good &= replay(lent, ROWS_BYTES, ROWS, ANSWERS_LENGTH) == TILIGORMIS_STATE_NOT_VALID && as_expected();
     expected.answer[SECOND] = not_valid;
     good &= operation(lent, TILIGORMIS_ROW_NUMBERS, TILIGORMIS_ANSWER_NUMBERS) == TILIGORMIS_STATE_NOT_VALID && as_expected();
     expected.free_pages[SECOND] = (tiligormis_free_pages){0, TILIGORMIS_NO_PAGE};

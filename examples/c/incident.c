@@ -1,7 +1,8 @@
 /*
  * The incident, told to the library from C. A converter was retired, its pages went to the next converter, and the first one's
  * card reader still wrote through a translation that nobody had taken back. Here every step of that is refused or does no harm.
- * Then the stale translation is planted by hand: the library refuses the whole box until it is taken out.
+ * Then the stale translation is planted by hand: the library refuses the whole box until it is taken out. Meanwhile every
+ * operation is logged, and at the end the log is replayed on a second box, as support would with a customer's log.
  */
 #include "tiligormis.h"
 
@@ -24,6 +25,20 @@ static struct lent {
 
 static tiligormis_box box;
 
+/* The operation log: a record for each operation, one behind the other. A firmware would keep it in a ring or in a file. */
+static struct {
+    uint8_t bytes[64 * TILIGORMIS_RECORD_BYTES];
+    uint64_t end;
+    uint64_t records;
+} kept;
+
+/* Logs an operation. What a box that is not valid refused is left out, since the box that it is replayed on is valid. */
+static void keep(tiligormis_row row, uint64_t number) {
+    if (number != TILIGORMIS_STATE_NOT_VALID &&
+        tiligormis_write_record(row, kept.bytes, sizeof kept.bytes, &kept.end) == TILIGORMIS_ACCEPTED)
+        kept.records++;
+}
+
 static void say(const char *what, uint64_t number) {
     printf("  %-*s ", LINE, what);
     if (number != TILIGORMIS_ACCEPTED)
@@ -36,6 +51,7 @@ static void say(const char *what, uint64_t number) {
 static void step(const char *what, tiligormis_row row) {
     tiligormis_answer answer;
     uint64_t number = tiligormis_box_operation(&box, row, &answer);
+    keep(row, number);
     say(what, number);
     if (answer.dropped != 0)
         printf(", cached translations dropped: %" PRIu64, answer.dropped);
@@ -44,9 +60,9 @@ static void step(const char *what, tiligormis_row row) {
     printf("\n");
 }
 
-static void free_pages(void) {
+static void free_pages(const tiligormis_box *which) {
     tiligormis_free_pages pages;
-    uint64_t number = tiligormis_box_free(&box, &pages);
+    uint64_t number = tiligormis_box_free(which, &pages);
     say("how many pages are free?", number);
     if (number == TILIGORMIS_ACCEPTED)
         printf(", %" PRIu64 " are, the lowest is %" PRIu64, pages.count, pages.lowest);
@@ -63,13 +79,13 @@ static void reader_slot(void) {
         printf("slot %zu, onto page %" PRIu32 "\n", place, tiligormis_entry_page(box.dma_cache[place].entry));
 }
 
-static void start(void) {
+static void start(const tiligormis_box *which) {
     static const tiligormis_unit units[] = {
         {A, GUEST_OF_A, PAGE, COUNT, ACCESS, TILIGORMIS_MARK_BOTH},
         {B, GUEST_OF_B, PAGE, COUNT, ACCESS, TILIGORMIS_MARK_BOTH},
     };
     say("start, with two converters planned onto the same four pages",
-        tiligormis_box_start(&box, SHARED_PAGE, SHARED_PAGES, units, sizeof units / sizeof *units));
+        tiligormis_box_start(which, SHARED_PAGE, SHARED_PAGES, units, sizeof units / sizeof *units));
     printf("\n");
 }
 
@@ -90,7 +106,7 @@ static void retired_badly(void) {
     printf("A retired badly: its region is taken from CPUs, its card reader forgotten\n");
     step("A is removed", tiligormis_row_remove_vm(A));
     step("its region is taken from CPUs", tiligormis_row_remove_region(A, GUEST_OF_A, PAGE, COUNT, ACCESS));
-    free_pages();
+    free_pages(&box);
     step("the reader writes 2222, which harms nobody yet", tiligormis_row_dma_write(READER_OF_A, GUEST_OF_A, WORD, 2222));
     step("converter B is added", tiligormis_row_add_vm(B));
     step("B asks for the pages", tiligormis_row_insert_region(B, GUEST_OF_B, PAGE, COUNT, ACCESS));
@@ -109,7 +125,7 @@ static void retired_properly(void) {
     step("B reads its lens name", tiligormis_row_cpu_read(CPU_OF_B, GUEST_OF_B, WORD));
 }
 
-static void valid(void) { printf("  %-*s %s\n", LINE, "is the box valid?", tiligormis_box_valid(&box) ? "yes" : "no"); }
+static void ask(const char *question, bool yes) { printf("  %-*s %s\n", LINE, question, yes ? "yes" : "no"); }
 
 /* Writes into the cache behind the library's back, as a fault would. */
 static void planted(void) {
@@ -120,16 +136,16 @@ static void planted(void) {
         tiligormis_fill_slot(box.dma_cache, TILIGORMIS_SLOTS, place, READER_OF_A, A, GUEST_OF_A, PAGE, ACCESS, GENERATION));
     printf("\n");
     reader_slot();
-    valid();
+    ask("is the box valid?", tiligormis_box_valid(&box));
     before = lent;
     step("the reader writes 6666", tiligormis_row_dma_write(READER_OF_A, GUEST_OF_A, WORD, 6666));
     step("B reads its lens name", tiligormis_row_cpu_read(CPU_OF_B, GUEST_OF_B, WORD));
-    free_pages();
-    printf("  %-*s %s\n", LINE, "is every byte of the box as it was?", memcmp(&before, &lent, sizeof lent) == 0 ? "yes" : "no");
+    free_pages(&box);
+    ask("is every byte of the box as it was?", memcmp(&before, &lent, sizeof lent) == 0);
     say("the slot is emptied", tiligormis_empty_slot(box.dma_cache, TILIGORMIS_SLOTS, place));
     printf("\n");
     reader_slot();
-    valid();
+    ask("is the box valid?", tiligormis_box_valid(&box));
     step("the reader writes 7777", tiligormis_row_dma_write(READER_OF_A, GUEST_OF_A, WORD, 7777));
     step("B reads its lens name", tiligormis_row_cpu_read(CPU_OF_B, GUEST_OF_B, WORD));
 }
@@ -145,14 +161,29 @@ static void gone(void) {
     step("B reads its lens name", tiligormis_row_cpu_read(CPU_OF_B, GUEST_OF_B, WORD));
 }
 
+/* A second box, started as the first was, takes the log. It ends where the first one is. */
+static void replayed(void) {
+    static struct lent other;
+    const tiligormis_box second = tiligormis_box_of(&other.machine, &other.tables, other.memory, PAGES);
+    uint64_t place = 0, taken;
+    printf("The log replayed on a second machine\n");
+    printf("  %-*s %" PRIu64 ", in %" PRIu64 " bytes\n", LINE, "how many records has the log?", kept.records, kept.end);
+    start(&second);
+    say("the log is replayed", tiligormis_box_replay(&second, kept.bytes, kept.end, &place, kept.records, NULL, 0, &taken));
+    printf(", records carried out: %" PRIu64 "\n", taken);
+    free_pages(&second);
+    ask("is every byte of the second box as in the first?", memcmp(&other, &lent, sizeof lent) == 0);
+}
+
 int main(void) {
     box = tiligormis_box_of(&lent.machine, &lent.tables, lent.memory, PAGES);
     printf("The machine\n");
-    start();
+    start(&box);
     at_work();
     retired_badly();
     retired_properly();
     planted();
     gone();
+    replayed();
     return 0;
 }

@@ -70,6 +70,10 @@ extern "C" {
     fn nothing_here_panics() -> !;
 }
 
+/// Some linkers want it found, though nothing unwinds where a panic aborts.
+#[no_mangle]
+extern "C" fn rust_eh_personality() {}
+
 #[panic_handler]
 fn panic(_: &core::panic::PanicInfo) -> ! {
     // SAFETY: it is never called, as it is not there.

@@ -1,7 +1,8 @@
 //! The incident, told to the library from Rust. A converter was retired, its pages went to the next
 //! converter, and the first one's card reader still wrote through a translation that nobody had
 //! taken back. Here every step of that is refused or does no harm. Then the stale translation is
-//! planted by hand: the library refuses the whole box until it is taken out.
+//! planted by hand: the library refuses the whole box until it is taken out. Meanwhile every operation
+//! is logged, and at the end the log is replayed on a second box, as support would with a customer's.
 
 use tiligormis::*;
 
@@ -24,6 +25,31 @@ const ACCESS: u64 = READ | WRITE;
 const WORD: u64 = 0;
 const LINE: usize = 60;
 
+/// A box, and the operation log that is kept of it: a record for each operation, one behind the other.
+/// A firmware would keep it in a ring or in a file.
+struct Ingest {
+    machine: Owned,
+    log: Vec<u8>,
+    records: usize,
+}
+
+impl Ingest {
+    /// Carries out an operation and logs it. What a box that is not valid refused is left out, since
+    /// the box that it is replayed on is valid.
+    fn operation(&mut self, row: Row) -> Result<Answer, Refusal> {
+        let result = self.machine.lent().operation(row).accepted().map_err(Refusal::from);
+        if result != Err(Refusal::StateNotValid) {
+            let mut record = [0; RECORD_BYTES];
+            let mut writer = LogWriter::new(&mut record);
+            if writer.write(&row).is_ok() {
+                self.log.extend(writer.written());
+                self.records += 1;
+            }
+        }
+        result
+    }
+}
+
 /// What a refusal means, without the details that follow its colon.
 fn meaning(refusal: Refusal) -> String {
     refusal.to_string().split(':').next().unwrap_or_default().to_string()
@@ -34,8 +60,8 @@ fn say(what: &str, answer: &str) {
 }
 
 /// Says that something was accepted, and what it gave, or why it was refused.
-fn done<T>(what: &str, result: Result<T, impl Into<Refusal>>, gave: impl Fn(T) -> String) {
-    let answer = match result.map_err(Into::into) {
+fn done<T>(what: &str, result: Result<T, Refusal>, gave: impl Fn(T) -> String) {
+    let answer = match result {
         Ok(given) => format!("accepted{}", gave(given)),
         Err(refusal) => format!("refused with {}, {}", refusal.number(), meaning(refusal)),
     };
@@ -46,41 +72,38 @@ fn nothing(_: ()) -> String {
     String::new()
 }
 
-fn dropped(slots: u64) -> String {
-    match slots {
+fn step(ingest: &mut Ingest, what: &str, row: Row) {
+    done(what, ingest.operation(row), |answer| match answer.dropped {
+        _ if row[0] == CPU_READ => format!(", the word is {}", answer.word),
         0 => String::new(),
-        _ => format!(", cached translations dropped: {slots}"),
-    }
+        dropped => format!(", cached translations dropped: {dropped}"),
+    });
 }
 
-fn word(word: u64) -> String {
-    format!(", the word is {word}")
+fn reader_writes(ingest: &mut Ingest, what: &str, value: u64) {
+    step(ingest, what, rows::dma_write(READER_OF_A, GUEST_OF_A, WORD, value));
 }
 
-fn reader_writes(ingest: &mut Owned, what: &str, value: u64) {
-    done(what, ingest.lent().dma_write(READER_OF_A, GUEST_OF_A, WORD, value), nothing);
+fn b_reads(ingest: &mut Ingest, what: &str) {
+    step(ingest, what, rows::cpu_read(CPU_OF_B, GUEST_OF_B, WORD));
 }
 
-fn b_reads(ingest: &mut Owned, what: &str) {
-    done(what, ingest.lent().cpu_read(CPU_OF_B, GUEST_OF_B, WORD), word);
+fn b_asks(ingest: &mut Ingest) {
+    let row = rows::insert_region(B, GUEST_OF_B, PAGE, COUNT, ACCESS);
+    step(ingest, "B asks for the pages", row);
 }
 
-fn b_asks(ingest: &mut Owned) {
-    let result = ingest.lent().insert_region(B, GUEST_OF_B, PAGE, COUNT, ACCESS);
-    done("B asks for the pages", result, nothing);
-}
-
-fn free_pages(ingest: &Owned) {
-    done("how many pages are free?", ingest.shared().free(), |pages| match pages.lowest() {
+fn free_pages(machine: &Owned) {
+    done("how many pages are free?", machine.shared().free(), |pages| match pages.lowest() {
         None => ", none is".to_string(),
         Some(page) => format!(", {} are, the lowest is {page}", pages.count),
     });
 }
 
 /// Where the reader's translation of A's first guest page is cached, and the page that it goes to.
-fn reader_slot(ingest: &Owned) {
-    let place = find_slot(&ingest.dma_cache, READER_OF_A, A, GUEST_OF_A);
-    let held = place.and_then(|place| Some((place, ingest.dma_cache[place].translation()?)));
+fn reader_slot(machine: &Owned) {
+    let place = find_slot(&machine.dma_cache, READER_OF_A, A, GUEST_OF_A);
+    let held = place.and_then(|place| Some((place, machine.dma_cache[place].translation()?)));
     let text = match held {
         None => "none".to_string(),
         Some((place, held)) => format!("slot {place}, onto page {}", held.page),
@@ -88,16 +111,11 @@ fn reader_slot(ingest: &Owned) {
     say("which slot holds the reader's translation?", &text);
 }
 
-fn yes(answer: bool) -> &'static str {
-    if answer {
-        "yes"
-    } else {
-        "no"
-    }
+fn ask(question: &str, yes: bool) {
+    say(question, if yes { "yes" } else { "no" });
 }
 
 fn start() -> Owned {
-    println!("The machine");
     let units = [(A, GUEST_OF_A), (B, GUEST_OF_B)].map(|(vm, guest)| Unit {
         vm,
         guest,
@@ -106,56 +124,55 @@ fn start() -> Owned {
         access: ACCESS,
         mark: MARK_BOTH,
     });
-    let mut ingest = Owned::new(PAGES_HERE);
-    let result = ingest.lent().start(PAGES_HERE as u64, SHARED_PAGE, SHARED_PAGES, &units);
+    let mut machine = Owned::new(PAGES_HERE);
+    let result = machine.lent().start(PAGES_HERE as u64, SHARED_PAGE, SHARED_PAGES, &units);
     done("start, with two converters planned onto the same four pages", result, nothing);
-    ingest
+    machine
 }
 
-fn at_work(ingest: &mut Owned) {
+fn at_work(ingest: &mut Ingest) {
     println!("Converter A at work");
-    let mut machine = ingest.lent();
-    done("A is added", machine.add_vm(A), nothing);
-    let inserted = machine.insert_region(A, GUEST_OF_A, PAGE, COUNT, ACCESS);
-    done("its region goes in for CPUs", inserted, nothing);
-    let inserted = machine.dma_insert_region(A, GUEST_OF_A, PAGE, COUNT, ACCESS);
-    done("and for devices", inserted, nothing);
-    done("A runs on a CPU", machine.switch_cpu(CPU_OF_A, Some(A)), nothing);
-    done("its card reader is bound to it", machine.bind_device(READER_OF_A, Some(A)), nothing);
-    done("the reader caches a translation", machine.dma_fill(READER_OF_A, GUEST_OF_A), nothing);
-    reader_slot(ingest);
+    step(ingest, "A is added", rows::add_vm(A));
+    let inserted = rows::insert_region(A, GUEST_OF_A, PAGE, COUNT, ACCESS);
+    step(ingest, "its region goes in for CPUs", inserted);
+    let inserted = rows::dma_insert_region(A, GUEST_OF_A, PAGE, COUNT, ACCESS);
+    step(ingest, "and for devices", inserted);
+    step(ingest, "A runs on a CPU", rows::switch_cpu(CPU_OF_A, Some(A)));
+    step(ingest, "its card reader is bound to it", rows::bind_device(READER_OF_A, Some(A)));
+    step(ingest, "the reader caches a translation", rows::dma_fill(READER_OF_A, GUEST_OF_A));
+    reader_slot(&ingest.machine);
     reader_writes(ingest, "the reader writes a lens name, 1111", 1111);
-    done("A reads it", ingest.lent().cpu_read(CPU_OF_A, GUEST_OF_A, WORD), word);
+    step(ingest, "A reads it", rows::cpu_read(CPU_OF_A, GUEST_OF_A, WORD));
 }
 
-fn retired_badly(ingest: &mut Owned) {
+fn retired_badly(ingest: &mut Ingest) {
     println!("A retired badly: its region is taken from CPUs, its card reader forgotten");
-    done("A is removed", ingest.lent().remove_vm(A), nothing);
-    let removed = ingest.lent().remove_region(A, GUEST_OF_A, PAGE, COUNT, ACCESS);
-    done("its region is taken from CPUs", removed, dropped);
-    free_pages(ingest);
+    step(ingest, "A is removed", rows::remove_vm(A));
+    let removed = rows::remove_region(A, GUEST_OF_A, PAGE, COUNT, ACCESS);
+    step(ingest, "its region is taken from CPUs", removed);
+    free_pages(&ingest.machine);
     reader_writes(ingest, "the reader writes 2222, which harms nobody yet", 2222);
-    done("converter B is added", ingest.lent().add_vm(B), nothing);
+    step(ingest, "converter B is added", rows::add_vm(B));
     b_asks(ingest);
 }
 
-fn retired_properly(ingest: &mut Owned) {
+fn retired_properly(ingest: &mut Ingest) {
     println!("A retired properly, and its pages given to B");
-    let removed = ingest.lent().dma_remove_region(A, GUEST_OF_A, PAGE, COUNT, ACCESS);
-    done("A's region is taken from devices too", removed, dropped);
-    reader_slot(ingest);
+    let removed = rows::dma_remove_region(A, GUEST_OF_A, PAGE, COUNT, ACCESS);
+    step(ingest, "A's region is taken from devices too", removed);
+    reader_slot(&ingest.machine);
     reader_writes(ingest, "the reader writes 3333", 3333);
     b_asks(ingest);
-    done("B runs on a CPU", ingest.lent().switch_cpu(CPU_OF_B, Some(B)), nothing);
+    step(ingest, "B runs on a CPU", rows::switch_cpu(CPU_OF_B, Some(B)));
     b_reads(ingest, "B reads the word where A's lens name was");
-    let written = ingest.lent().cpu_write(CPU_OF_B, GUEST_OF_B, WORD, 4444);
-    done("B writes a lens name of its own, 4444", written, nothing);
+    let written = rows::cpu_write(CPU_OF_B, GUEST_OF_B, WORD, 4444);
+    step(ingest, "B writes a lens name of its own, 4444", written);
     reader_writes(ingest, "the reader writes 5555", 5555);
     b_reads(ingest, "B reads its lens name");
 }
 
 /// Writes into the cache behind the library's back, as a fault would.
-fn planted(ingest: &mut Owned) {
+fn planted(ingest: &mut Ingest) {
     println!("The stale translation planted by hand");
     let place = 0;
     let stale = Translation {
@@ -166,38 +183,54 @@ fn planted(ingest: &mut Owned) {
         access: ACCESS,
         generation: 0,
     };
-    let filled = fill_slot(&mut ingest.dma_cache, place, stale);
+    let filled = fill_slot(&mut ingest.machine.dma_cache, place, stale);
     done("a slot is filled as it was when A was at work", filled, nothing);
-    reader_slot(ingest);
-    say("is the box valid?", yes(ingest.shared().valid()));
-    let before = ingest.clone();
+    reader_slot(&ingest.machine);
+    ask("is the box valid?", ingest.machine.shared().valid());
+    let before = ingest.machine.clone();
     reader_writes(ingest, "the reader writes 6666", 6666);
     b_reads(ingest, "B reads its lens name");
-    free_pages(ingest);
-    say("is every byte of the box as it was?", yes(*ingest == before));
-    done("the slot is emptied", empty_slot(&mut ingest.dma_cache, place), nothing);
-    reader_slot(ingest);
-    say("is the box valid?", yes(ingest.shared().valid()));
+    free_pages(&ingest.machine);
+    ask("is every byte of the box as it was?", ingest.machine == before);
+    done("the slot is emptied", empty_slot(&mut ingest.machine.dma_cache, place), nothing);
+    reader_slot(&ingest.machine);
+    ask("is the box valid?", ingest.machine.shared().valid());
     reader_writes(ingest, "the reader writes 7777", 7777);
     b_reads(ingest, "B reads its lens name");
 }
 
-fn gone(ingest: &mut Owned) {
+fn gone(ingest: &mut Ingest) {
     println!("A gone");
-    done("A is removed", ingest.lent().remove_vm(A), nothing);
-    done("its CPU becomes idle", ingest.lent().switch_cpu(CPU_OF_A, None), nothing);
-    done("its reader is bound to nobody", ingest.lent().bind_device(READER_OF_A, None), nothing);
-    done("A is removed", ingest.lent().remove_vm(A), nothing);
+    step(ingest, "A is removed", rows::remove_vm(A));
+    step(ingest, "its CPU becomes idle", rows::switch_cpu(CPU_OF_A, None));
+    step(ingest, "its reader is bound to nobody", rows::bind_device(READER_OF_A, None));
+    step(ingest, "A is removed", rows::remove_vm(A));
     reader_writes(ingest, "the reader writes 8888", 8888);
-    done("the reader is bound to A", ingest.lent().bind_device(READER_OF_A, Some(A)), nothing);
+    step(ingest, "the reader is bound to A", rows::bind_device(READER_OF_A, Some(A)));
     b_reads(ingest, "B reads its lens name");
 }
 
+/// A second box, started as the first was, takes the log. It ends where the first one is.
+fn replayed(ingest: &Ingest) {
+    println!("The log replayed on a second machine");
+    let size = format!("{}, in {} bytes", ingest.records, ingest.log.len());
+    say("how many records has the log?", &size);
+    let mut second = start();
+    let result = second.lent().replay(&ingest.log, 0, ingest.records, &mut []);
+    done("the log is replayed", result, |replayed| {
+        format!(", records carried out: {}", replayed.taken)
+    });
+    free_pages(&second);
+    ask("is every byte of the second box as in the first?", second == ingest.machine);
+}
+
 fn main() {
-    let mut ingest = start();
+    println!("The machine");
+    let mut ingest = Ingest { machine: start(), log: Vec::new(), records: 0 };
     at_work(&mut ingest);
     retired_badly(&mut ingest);
     retired_properly(&mut ingest);
     planted(&mut ingest);
     gone(&mut ingest);
+    replayed(&ingest);
 }

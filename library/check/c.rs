@@ -17,8 +17,9 @@ pub struct Header {
     pub side: Side,
     /// The macros of the version, which no other side names as numbers.
     pub versions: Numbers,
-    /// The refusals' names, numbers and comments.
+    /// The refusals' names, numbers and comments; those of the machine, and those of a log.
     pub refusals: Vec<(String, u64, String)>,
+    pub log_refusals: Vec<(String, u64, String)>,
     pub operations: Vec<Operation>,
     /// The arrays that `TILIGORMIS_LENT` hands on, each with its length, without `TILIGORMIS_`.
     pub lent: Vec<(String, String)>,
@@ -38,8 +39,9 @@ pub fn read(text: &str) -> Header {
         side.numbers.into_iter().partition(|(name, _)| name.starts_with("VERSION"));
     side.numbers = numbers;
     let refusals = enumerated(text, "tiligormis_refusal");
+    let log_refusals = enumerated(text, "tiligormis_log_refusal");
     let operations = enumerated(text, "tiligormis_operation_number");
-    for (name, value, _) in refusals.iter().chain(&operations) {
+    for (name, value, _) in refusals.iter().chain(&log_refusals).chain(&operations) {
         side.numbers.insert(name.clone(), *value);
     }
     structs(&code, &mut side);
@@ -48,6 +50,7 @@ pub fn read(text: &str) -> Header {
         side,
         versions,
         refusals,
+        log_refusals,
         operations: operations
             .into_iter()
             .map(|(name, number, said)| Operation { number, name, arguments: first_words(&said) })

@@ -62,6 +62,7 @@ pub fn compare(sides: &Sides) -> Report {
     refusals(sides, &mut report);
     marks(sides, &mut report);
     operations(sides, &mut report);
+    records(sides, &mut report);
     structs(sides, &mut report);
     places(sides, &mut report);
     lent(sides, &mut report);
@@ -168,14 +169,15 @@ fn crossing(function: &Function, side: &Side) -> Function {
 
 /// Every number of the header in Rust, and every limit in the source. Refusals, marks and
 /// operations are no constants there; of the access bits the machine knows two, and the third is
-/// what is left of the accesses.
+/// what is left of the accesses; the longest record is a head and as many fields as there can be.
 fn numbers(sides: &Sides, report: &mut Report) {
     let (c, rust, source) =
         (&sides.header.side.numbers, &sides.rust.numbers, &sides.source.side.numbers);
     for name in c.keys().chain(rust.keys()).collect::<BTreeSet<_>>() {
         report.same(name, (HEADER, c.get(name)), (RUST, rust.get(name)));
     }
-    let other: BTreeSet<&String> = sides.header.refusals.iter().map(|(name, ..)| name).collect();
+    let refusals = sides.header.refusals.iter().chain(&sides.header.log_refusals);
+    let other: BTreeSet<&String> = refusals.map(|(name, ..)| name).collect();
     let operations: BTreeSet<&String> =
         sides.header.operations.iter().map(|operation| &operation.name).collect();
     for (name, value) in c {
@@ -187,6 +189,9 @@ fn numbers(sides: &Sides, report: &mut Report) {
                 None
             };
             report.same(name, (HEADER, Some(*value)), ("crates/", left));
+        } else if name == "RECORD_BYTES" {
+            let longest = evaluated("HEAD_BYTES + FIELDS * FIELD_BYTES", source);
+            report.same(name, (HEADER, Some(*value)), ("crates/log", longest));
         } else if !other.contains(name) && !operations.contains(name) && !name.starts_with("MARK_")
         {
             report.same(name, (HEADER, Some(value)), ("crates/", source.get(name)));
@@ -194,33 +199,39 @@ fn numbers(sides: &Sides, report: &mut Report) {
     }
 }
 
-/// The refusals by their numbers: the header's enum, the order of the source's, and the number that
-/// it gives each.
+/// The refusals of the machine, and those of a log.
 fn refusals(sides: &Sides, report: &mut Report) {
-    let said: BTreeMap<u64, &String> =
-        sides.header.refusals.iter().map(|(name, value, _)| (*value, name)).collect();
     let accepted = sides.header.side.numbers.get("ACCEPTED").copied();
     report.same("ACCEPTED", (HEADER, accepted), ("answer_numbers", sides.source.accepted));
-    let count = sides.source.refusals.len();
-    report.same(
-        "refusals",
-        (HEADER, Some(sides.header.refusals.len())),
-        ("crates/numbers", Some(count + 1)),
-    );
-    for (at, case) in sides.source.refusals.iter().enumerate() {
-        let number = at as u64 + 1;
+    let (said, source) = (&sides.header, &sides.source);
+    let of_machine = said.refusals.get(1..).unwrap_or(&[]);
+    listed("refusals", of_machine, &source.refusals, &source.refusal_numbers, report);
+    let numbers = &source.log_refusal_numbers;
+    listed("log refusals", &said.log_refusals, &source.log_refusals, numbers, report);
+}
+
+/// Refusals by their numbers: the header's enum, from its first on, the order of the source's, and
+/// the number that this gives each.
+fn listed(
+    what: &str,
+    header: &[(String, u64, String)],
+    cases: &[String],
+    numbers: &BTreeMap<String, u64>,
+    report: &mut Report,
+) {
+    report.same(what, (HEADER, Some(header.len())), ("crates/", Some(cases.len())));
+    let said: BTreeMap<u64, &String> =
+        header.iter().map(|(name, value, _)| (*value, name)).collect();
+    let first = header.first().map_or(0, |(_, value, _)| *value);
+    for (number, case) in (first..).zip(cases) {
         let name = words(case).join("_").to_uppercase();
         report.same(
             &format!("refusal {number}"),
             (HEADER, said.get(&number).copied()),
-            ("crates/numbers", Some(&name)),
+            ("crates/", Some(&name)),
         );
-        let given = sides.source.refusal_numbers.get(case).copied();
-        report.same(
-            &name,
-            (HEADER, sides.header.side.numbers.get(&name).copied()),
-            ("refusal_number", given),
-        );
+        let value = header.iter().find(|(other, ..)| *other == name).map(|(_, value, _)| *value);
+        report.same(&name, (HEADER, value), ("its number", numbers.get(case).copied()));
     }
 }
 
@@ -270,6 +281,34 @@ fn operations(sides: &Sides, report: &mut Report) {
             }
         });
         report.same(&format!("operation {number}"), (HEADER, name), ("docs/MACHINE.md", told));
+    }
+}
+
+/// The kinds of record are the operations' numbers, and the body of each has four bytes for every
+/// argument, eight for a value.
+fn records(sides: &Sides, report: &mut Report) {
+    let operations = &sides.header.operations;
+    let kinds = sides.header.side.numbers.get("KINDS").copied();
+    let last = operations.iter().map(|operation| operation.number).max();
+    report.same("KINDS", (HEADER, kinds), ("the enum", last));
+    for operation in operations {
+        let fields = operation.arguments.iter().map(|name| if name == "value" { 8 } else { 4 });
+        let at = operation.number.checked_sub(1).map(|at| at as usize);
+        let body = at.and_then(|at| sides.source.bodies.get(at).copied());
+        report.same(
+            &format!("operation {}, body", operation.number),
+            (HEADER, Some(fields.sum())),
+            ("crates/log", body),
+        );
+    }
+    for name in ["CPU_WRITE", "DMA_WRITE"] {
+        let header = sides.header.side.numbers.get(name);
+        let source = sides.source.side.numbers.get(name);
+        report.same(
+            &format!("{name}, which has a value"),
+            (HEADER, header),
+            ("crates/log", source),
+        );
     }
 }
 

@@ -12,6 +12,7 @@ pub fn compare(sides: &Sides, report: &mut Report) {
     rows(sides, report);
     blocks(sides, report);
     entries(sides, report);
+    records(sides, report);
     fields(sides, report);
     version(sides, report);
 }
@@ -33,6 +34,7 @@ fn every_function(sides: &Sides, report: &mut Report) {
     let operations = &sides.header.operations;
     let mut known: Vec<String> = ["refusal_name", "refusal_sentence", "box_of"]
         .iter()
+        .chain(RECORDS.iter().map(|(short, _)| short))
         .map(|name| name.to_string())
         .chain(FIELDS.iter().map(|(field, ..)| format!("entry_{field}")))
         .chain(entry_names(sides).iter().map(|name| format!("box_{name}")))
@@ -63,30 +65,29 @@ fn made(sides: &Sides, report: &mut Report) {
     );
 }
 
-/// The names are the constants', and the sentences are the comments beside them.
+/// The names are the constants', and the sentences are the comments beside them; a number that is
+/// no refusal's has "unknown" for both.
 fn refusals(sides: &Sides, report: &mut Report) {
     let texts = |name: &str| sides.header.inlines.get(name).map_or(vec![], Inline::texts);
     let names = texts("tiligormis_refusal_name");
     let sentences = texts("tiligormis_refusal_sentence");
-    let count = sides.header.refusals.len();
-    report.same("names of refusals", (HEADER, Some(names.len())), ("the enum", Some(count)));
-    report.same(
-        "sentences of refusals",
-        (HEADER, Some(sentences.len())),
-        ("the enum", Some(count)),
-    );
-    for (name, number, said) in &sides.header.refusals {
-        let at = *number as usize;
-        let constant = format!("TILIGORMIS_{name}");
+    let all = || sides.header.refusals.iter().chain(&sides.header.log_refusals);
+    let count = all().map(|(_, number, _)| *number as usize + 1).max();
+    report.same("names of refusals", (HEADER, Some(names.len())), ("the enums", count));
+    report.same("sentences of refusals", (HEADER, Some(sentences.len())), ("the enums", count));
+    for at in 0..count.unwrap_or(0) {
+        let listed = all().find(|(_, number, _)| *number as usize == at);
+        let name = listed.map_or("unknown".to_string(), |(name, ..)| format!("TILIGORMIS_{name}"));
+        let said = listed.map_or("unknown", |(_, _, said)| said).to_string();
         report.same(
-            &format!("name of refusal {number}"),
-            ("the enum", Some(&constant)),
-            ("tiligormis_refusal_name", names.get(at)),
+            &format!("name of refusal {at}"),
+            ("the enums", Some(name)),
+            ("tiligormis_refusal_name", names.get(at).cloned()),
         );
         report.same(
-            &format!("sentence of refusal {number}"),
-            ("the enum", Some(said).filter(|said| !said.is_empty())),
-            ("tiligormis_refusal_sentence", sentences.get(at)),
+            &format!("sentence of refusal {at}"),
+            ("the enums", Some(said).filter(|said| !said.is_empty())),
+            ("tiligormis_refusal_sentence", sentences.get(at).cloned()),
         );
     }
 }
@@ -167,12 +168,45 @@ fn entries(sides: &Sides, report: &mut Report) {
             if parameter.kind != Kind::Value("usize".to_string()) {
                 continue;
             }
-            let one = parameter.name.split('_').next().unwrap_or("").trim_end_matches('s');
             let words = given.as_ref().and_then(|given| given.get(at + 1)?.split(' ').next());
             report.same(
                 &format!("{short}, {}", parameter.name),
                 (HEADER, words.map(String::from)),
-                (&long, Some(format!("TILIGORMIS_{}_NUMBERS", one.to_uppercase()))),
+                (&long, Some(length_of(&parameter.name))),
+            );
+        }
+    }
+}
+
+/// What is handed on as a length: of a log the bytes that it has, of a place and of a count one
+/// number, of anything else the numbers of one of its things.
+fn length_of(parameter: &str) -> String {
+    match parameter.split('_').next().unwrap_or("") {
+        "log" => "log_bytes".to_string(),
+        "place" | "taken" => "1".to_string(),
+        things => format!("TILIGORMIS_{}_NUMBERS", things.trim_end_matches('s').to_uppercase()),
+    }
+}
+
+/// The functions over a record, and those over numbers that they call.
+const RECORDS: [(&str, &str); 2] = [("read_record", "log_read"), ("write_record", "log_write")];
+
+/// A function over a record hands on all that it is given, in order, and every length.
+fn records(sides: &Sides, report: &mut Report) {
+    for (short, long) in RECORDS {
+        let (short, long) = (format!("tiligormis_{short}"), format!("tiligormis_{long}"));
+        let given = sides.header.inlines.get(&short).and_then(|inline| inline.call(&long));
+        let asked = sides.header.side.functions.get(&long).map(|long| &long.parameters[..]);
+        for (at, parameter) in asked.unwrap_or(&[]).iter().enumerate() {
+            let words = given.as_ref().and_then(|given| given.get(at)?.split(' ').next());
+            let expected = match parameter.kind {
+                Kind::Pointer { .. } => parameter.name.clone(),
+                Kind::Value(_) => length_of(&parameter.name),
+            };
+            report.same(
+                &format!("{short}, {}", parameter.name),
+                (HEADER, words.map(String::from)),
+                (&long, Some(expected)),
             );
         }
     }

@@ -40,6 +40,19 @@ const PLANTED: &[(Where, &str, &str, &str)] = &[
         "fn tiligormis_start(",
         "tiligormis_start",
     ),
+    (
+        Header,
+        "uint64_t tiligormis_log_write(",
+        "uint64_t tiligormis_write_log(",
+        "tiligormis_log_write",
+    ),
+    (Ffi, "mut tiligormis_replay(", "mut tiligormis_repeat(", "tiligormis_replay"),
+    (
+        Crate("journal"),
+        "extern \"C\" fn tiligormis_log_read(",
+        "fn tiligormis_log_read(",
+        "tiligormis_log_read",
+    ),
     // parameters: const or mutable, width, pointer, name, order, number
     (
         Header,
@@ -117,6 +130,35 @@ const PLANTED: &[(Where, &str, &str, &str)] = &[
         "slots: &[Slot], port: usize",
         "tiligormis_find_slot, parameter 3",
     ),
+    (
+        Header,
+        "uint8_t *log, size_t log_length, uint64_t *place,\n                              size_t",
+        "uint64_t *log, size_t log_length, uint64_t *place,\n                              size_t",
+        "tiligormis_log_write, parameter 3",
+    ),
+    (
+        Header,
+        "const uint8_t *log, size_t log_length",
+        "uint8_t *log, size_t log_length",
+        "tiligormis_replay, parameter 21",
+    ),
+    (
+        Header,
+        "uint64_t most, tiligormis_answer *answers, size_t answers_numbers",
+        "tiligormis_answer *answers, size_t answers_numbers, uint64_t most",
+        "tiligormis_replay, parameter 25",
+    ),
+    (
+        Header,
+        "uint64_t *taken,\n                           size_t taken_length);",
+        "uint64_t *taken);",
+        "tiligormis_replay, parameter 29",
+    ),
+    (Ffi, "log: *mut u8", "log: *mut u64", "tiligormis_log_write, parameter 3"),
+    (Ffi, "row: *mut u64", "row: *const u64", "tiligormis_log_read, parameter 5"),
+    (Crate("journal"), "log: &mut [u8]", "log: &[u8]", "tiligormis_log_write, parameter 3"),
+    (Crate("journal"), "log: &[u8]", "log: &[u64]", "tiligormis_log_read, parameter 1"),
+    (Crate("journal"), "most: u64", "most: usize", "tiligormis_replay, parameter 25"),
     // results
     (Header, "bool tiligormis_valid(", "uint64_t tiligormis_valid(", "tiligormis_valid, result"),
     (
@@ -144,6 +186,10 @@ const PLANTED: &[(Where, &str, &str, &str)] = &[
         "const NO_PAGE: u64 = 0",
         "NO_PAGE",
     ),
+    (Header, "TILIGORMIS_KINDS 26", "TILIGORMIS_KINDS 27", "KINDS"),
+    (Header, "TILIGORMIS_RECORD_BYTES 24", "TILIGORMIS_RECORD_BYTES 20", "RECORD_BYTES"),
+    (Numbers, "RECORD_BYTES: usize = ", "RECORD_BYTES: usize = 1 + ", "RECORD_BYTES"),
+    (Crate("log"), "const FIELDS: usize = ", "const FIELDS: usize = 1 + ", "RECORD_BYTES"),
     // refusals and marks
     (Header, "TILIGORMIS_VM_KNOWN = 5", "TILIGORMIS_VM_KNOWN = 4", "VM_KNOWN"),
     (Numbers, "PORT_IDLE: u64 = ", "PORT_IDLE: u64 = 1 + ", "PORT_IDLE"),
@@ -152,6 +198,16 @@ const PLANTED: &[(Where, &str, &str, &str)] = &[
     (Crate("numbers"), "    AccessLacking,\n", "", "refusals"),
     (Crate("numbers"), "word } => [0,", "word } => [1,", "ACCEPTED"),
     (Crate("units"), "Mark::Both => 3", "Mark::Both => 4", "MARK_BOTH"),
+    (Header, "TILIGORMIS_CUT_SHORT = 20", "TILIGORMIS_CUT_SHORT = 19", "CUT_SHORT"),
+    (Numbers, "DOES_NOT_FIT: u64 = ", "DOES_NOT_FIT: u64 = 1 + ", "DOES_NOT_FIT"),
+    (
+        Crate("log"),
+        "    UnknownKind,\n    WrongLength,",
+        "    WrongLength,\n    UnknownKind,",
+        "refusal 21",
+    ),
+    (Crate("log"), "LogRefusal::WrongLength => 22", "LogRefusal::WrongLength => 2", "WRONG_LENGTH"),
+    (Crate("log"), "    DoesNotFit,\n", "", "log refusals"),
     // operations
     (Header, "TILIGORMIS_CPU_UNMAP = 9", "TILIGORMIS_CPU_UNMAP = 10", "operation 9"),
     (
@@ -164,6 +220,9 @@ const PLANTED: &[(Where, &str, &str, &str)] = &[
     (Manual, "CPU, DMA fill", "DMA, CPU fill", "operation 17"),
     (Crate("rows"), "26 =>", "27 =>", "operation 26"),
     (Numbers, "DMA_READ: u64 = ", "DMA_READ: u64 = 1 + ", "DMA_READ"),
+    (Crate("log"), "    12, // 5\n", "    16, // 5\n", "operation 5, body"),
+    (Crate("log"), "    20, // 24\n", "    16, // 24\n", "operation 24, body"),
+    (Crate("log"), "const CPU_WRITE: u64 = ", "const CPU_WRITE: u64 = 1 + ", "CPU_WRITE"),
     // structs, sizes and places
     (Header, "uint32_t entry;", "uint64_t entry;", "bytes of Slot"),
     (Header, "uint64_t cpu_hand;", "", "bytes of Machine"),
@@ -250,6 +309,9 @@ const PLANTED: &[(Where, &str, &str, &str)] = &[
     (Header, "/* the VM is known already */", "/* the VM is known */", "sentence of refusal 5"),
     (Header, "/* the VM is not known */", "", "sentence of refusal 4"),
     (Header, "        \"the port is idle\",\n", "", "sentences of refusals"),
+    (Header, "        \"unknown\",\n", "", "names of refusals"),
+    (Header, "\"TILIGORMIS_WRONG_LENGTH\",", "\"unknown\",", "name of refusal 22"),
+    (Header, "/* a record's length is wrong", "/* a length is wrong", "sentence of refusal 22"),
     (
         Header,
         "tiligormis_row_cpu_unmap(uint64_t vm, uint64_t guest)",
@@ -319,6 +381,30 @@ const PLANTED: &[(Where, &str, &str, &str)] = &[
         "tiligormis_free(free_pages",
         "tiligormis_box_free, box",
     ),
+    (
+        Header,
+        "log, log_bytes, place, 1, most",
+        "log, 8 * log_bytes, place, 1, most",
+        "tiligormis_box_replay, log_length",
+    ),
+    (
+        Header,
+        "log_bytes, place, 1, most, answers",
+        "log_bytes, place, 2, most, answers",
+        "tiligormis_box_replay, place_length",
+    ),
+    (
+        Header,
+        "log, log_bytes, place, 1);",
+        "log, TILIGORMIS_RECORD_BYTES, place, 1);",
+        "tiligormis_write_record, log_length",
+    ),
+    (
+        Header,
+        "place, 1, row->numbers, TILIGORMIS_ROW_NUMBERS",
+        "place, 1, row->numbers, TILIGORMIS_ANSWER_NUMBERS",
+        "tiligormis_read_record, row_length",
+    ),
     (Header, "(entry >> 19) & 0xfff", "(entry >> 20) & 0xfff", "tiligormis_entry_page, bit"),
     (Header, "(entry >> 16) & 0x7", "(entry >> 16) & 0xf", "tiligormis_entry_access, numbers"),
     (Header, "entry & 0xffff", "entry & 0x7fff", "tiligormis_entry_generation, numbers"),
@@ -328,7 +414,7 @@ const PLANTED: &[(Where, &str, &str, &str)] = &[
         "PAGE_FIELD: u64 = 2048",
         "tiligormis_entry_filled, bit",
     ),
-    (Header, "VERSION_MINOR 2", "VERSION_MINOR 3", "version"),
+    (Header, "VERSION_MINOR 3", "VERSION_MINOR 4", "version"),
     (Cargo, "version = \"0.", "version = \"1.", "version"),
     (
         Header,
@@ -338,6 +424,7 @@ const PLANTED: &[(Where, &str, &str, &str)] = &[
     ),
     // the crates of the library
     (List, "box_cache", "", "crate box_cache"),
+    (List, "journal", "", "crate journal"),
     (Crate("box_reads"), "pub fn valid(", "pub extern \"C\" fn valid(", "crate box_reads"),
 ];
 

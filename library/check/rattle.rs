@@ -20,6 +20,10 @@ pub struct Source {
     /// What `refusal_number` gives, and what `mark_number` does, by the case.
     pub refusal_numbers: BTreeMap<String, u64>,
     pub mark_numbers: BTreeMap<String, u64>,
+    /// The same of a log's refusals, and how many bytes the body of each kind of record has.
+    pub log_refusals: Vec<String>,
+    pub log_refusal_numbers: BTreeMap<String, u64>,
+    pub bodies: Vec<u64>,
     /// The number of each operation that a row can name, and of the arguments a, b, c, .. that are
     /// read of it what each is.
     pub operations: BTreeMap<u64, BTreeMap<char, String>>,
@@ -28,7 +32,7 @@ pub struct Source {
 }
 
 /// Where the numbers stand that the header names too.
-const NUMBERS: [&str; 5] = ["numbers", "access", "start", "box_header", "box_reads"];
+const NUMBERS: [&str; 6] = ["numbers", "access", "start", "box_header", "box_reads", "log"];
 
 pub fn read(crates: &Crates) -> Source {
     let code: Crates = crates.iter().map(|(name, text)| (name.clone(), bare(text))).collect();
@@ -54,6 +58,9 @@ pub fn read(crates: &Crates) -> Source {
         refusals: cases(of("numbers"), "Refusal"),
         refusal_numbers: arms(of("numbers"), "Refusal"),
         mark_numbers: arms(of("units"), "Mark"),
+        log_refusals: cases(of("log"), "LogRefusal"),
+        log_refusal_numbers: arms(of("log"), "LogRefusal"),
+        bodies: bodies(of("log")),
         operations: operations(of("rows")),
         lengths: lengths(of("judge")),
     }
@@ -105,6 +112,13 @@ fn arms(code: &str, name: &str) -> BTreeMap<String, u64> {
         Some((case.trim().to_string(), number(value.trim_end_matches(','))?))
     });
     found.collect()
+}
+
+/// The table `const BODIES: TYPE = [..]`.
+fn bodies(code: &str) -> Vec<u64> {
+    let table = code.split_once("const BODIES:").and_then(|(_, rest)| rest.split_once('='));
+    let list = table.and_then(|(_, list)| block(list, "[")).unwrap_or("");
+    parts(list, ',').into_iter().filter_map(number).collect()
 }
 
 /// The arms `NUMBER => ..` of the reading of a row, and which of the arguments a, b, c, .. each

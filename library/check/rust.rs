@@ -7,9 +7,10 @@ use crate::value::evaluated;
 pub fn read(ffi: &str, numbers: &str, structs: &str) -> Side {
     let mut side = Side::default();
     let code = bare(numbers);
-    let list = |name: &str| code.find(name).and_then(|at| block(&code[at..], "{")).unwrap_or("");
-    let lists = [list("\nnumbers! {"), list("\nrefusals! {")];
-    for part in lists.iter().flat_map(|list| parts(list, ';')) {
+    let lists = ["\nnumbers! {", "\nrefusals! {"].into_iter().flat_map(|name| {
+        code.match_indices(name).filter_map(|(at, _)| block(&code[at..], "{")).collect::<Vec<_>>()
+    });
+    for part in lists.flat_map(|list| parts(list, ';')) {
         let Some((head, value)) = part.split_once('=') else { continue };
         // of a refusal its case and its meaning follow
         let value = value.split(',').next().unwrap_or("");

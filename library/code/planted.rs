@@ -58,16 +58,21 @@ const BEFORE: &[(&str, &str)] = &[
     ("\t.section\t.data.other\n\t.quad\tmemmove\n", "names elsewhere"),
 ];
 
-/// A function that calls nothing, and uses by an index what is below the stack pointer.
-const LEAF: &str = "\t.type\tleaf,@function\nleaf:\n\tmovq\t%rax, -8(%rsp,%rcx)\n\tretq\n";
+/// Functions that call nothing, and use by an index what is below the stack pointer.
+const LEAVES: &[&str] = &[
+    "\t.type\tleaf,@function\nleaf:\n\tmovq\t%rax, -8(%rsp,%rcx)\n\tretq\n",
+    "\t.type\tleaf,@function\nleaf:\n\tmovq\t%rax, -16(%rsp,%rcx,8)\n\tretq\n",
+];
 
 pub fn try_all(texts: &Texts, report: &mut Report) {
     for (processor, planted, check) in INSTRUCTIONS {
         let thing = format!("{}, {check}", processor.name());
         within(texts, *processor, &format!("{WITHIN}:\n\t{planted}\n"), &thing, report);
     }
-    let leaf = format!("{LEAF}{WITHIN}:\n");
-    within(texts, X86, &leaf, "x86-64, below the stack pointer", report);
+    for leaf in LEAVES {
+        let leaf = format!("{leaf}{WITHIN}:\n");
+        within(texts, X86, &leaf, "x86-64, below the stack pointer", report);
+    }
     for processor in BOTH {
         for (before, check) in BEFORE {
             let thing = format!("{}, {check}", processor.name());

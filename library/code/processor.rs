@@ -133,10 +133,17 @@ impl Processor {
             X86 => operands.into_iter().find_map(|operand| {
                 let (offset, base) = operand.split_once("(%rsp")?;
                 let sure = if base == ")" { Below::Surely } else { Below::Indexed };
-                offset.contains('-').then_some(sure)
+                (offset.contains('-') && !from_one(offset, base)).then_some(sure)
             }),
         }
     }
+}
+
+/// Whether it is an array that begins at the stack pointer, indexed from 1 on: one element below, times the index. An array
+/// that lay below the stack pointer would begin at least two elements below it.
+fn from_one(offset: &str, base: &str) -> bool {
+    let scale = base.trim_end_matches(')').rsplit_once(',').map(|(_, scale)| scale);
+    scale.is_some_and(|scale| scale.parse::<u64>().is_ok_and(|by| offset == format!("-{by}")))
 }
 
 fn aarch64_grows(name: &str, operands: &[&str]) -> Option<i64> {

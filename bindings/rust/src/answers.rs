@@ -1,6 +1,6 @@
 //! What is answered, as results.
 
-use crate::numbers::{Refusal, ACCEPTED};
+use crate::numbers::Refusal;
 use crate::structs::Answer;
 use core::fmt;
 
@@ -37,14 +37,6 @@ impl Answer {
     /// The answer where it accepts, else why not.
     pub fn accepted(self) -> Result<Answer, Refused> {
         let index = self.index;
-        accepted(self.number).map(|()| self).map_err(|refusal| Refused { refusal, index })
-    }
-}
-
-/// Nothing where a returned number is 0, else the refusal.
-pub(crate) fn accepted(number: u64) -> Result<(), Refusal> {
-    match number {
-        ACCEPTED => Ok(()),
-        _ => Err(Refusal::from_number(number).unwrap_or(Refusal::Unlisted { number })),
+        Refusal::accepted(self.number).map(|()| self).map_err(|refusal| Refused { refusal, index })
     }
 }

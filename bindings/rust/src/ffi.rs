@@ -35,11 +35,31 @@ entries! {
     mut tiligormis_sequence(
         rows: *const u64, rows_length: usize, answers: *mut u64, answers_length: usize
     ) -> u64;
+    mut tiligormis_replay(
+        log: *const u8, log_length: usize, place: *mut u64, place_length: usize, most: u64,
+        answers: *mut u64, answers_length: usize, taken: *mut u64, taken_length: usize
+    ) -> u64;
     const tiligormis_valid() -> bool;
     const tiligormis_free(free_pages: *mut FreePages, free_numbers: usize) -> u64;
 }
 
 extern "C" {
+    pub fn tiligormis_log_write(
+        row: *const u64,
+        row_length: usize,
+        log: *mut u8,
+        log_length: usize,
+        place: *mut u64,
+        place_length: usize,
+    ) -> u64;
+    pub fn tiligormis_log_read(
+        log: *const u8,
+        log_length: usize,
+        place: *mut u64,
+        place_length: usize,
+        row: *mut u64,
+        row_length: usize,
+    ) -> u64;
     pub fn tiligormis_find_slot(
         slots: *const Slot,
         slots_length: usize,

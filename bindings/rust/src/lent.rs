@@ -1,7 +1,7 @@
 //! A box lent to the library, and the entries over it.
 
-use crate::answers::accepted;
 use crate::ffi;
+use crate::log::Replayed;
 use crate::numbers::*;
 use crate::structs::{Answer, FreePages, Machine, Row, Slot, Unit};
 
@@ -105,7 +105,7 @@ impl Lent<'_> {
         units: &[Unit],
     ) -> Result<(), Refusal> {
         let numbers = units.len() * UNIT_NUMBERS;
-        accepted(call!(
+        Refusal::accepted(call!(
             tiligormis_start,
             self,
             as_mut_ptr,
@@ -138,7 +138,7 @@ impl Lent<'_> {
     /// Refused as a whole, nothing changes, the answers included: with [`Refusal::StateNotValid`] where the
     /// box is not valid, with [`Refusal::OutOfRange`] where there are fewer answers than rows.
     pub fn sequence(&mut self, rows: &[Row], answers: &mut [Answer]) -> Result<(), Refusal> {
-        accepted(call!(
+        Refusal::accepted(call!(
             tiligormis_sequence,
             self,
             as_mut_ptr,
@@ -147,6 +147,63 @@ impl Lent<'_> {
             answers.as_mut_ptr().cast(),
             answers.len() * ANSWER_NUMBERS
         ))
+    }
+
+    /// Replays a log: carries out at most `most` records from a place on, a refused operation too, and
+    /// writes answers for as many of them as there is room for; there may be none. The box is judged
+    /// once, before the first record. A record that cannot be read ends it, and what was done before
+    /// that stands.
+    ///
+    /// Refused with [`Refusal::StateNotValid`] where the box is not valid; then nothing changes.
+    ///
+    /// ```
+    /// # #[cfg(feature = "alloc")] {
+    /// use tiligormis::*;
+    /// let (mut first, mut second) = (Owned::new(8), Owned::new(8));
+    /// first.lent().start(8, 7, 1, &[]).unwrap();
+    /// second.lent().start(8, 7, 1, &[]).unwrap();
+    /// let mut buffer = [0; 3 * RECORD_BYTES];
+    /// let mut log = LogWriter::new(&mut buffer);
+    /// for row in [rows::add_vm(1), rows::assign_page(1, 7), rows::assign_page(1, 5)] {
+    ///     first.lent().operation(row);
+    ///     log.write(&row).unwrap();
+    /// }
+    /// let mut answers = [Answer::default(); 2];
+    /// let begun = second.lent().replay(log.written(), 0, 2, &mut answers).unwrap();
+    /// assert_eq!((begun.taken, begun.place, begun.stopped), (2, 20, None));
+    /// assert_eq!(answers.map(|answer| answer.number), [ACCEPTED, PAGE_NOT_HELD]);
+    /// let rest = second.lent().replay(log.written(), begun.place, usize::MAX, &mut []).unwrap();
+    /// assert_eq!(rest.readable(), Ok(1));
+    /// assert!(second == first);
+    /// # }
+    /// ```
+    pub fn replay(
+        &mut self,
+        log: &[u8],
+        place: usize,
+        most: usize,
+        answers: &mut [Answer],
+    ) -> Result<Replayed, Refusal> {
+        let (mut next, mut taken) = (place as u64, 0);
+        let number = call!(
+            tiligormis_replay,
+            self,
+            as_mut_ptr,
+            log.as_ptr(),
+            log.len(),
+            &mut next,
+            1,
+            most as u64,
+            answers.as_mut_ptr().cast(),
+            answers.len() * ANSWER_NUMBERS,
+            &mut taken,
+            1
+        );
+        let stopped = LogRefusal::from_number(number);
+        if stopped.is_none() {
+            Refusal::accepted(number)?;
+        }
+        Ok(Replayed { taken: taken as usize, place: next as usize, stopped })
     }
 
     /// Whether the box is valid.
@@ -185,7 +242,7 @@ impl LentRef<'_> {
     /// The pages in the pool; refused with [`Refusal::StateNotValid`] where the box is not valid.
     pub fn free(self) -> Result<FreePages, Refusal> {
         let mut pages = FreePages { count: 0, lowest: NO_PAGE };
-        accepted(call!(tiligormis_free, self, as_ptr, &mut pages, FREE_NUMBERS))?;
+        Refusal::accepted(call!(tiligormis_free, self, as_ptr, &mut pages, FREE_NUMBERS))?;
         Ok(pages)
     }
 }

@@ -7,7 +7,9 @@
 //! is the manual of the same functions for C, docs/MACHINE.md says what the machine does.
 //!
 //! The crate needs `core` alone, and `alloc` for `Owned`. [`Lent`] has a method for each operation;
-//! [`rows`] makes the same operations as rows, for a sequence of them.
+//! [`rows`] makes the same operations as rows, for a sequence of them and for the operation log:
+//! [`LogWriter`] writes a record for each row, [`LogReader`] reads them, and [`Lent::replay`] carries
+//! them out on another box.
 //!
 //! ```
 //! use tiligormis::*;
@@ -48,6 +50,7 @@ extern crate std;
 mod answers;
 mod ffi;
 mod lent;
+mod log;
 mod numbers;
 mod operations;
 #[cfg(any(feature = "alloc", test))]
@@ -59,6 +62,7 @@ mod tests;
 
 pub use answers::Refused;
 pub use lent::{Lent, LentRef};
+pub use log::{LogError, LogReader, LogWriter, Replayed};
 pub use numbers::*;
 pub use operations::rows;
 #[cfg(any(feature = "alloc", test))]

@@ -1,5 +1,5 @@
 //! Every number that the header names, under the same name without `TILIGORMIS_`; of the refusals the
-//! cases of [`Refusal`] too.
+//! cases of [`Refusal`] and [`LogRefusal`] too.
 
 use core::fmt;
 
@@ -51,6 +51,11 @@ numbers! {
     FREE_NUMBERS: usize = 2;
     /// Numbers of a machine header.
     MACHINE_NUMBERS: usize = 7 + 2 * PORTS + UNITS * UNIT_NUMBERS;
+
+    /// Kinds of a log's records, from 1 on: the operations' numbers.
+    KINDS: u64 = 26;
+    /// Bytes of the longest record that a row makes.
+    RECORD_BYTES: usize = 24;
 
     /// How rows and the header write that a port is idle.
     IDLE: u64 = 4_294_967_295;
@@ -128,17 +133,18 @@ numbers! {
     INSTRUCTION_BARRIER: u64 = 26;
 }
 
-/// Declares the refusals: of each the constant, the case, and what it means, which documents both and
-/// is what `Display` writes.
+/// Declares an enum of refusals and, for the tests, the list of them: of each the constant, the case,
+/// and what it means, which documents both and is what `Display` writes.
 macro_rules! refusals {
-    ($($name:ident: u64 = $value:literal, $case:ident, $meaning:literal;)*) => {
-        $(#[doc = concat!("[`Refusal::", stringify!($case), "`]: ", $meaning, ".")]
+    ($(#[$what:meta])* $refusals:ident, $list:ident;
+        $($name:ident: u64 = $value:literal, $case:ident, $meaning:literal;)*) => {
+        $(#[doc = concat!("[`", stringify!($refusals), "::", stringify!($case), "`]: ", $meaning, ".")]
         pub const $name: u64 = $value;)*
 
-        /// Why something is refused. Refused, it has changed nothing (but see [`crate::Lent::start`]).
+        $(#[$what])*
         #[derive(Clone, Copy, Debug, PartialEq, Eq, Hash)]
         #[non_exhaustive]
-        pub enum Refusal {
+        pub enum $refusals {
             $(#[doc = concat!($value, ": ", $meaning, ".")]
             $case,)*
             /// A number that is none of these, which this version's library never returns. An
@@ -151,44 +157,54 @@ macro_rules! refusals {
             },
         }
 
-        impl Refusal {
-            /// The refusal's number, as in answers; never [`ACCEPTED`].
+        impl $refusals {
+            /// The refusal's number, as it is returned; never [`ACCEPTED`].
             pub const fn number(self) -> u64 {
                 match self {
-                    $(Refusal::$case => $name,)*
-                    Refusal::Unlisted { number } => number,
+                    $($refusals::$case => $name,)*
+                    $refusals::Unlisted { number } => number,
                 }
             }
 
             /// The refusal that has this number; none for [`ACCEPTED`] and for a number not listed.
-            pub const fn from_number(number: u64) -> Option<Refusal> {
+            pub const fn from_number(number: u64) -> Option<$refusals> {
                 match number {
-                    $($name => Some(Refusal::$case),)*
+                    $($name => Some($refusals::$case),)*
                     _ => None,
+                }
+            }
+
+            /// Nothing where a returned number is 0, else the refusal.
+            pub(crate) fn accepted(number: u64) -> Result<(), $refusals> {
+                match number {
+                    ACCEPTED => Ok(()),
+                    _ => Err(Self::from_number(number).unwrap_or($refusals::Unlisted { number })),
                 }
             }
         }
 
-        impl fmt::Display for Refusal {
+        impl fmt::Display for $refusals {
             fn fmt(&self, out: &mut fmt::Formatter<'_>) -> fmt::Result {
                 match self {
-                    $(Refusal::$case => out.write_str($meaning),)*
-                    Refusal::Unlisted { number } => {
+                    $($refusals::$case => out.write_str($meaning),)*
+                    $refusals::Unlisted { number } => {
                         write!(out, "refusal {number}, which has no name in this version")
                     }
                 }
             }
         }
 
+        impl core::error::Error for $refusals {}
+
         #[cfg(test)]
-        pub const REFUSALS: &[(&str, Refusal, u64)] =
-            &[$((stringify!($name), Refusal::$case, $value)),*];
+        pub const $list: &[(&str, $refusals, u64)] =
+            &[$((stringify!($name), $refusals::$case, $value)),*];
     };
 }
 
-impl core::error::Error for Refusal {}
-
 refusals! {
+    /// Why something is refused. Refused, it has changed nothing (but see [`crate::Lent::start`]).
+    Refusal, REFUSALS;
     STATE_NOT_VALID: u64 = 1, StateNotValid,
         "the box is not valid: a rule, memory's length or an array's length";
     OUT_OF_RANGE: u64 = 2, OutOfRange, "a number is out of range, or the operation is unknown";
@@ -207,4 +223,15 @@ refusals! {
     NO_ROOM: u64 = 14, NoRoom, "there is no room: too few entries are free";
     PORT_IDLE: u64 = 15, PortIdle, "the port is idle";
     ACCESS_LACKING: u64 = 16, AccessLacking, "the mapping's access lacks the needed bit";
+}
+
+refusals! {
+    /// Why a record of a log is not read or not written; no answer of the machine has one of these.
+    LogRefusal, LOG_REFUSALS;
+    CUT_SHORT: u64 = 20, CutShort,
+        "a record is cut short: one to three bytes are left, or fewer than its length says";
+    UNKNOWN_KIND: u64 = 21, UnknownKind, "a record's kind is unknown: no operation has this number";
+    WRONG_LENGTH: u64 = 22, WrongLength, "a record's length is wrong: not that of its kind";
+    DOES_NOT_FIT: u64 = 23, DoesNotFit,
+        "a record does not fit: an argument is over four bytes, or there is too little room";
 }

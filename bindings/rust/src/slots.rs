@@ -1,7 +1,6 @@
 //! The slots of one translation cache. These functions judge no box and may make one that is not
 //! valid.
 
-use crate::answers::accepted;
 use crate::ffi;
 use crate::numbers::{Refusal, SLOTS};
 use crate::structs::Slot;
@@ -47,7 +46,7 @@ pub fn find_slot(slots: &[Slot], port: u64, vm: u64, guest: u64) -> Option<usize
 /// [`SLOTS`] slots, with [`Refusal::OutOfRange`] where a number is out of range.
 pub fn fill_slot(slots: &mut [Slot], place: usize, held: Translation) -> Result<(), Refusal> {
     // SAFETY: the pointer and the length are those of a slice that is lent to be changed.
-    accepted(unsafe {
+    Refusal::accepted(unsafe {
         ffi::tiligormis_fill_slot(
             slots.as_mut_ptr(),
             slots.len(),
@@ -65,5 +64,7 @@ pub fn fill_slot(slots: &mut [Slot], place: usize, held: Translation) -> Result<
 /// Empties slot `place`. Refused as [`fill_slot`] is.
 pub fn empty_slot(slots: &mut [Slot], place: usize) -> Result<(), Refusal> {
     // SAFETY: the pointer and the length are those of a slice that is lent to be changed.
-    accepted(unsafe { ffi::tiligormis_empty_slot(slots.as_mut_ptr(), slots.len(), place as u64) })
+    Refusal::accepted(unsafe {
+        ffi::tiligormis_empty_slot(slots.as_mut_ptr(), slots.len(), place as u64)
+    })
 }

@@ -30,7 +30,7 @@ use numbers::Refusal;
 use start::UNIT_NUMBERS;
 
 // The words of a machine of so many pages; all there are where they are too many, which start refuses.
-fn words_of(pages: u64) -> usize
+pub fn words_of(pages: u64) -> usize
     ensures { λ r. ⌜ r ≤ MEMORY-WORDS ⌝ }
 {
     if pages <= PAGES {

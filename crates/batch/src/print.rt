@@ -12,7 +12,7 @@ pub const BATCH: usize = 1024;
 
 pub const ANSWER_ROOM: usize = BATCH * ANSWER_NUMBERS;
 // The most bytes of a number and the byte after it.
-const NUMBER_BYTES: usize = 21;
+pub const NUMBER_BYTES: usize = 21;
 
 const TEXT: usize = BATCH * ANSWER_NUMBERS * NUMBER_BYTES;
 
@@ -23,7 +23,7 @@ const LF: u8 = 10;
 // ---- The answers of a batch.
 
 // The number and the byte that ends it, at the given place; answers the place after them.
-fn put(text: &mut [u8], at: usize, number: u64, end: u8) -> usize
+pub fn put(text: &mut [u8], at: usize, number: u64, end: u8) -> usize
     requires { ⌜ at + NUMBER-BYTES ≤ length (now text) ⌝ }
     ensures { λ r. ⌜ r ≤ at + NUMBER-BYTES ⌝ }
 {
@@ -39,7 +39,7 @@ fn put(text: &mut [u8], at: usize, number: u64, end: u8) -> usize
 }
 
 // Answer k of the room, a line of four numbers.
-fn put_answer(text: &mut [u8], at: usize, room: &[u64; ANSWER_ROOM], k: usize) -> usize
+pub fn put_answer(text: &mut [u8], at: usize, room: &[u64; ANSWER_ROOM], k: usize) -> usize
     requires { ⌜ (k < BATCH) × (at + ANSWER-BYTES ≤ length (now text)) ⌝ }
     ensures { λ r. ⌜ r ≤ at + ANSWER-BYTES ⌝ }
 {
@@ -69,19 +69,19 @@ pub fn print_answers(room: &[u64; ANSWER_ROOM], count: usize) -> bool
 
 // ---- Single lines.
 
-fn print_text(text: &[u8]) -> bool {
+pub fn print_text(text: &[u8]) -> bool {
     io::write_all(STDOUT_FILENO, text)
 }
 
-// A number between two texts.
-fn print_between(before: &[u8], number: u64, after: &[u8]) -> bool {
-    if !print_text(before) {
+// A number between two texts, to standard output or standard error.
+pub fn print_between(to: i32, before: &[u8], number: u64, after: &[u8]) -> bool {
+    if !io::write_all(to, before) {
         return false;
     }
-    if !io::print_decimal(STDOUT_FILENO, number) {
+    if !io::print_decimal(to, number) {
         return false;
     }
-    print_text(after)
+    io::write_all(to, after)
 }
 
 pub fn print_start(answer: Answer) -> bool {
@@ -91,6 +91,7 @@ pub fn print_start(answer: Answer) -> bool {
             word: _,
         } => print_text(b"start 0\n"),
         Answer::Refused { refusal, index: _ } => print_between(
+            STDOUT_FILENO,
             b"start ",
             numbers::refusal_number(refusal),
             b"\n",
@@ -101,12 +102,12 @@ pub fn print_start(answer: Answer) -> bool {
 pub fn print_free(count: u64, lowest: Lowest) -> bool {
     match lowest {
         Lowest::Page(page) => {
-            if !print_between(b"free ", count, b" ") {
+            if !print_between(STDOUT_FILENO, b"free ", count, b" ") {
                 return false;
             }
-            print_between(b"", page.0, b"\n")
+            print_between(STDOUT_FILENO, b"", page.0, b"\n")
         }
-        Lowest::Nothing => print_between(b"free ", count, b" none\n"),
+        Lowest::Nothing => print_between(STDOUT_FILENO, b"free ", count, b" none\n"),
     }
 }
 
@@ -115,5 +116,5 @@ pub fn print_free_refused() -> bool {
 }
 
 pub fn print_not_understood(line: u64) -> bool {
-    print_between(b"line ", line, b": not understood\n")
+    print_between(STDOUT_FILENO, b"line ", line, b": not understood\n")
 }

@@ -41,7 +41,7 @@ module _ (b : Box (List ℕ)) (h : HeaderGood (b .header)) where
   s = stateIn same b
 
   -- a state that is as it was is left in the box as it was
-  left-same : leftIn same b s ≡ b
+  pub left-same : leftIn same b s ≡ b
   left-same = ap (λ (header : List ℕ). record { header = header; sets = b .sets; pairs = b .pairs; cpuMap = b .cpuMap; cpuWalker = b .cpuWalker; cpuCache = b .cpuCache; dmaMap = b .dmaMap; dmaWalker = b .dmaWalker; dmaCache = b .dmaCache; memory = b .memory })
       (changed-same (b .header) (h .whole) (b .sets) (b .pairs) (b .cpuMap) (b .cpuWalker) (b .cpuCache) (b .dmaMap) (b .dmaWalker) (b .dmaCache))
 

@@ -39,7 +39,7 @@ known-setup : (s : State) (o : Option Operation) → stepKnown s o .state .table
 known-setup s none = refl
 known-setup s (some operation) = step-sizes s operation .tables .setup
 
-row-setup : (s : State) (row : List ℕ) → stepRow s row .state .tables .setup ≡ s .tables .setup
+pub row-setup : (s : State) (row : List ℕ) → stepRow s row .state .tables .setup ≡ s .tables .setup
 unfolding stepRow
 row-setup s row = known-setup s (operationIn row)
 
@@ -62,12 +62,12 @@ sequence-setup s rows room = whole (shapeAnswer rows room)
 module _ {C : Type 0} (wordsOf : C → List ℕ) (cacheOf : List ℕ → C) (back : (ws : List ℕ) → wordsOf (cacheOf ws) ≡ ws) where
   -- the state of a box that was left, from its header and the words of its caches
   module _ (b : Box C) (new : State) (h : HeaderGood (b .header)) (v : Valid new) where
-    left-state : new .tables .setup ≡ setupOf (fixedOf (b .header)) → stateIn wordsOf (leftIn cacheOf b new) ≡ new
+    pub left-state : new .tables .setup ≡ setupOf (fixedOf (b .header)) → stateIn wordsOf (leftIn cacheOf b new) ≡ new
     left-state e =
         (λ i. stateOf (machineOf (changed (b .header) (new .tables))) (new .tables .sets) (new .tables .pairs) (new .tables .cpu .map) (new .tables .cpu .walker) (back (new .tables .cpu .cache) i) (new .tables .dma .map) (new .tables .dma .walker) (back (new .tables .dma .cache) i) (new .memory))
         ∙ state-changed (b .header) new (h .whole) (v .tables .lengths .cpu .ports) (v .tables .lengths .dma .ports) e
 
-    left-valid : new .tables .setup ≡ setupOf (fixedOf (b .header)) → BoxValid wordsOf (leftIn cacheOf b new)
+    pub left-valid : new .tables .setup ≡ setupOf (fixedOf (b .header)) → BoxValid wordsOf (leftIn cacheOf b new)
     left-valid e =
         record {
           header = changed-good (b .header) (new .tables) h (v .tables .lengths .cpu .ports) (v .tables .lengths .dma .ports);

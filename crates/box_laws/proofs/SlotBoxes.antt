@@ -26,7 +26,7 @@ use Rattle.slots.specs.SlotLaws.{word-of-slot}
 use Rattle.slots.specs.Slots.{words, slotsOf}
 use Rattle.slots.specs.declared.Slot.{Slot}
 
-words-again : (ws : List ℕ) → words (slotsOf ws) ≡ ws
+pub words-again : (ws : List ℕ) → words (slotsOf ws) ≡ ws
 words-again [] = refl
 words-again (w ∷ ws) = λ i. word-of-slot w i ∷ words-again ws i
 

@@ -44,20 +44,20 @@ module _ (header sets pairs cpuMap cpuWalker : List ℕ) (cpuSlots : List Slot) 
   dma-words : AllThere → dmaWords ≡ words dmaSlots
   dma-words w = d ∙ loaded-whole dmaSlots (w .1)
 
-  same-state : AllThere → stateIn same ofWords ≡ stateIn words ofSlots
+  pub same-state : AllThere → stateIn same ofWords ≡ stateIn words ofSlots
   same-state w = rw (cpu-words w, dma-words w)
 
   same-lent : AllThere → lentIn same ofWords ≡ lentIn words ofSlots
   same-lent w = rw (cpu-words w, dma-words w)
 
-  valid-slots : AllThere → BoxValid same ofWords → BoxValid words ofSlots
+  pub valid-slots : AllThere → BoxValid same ofWords → BoxValid words ofSlots
   valid-slots w v = record { header = v .header; state = rw (sym (same-state w)) (v .state) }
 
   -- a valid box has whole caches
-  valid-whole : BoxValid words ofSlots → AllThere
+  pub valid-whole : BoxValid words ofSlots → AllThere
   valid-whole v = (sym (length-map cpuSlots wordOf) ∙ v .state .tables .lengths .cpu .cache, sym (length-map dmaSlots wordOf) ∙ v .state .tables .lengths .dma .cache)
 
-  valid-words : BoxValid words ofSlots → BoxValid same ofWords
+  pub valid-words : BoxValid words ofSlots → BoxValid same ofWords
   valid-words v = record { header = v .header; state = rw (same-state (valid-whole v)) (v .state) }
 
   -- ---- the test for validity
@@ -91,7 +91,7 @@ module _ (header sets pairs cpuMap cpuWalker : List ℕ) (cpuSlots : List Slot) 
     stored-back p h = rw (stored-none number cpuWords cpuSlots p, stored-none number dmaWords dmaSlots p)
 
     -- the words of a new state, in whole caches
-    stored-new : AllThere → number ≡ 0 → (h : List ℕ) (s : State) → leftWords ≡ boxOf same h s → kept-in leftWords ≡ boxOf slotsOf h s
+    pub stored-new : AllThere → number ≡ 0 → (h : List ℕ) (s : State) → leftWords ≡ boxOf same h s → kept-in leftWords ≡ boxOf slotsOf h s
     stored-new w z h s e =
         let p : stored number cpuLeft cpuSlots ≡ slotsOf cpuLeft = ap (λ (k : ℕ). stored k cpuLeft cpuSlots) z ∙ stored-whole cpuLeft cpuSlots cpuLength (w .0) in
         let q : stored number dmaLeft dmaSlots ≡ slotsOf dmaLeft = ap (λ (k : ℕ). stored k dmaLeft dmaSlots) z ∙ stored-whole dmaLeft dmaSlots dmaLength (w .1) in
@@ -102,7 +102,7 @@ module _ (header sets pairs cpuMap cpuWalker : List ℕ) (cpuSlots : List Slot) 
     stored-kept w (Refused refusal index) old new s z e = ap kept-in e ∙ stored-back (omega (arith, refusal-above refusal, z)) old
 
     -- the box was not judged
-    stored-unjudged : (h : List ℕ) → number ≡ numberOf notValid → leftWords ≡ withHeader ofWords h → kept-in leftWords ≡ withHeader ofSlots h
+    pub stored-unjudged : (h : List ℕ) → number ≡ numberOf notValid → leftWords ≡ withHeader ofWords h → kept-in leftWords ≡ withHeader ofSlots h
     stored-unjudged h z e = ap kept-in e ∙ stored-back (omega (arith, z)) h
 
     module _ (cpuAfter dmaAfter : List Slot) (cpuStored : cpuAfter ≡ stored number cpuLeft cpuSlots) (dmaStored : dmaAfter ≡ stored number dmaLeft dmaSlots) where

@@ -204,7 +204,7 @@ fn more_letters(word: Word, rest: u64, byte: u8) -> Part
     Part::Strange
 }
 
-fn lengthened(part: Part, byte: u8) -> Part
+pub fn lengthened(part: Part, byte: u8) -> Part
     ensures { λ r. ⌜ r ≡ lengthened part byte ⌝ }
 {
     match part {

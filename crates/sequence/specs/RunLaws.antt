@@ -36,20 +36,20 @@ join-route x y = record { map = y .map ∙ x .map; walker = y .walker ∙ x .wal
 join-shape : {a b c : Tables} → SameShape a b → SameShape b c → SameShape a c
 join-shape x y = record { setup = y .setup ∙ x .setup; sets = y .sets ∙ x .sets; pairs = y .pairs ∙ x .pairs; cpu = join-route (x .cpu) (y .cpu); dma = join-route (x .dma) (y .dma) }
 
-join-sizes : {a b c : State} → SameSizes a b → SameSizes b c → SameSizes a c
+pub join-sizes : {a b c : State} → SameSizes a b → SameSizes b c → SameSizes a c
 join-sizes x y = record { tables = join-shape (x .tables) (y .tables); memory = y .memory ∙ x .memory }
 
 same-route : (r : Route) → SameRoute r r
 same-route r = record { map = refl; walker = refl; cache = refl; ports = refl }
 
-same-sizes : (s : State) → SameSizes s s
+pub same-sizes : (s : State) → SameSizes s s
 same-sizes s =
     record {
       tables = record { setup = refl; sets = refl; pairs = refl; cpu = same-route (s .tables .cpu); dma = same-route (s .tables .dma) };
       memory = refl;
     }
 
-row-sizes : (s : State) (o : Option Operation) → SameSizes s (stepKnown s o .state)
+pub row-sizes : (s : State) (o : Option Operation) → SameSizes s (stepKnown s o .state)
 row-sizes s none = same-sizes s
 row-sizes s (some operation) = step-sizes s operation
 

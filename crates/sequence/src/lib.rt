@@ -34,7 +34,7 @@ fn write_answer(room: &mut [u64], k: usize, answer: Answer)
 }
 
 // Row k carried out and answered; an unknown operation is refused. From row to row only the registers are handed on.
-fn turn(
+pub fn turn(
     fixed: Fixed,
     registers: Registers,
     sets: &mut [u64],

@@ -4,10 +4,12 @@
 mod boxes;
 mod documented;
 mod lengths;
+mod log;
 mod no_std;
 mod numbers;
 mod operations;
 mod refusals;
+mod replays;
 mod slots;
 mod starts;
 
@@ -65,6 +67,8 @@ fn entries_refuse(owned: &mut Owned) {
     assert_eq!(owned.lent().add_vm(3), Err(Refusal::StateNotValid));
     let rows = [rows::add_vm(3)];
     assert_eq!(owned.lent().sequence(&rows, &mut answers), Err(Refusal::StateNotValid));
+    let log = [6, 0, 1, 0, 3, 0, 0, 0];
+    assert_eq!(owned.lent().replay(&log, 0, 1, &mut answers), Err(Refusal::StateNotValid));
     assert_eq!(answers, [untouched]);
     assert!(*owned == before);
 }

@@ -8,8 +8,8 @@ macro_rules! files {
     ($($name:literal)*) => { [$(($name, include_str!(concat!("../", $name, ".rs")))),*] };
 }
 
-const FILES: [(&str, &str); 9] =
-    files!["lib" "answers" "ffi" "lent" "numbers" "operations" "owned" "slots" "structs"];
+const FILES: [(&str, &str); 10] =
+    files!["lib" "answers" "ffi" "lent" "log" "numbers" "operations" "owned" "slots" "structs"];
 
 /// How often a text names a crate, comments aside; `std::mem` names std.
 fn named(name: &str, text: &str) -> usize {

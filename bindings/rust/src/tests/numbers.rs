@@ -1,13 +1,14 @@
 //! The numbers that Rust and C both name.
 
 use super::*;
-use crate::numbers::{NAMED, REFUSALS};
+use crate::numbers::{LOG_REFUSALS, NAMED, REFUSALS};
 
 #[test]
 fn numbers_are_the_headers() {
     let header = include_str!("../../../../include/tiligormis.h");
     let refusals = REFUSALS.iter().map(|(name, _, number)| (*name, *number));
-    let numbers: Vec<(&str, u64)> = NAMED.iter().copied().chain(refusals).collect();
+    let of_logs = LOG_REFUSALS.iter().map(|(name, _, number)| (*name, *number));
+    let numbers: Vec<(&str, u64)> = NAMED.iter().copied().chain(refusals).chain(of_logs).collect();
     let mut named = 0;
     for line in header.lines().filter(|line| !line.contains("TILIGORMIS_VERSION")) {
         let words: Vec<&str> = line.split_whitespace().filter(|&word| word != "#define").collect();

@@ -1,0 +1,3 @@
+-- What replay gives for a box.
+pub mod Given
+pub mod GivenLaws

@@ -1,0 +1,2 @@
+-- What replay leaves in a box of slots.
+pub mod ReplayKept

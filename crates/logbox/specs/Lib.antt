@@ -1,0 +1,2 @@
+-- How much of a log waits in its room.
+pub mod Room

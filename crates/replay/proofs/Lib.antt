@@ -1,0 +1,5 @@
+-- What is proved of replay.
+pub mod Pieces
+pub mod Places
+pub mod ReplayRows
+pub mod ReplaySecret

@@ -1,0 +1,4 @@
+-- Replay: the records of a log, carried out.
+pub mod Replay
+pub mod Run
+pub mod RunLaws
