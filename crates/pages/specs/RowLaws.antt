@@ -16,8 +16,8 @@ use Rattle.numbers.specs.DecidesLaws.{decides-itself, decides-and, decides-not,
 use Rattle.numbers.specs.Limits.{PAGES, SET-WORDS, VMS}
 use Rattle.numbers.specs.declared.Lowest.the-variants.{Page, Nothing}
 use Rattle.numbers.specs.declared.PhysPage.{PhysPage}
-use Rattle.table.specs.Scan.{countBelow, lowest, lowestFrom}
-use Rattle.table.specs.ScanLaws.{some-below}
+use Rattle.table.specs.Scan.{countBelow, lowest}
+use Rattle.table.specs.ScanLaws.{lowest-within, lowest-found, lowest-none, some-below}
 use Rattle.pages.specs.BitLaws.{
   below-or,
   contains-insert-same,
@@ -75,33 +75,11 @@ module _ (p : ℕ → Bool) where
       (λ f. below-more _ n (count-none n (rw f at e)) f k (omega arith))
       (cases (p n))
 
-  -- what the search of the n numbers from i on says of where it ends
-  record Ends (i n stop : ℕ) : Type 0 where
-    within : stop ≤ i + n
-    below : (k : ℕ) → i ≤ k → k < stop → p k ≡ false
-    here : stop < i + n → p stop ≡ true
-
-  ends : (i n : ℕ) → Ends i n (lowestFrom p i n)
-  ends i zero = record { within = omega arith; below = λ k a b. absurd (omega arith); here = λ h. absurd (omega arith) }
-  ends i (suc n) = ⊎-elim found (later (ends (suc i) n)) (cases (p i))
-    where
-      found : p i ≡ true → Ends i (suc n) (lowestFrom p i (suc n))
-      found t = rw t (record { within = omega arith; below = λ k a b. absurd (omega arith); here = λ h. t })
-
-      low : Ends (suc i) n (lowestFrom p (suc i) n) → p i ≡ false → (k : ℕ) → i ≤ k → k < lowestFrom p (suc i) n → p k ≡ false
-      low e f k a b = ⊎-elim (λ q. rw q f) (λ d. e .below k (omega arith) b) (equal k i)
-
-      later : Ends (suc i) n (lowestFrom p (suc i) n) → p i ≡ false → Ends i (suc n) (lowestFrom p i (suc n))
-      later e f = rw f (record { within = omega (arith, e .within); below = low e f; here = λ h. e .here (omega arith) })
-
   none-lowest : (n : ℕ) → countBelow p n ≡ 0 → lowest p n ≡ n
-  none-lowest n e = ⊎-elim passes (λ h. omega (arith, ends 0 n .within)) (below-or (lowest p n) n)
+  none-lowest n e = ⊎-elim passes (λ h. omega (arith, lowest-within p n)) (below-or (lowest p n) n)
     where
       passes : lowest p n < n → lowest p n ≡ n
-      passes h =
-          let t = ends 0 n .here (omega arith) in
-          let f = count-none n e (lowest p n) h in
-          absurd (let z : _≡_ {A = ℕ} 0 1 = cc in omega arith)
+      passes h = absurd (true≢false (sym (lowest-found p n h .0) ∙ count-none n e (lowest p n) h))
 
 module _ (p q : ℕ → Bool) where
   count-alike : (n : ℕ) → ((k : ℕ) → k < n → q k ≡ p k) → countBelow q n ≡ countBelow p n
@@ -202,9 +180,8 @@ module _ (sets : List ℕ) (n : ℕ) where
   pub freeCount-zero : lowestFree sets n ≡ Nothing → freeCount sets n ≡ 0
   unfolding freeCount lowestFree
   freeCount-zero e =
-      let r = ends (isFree sets) 0 n in
       let z = at-end n (lowest (isFree sets) n) e in
-      count-zero (isFree sets) n (λ k l. r .below k (omega arith) (omega arith))
+      count-zero (isFree sets) n (lowest-none (isFree sets) n (omega arith))
 
   pub lowestFree-nothing : freeCount sets n ≡ 0 → lowestFree sets n ≡ Nothing
   unfolding freeCount lowestFree
@@ -213,9 +190,10 @@ module _ (sets : List ℕ) (n : ℕ) where
   pub lowestFree-page : (page : PhysPage) → lowestFree sets n ≡ Page page → LowestFree sets n (page .0)
   unfolding lowestFree
   lowestFree-page page e =
-      let r = ends (isFree sets) 0 n in
-      let z = at-page n (lowest (isFree sets) n) page e in
-      record { within = omega arith; free = rw (z .0) at (r .here (omega arith)); lower = λ k l. r .below k (omega arith) (omega arith) }
+      let (same, short) = at-page n (lowest (isFree sets) n) page e in
+      let h : lowest (isFree sets) n < n = omega (arith, lowest-within (isFree sets) n) in
+      let (free, lower) = lowest-found (isFree sets) n h in
+      record { within = omega arith; free = rw same at free; lower = λ k l. lower k (omega arith) }
 
 -- ---- the count, where a page comes or goes
 module _ (sets sets′ : List ℕ) (n : ℕ) where
