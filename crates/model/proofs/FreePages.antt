@@ -1,9 +1,8 @@
 -- What the free query says can be used (docs/MACHINE.md, 8): a free page is assigned to every known VM, and inserted.
 use Prim.Native.Nat.{ℕ, _<_}
 use mathlib.Core.Bool.{Bool, true, false, not, true≢false}
-use mathlib.Core.List.{List}
+use mathlib.Core.List.{List, _∷_}
 use mathlib.Core.Logic.{⊎-elim, _↔_}
-use mathlib.Core.Option.{some}
 use mathlib.Core.Path.{_≡_, refl, sym, _∙_}
 use native.Mathlib.Omega.{arith}
 use lib.Dec.{eqb, ltb}
@@ -35,10 +34,10 @@ use Rattle.model.specs.KnownLaws.{knows-below}
 use Rattle.model.specs.Regions.{pageIn, clashAt, notFree, claimed, insertAnswer}
 use Rattle.model.specs.Step.{control, Stepped}
 use Rattle.model.specs.Start.{Free, free}
-use Rattle.model.specs.Sequence.{operationIn}
+use Rattle.model.specs.Sequence.{vmId, operationIn}
 use Rattle.model.specs.Valid.{ValidTables, pool, shared}
 use Rattle.model.specs.Entries.{valid, not-valid, JudgedRow, JudgedFree}
-use Rattle.model.specs.Conditions.{accepts, Knows, HoldsDma, InPool, InShared, Assigns, Insertable}
+use Rattle.model.specs.Conditions.{accepts, Knows, HoldsDma, InPool, InShared, Assigns, Insertable, RowConditions}
 use Rattle.model.proofs.ViewLaws.{not-so, nowhere-else}
 use Rattle.model.proofs.Exactly.{exactly, entry-exactly}
 
@@ -91,15 +90,18 @@ pub lowest-assignable : (t : Tables) → ValidTables t → (page : PhysPage) →
     accepts (control t (op.AssignPage vm page) .answer) ≡ true
 lowest-assignable t v page e vm known = let low = lowest-free t page e in free-assignable t v vm page known (low .within) (low .free)
 
--- at the entries: where the query named a page, the row that assigns it is answered with 0
+-- as a row, and at the entries: where the query named a page, the row that assigns it is answered with 0
+pub lowest-row : (t : Tables) → ValidTables t → (page : PhysPage) → free t .lowest ≡ Page page → (vm : ℕ) → Knows t vm → (rest : List ℕ) → RowConditions t (3 ∷ vm ∷ page .0 ∷ rest)
+unfolding operationIn
+lowest-row t v page e vm known rest =
+    let low = lowest-free t page e in
+    record { operation = op.AssignPage (vmId vm) page; named = refl; conditions = free-assigns t v vm (page .0) known (low .within) (low .free) }
+
 pub lowest-answered : (s : State) (result : Free) → JudgedFree s result → (page : PhysPage) → result .lowest ≡ Page page →
-    (vm : VmId) → Knows (s .tables) (vm .0) → (row : List ℕ) → operationIn row ≡ some (op.AssignPage vm page) →
-    (stepped : Stepped) → JudgedRow s row stepped → numberOf (stepped .answer) ≡ 0
-lowest-answered s result (valid v same) page e vm known row named stepped judged =
-    let low = lowest-free (s .tables) page (rw same at e) in
-    entry-exactly s row stepped judged .1
-    (v, record { operation = op.AssignPage vm page; named = named; conditions = free-assigns (s .tables) (v .tables) (vm .0) (page .0) known (low .within) (low .free) })
-lowest-answered s result (not-valid n same) page e vm known row named stepped judged = absurd (page-nothing page (sym (rw same at e)))
+    (vm : ℕ) → Knows (s .tables) vm → (rest : List ℕ) (stepped : Stepped) → JudgedRow s (3 ∷ vm ∷ page .0 ∷ rest) stepped → numberOf (stepped .answer) ≡ 0
+lowest-answered s result (valid v same) page e vm known rest stepped judged =
+    entry-exactly s (3 ∷ vm ∷ page .0 ∷ rest) stepped judged .1 (v, lowest-row (s .tables) (v .tables) page (rw same at e) vm known rest)
+lowest-answered s result (not-valid n same) page e vm known rest stepped judged = absurd (page-nothing page (sym (rw same at e)))
 
 -- ---- operation 11 refuses no free page
 pub free-page-insertable : (t : Tables) (vm page : ℕ) → isFree (t .sets) page ≡ true → Insertable Cpu t vm page
