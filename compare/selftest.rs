@@ -46,7 +46,7 @@ const RICH: &str = "
 /// The same, then barriers, at which flaws show, a page of the pool held for DMA below one that is free, a query, and a start that
 /// is refused.
 fn script() -> String {
-    RICH.to_string() + &"25\n".repeat(200) + "13 1 32 2 1 3\nfree\nbox 8 0 9\n1 1\n1 2\n"
+    RICH.to_string() + &"25\n".repeat(300) + "13 1 32 2 1 3\nfree\nbox 8 0 9\n1 1\n1 2\n"
 }
 
 fn only_trial(script: &str) -> Trial {
