@@ -5,6 +5,7 @@
 //!     bench check                         compares answers alone
 //!     bench mixed [ROUNDS]                compares, then measures mixed rows alone
 //!     bench valid [ROUNDS]                the test for validity: compares, then measures
+//!     bench free [ROUNDS]                 the free query: the same
 //!     bench registers ONE OTHER [TURNS]   mixed rows of the library in two programs, by turns
 //!     bench library [ROUNDS]              what such a program is asked for: its own mixed rows
 
@@ -12,6 +13,7 @@ mod agree;
 mod boxes;
 mod cases;
 mod contest;
+mod free;
 mod inputs;
 mod library;
 mod measure;
@@ -30,7 +32,8 @@ const ROUNDS: usize = 200;
 const TURNS: usize = 20;
 
 const USAGE: &str = "usage: bench [ROUNDS] | bench check | bench mixed [ROUNDS] | \
-    bench valid [ROUNDS] | bench registers ONE OTHER [TURNS] | bench library [ROUNDS]";
+    bench valid [ROUNDS] | bench free [ROUNDS] | bench registers ONE OTHER [TURNS] | \
+    bench library [ROUNDS]";
 
 /// All machines held to the same answers.
 fn agreement() -> Result<(), String> {
@@ -58,6 +61,7 @@ fn carry_out(words: &[String]) -> Result<(), String> {
             validity::table(rounds);
             Ok(())
         }
+        Some("free") => free::table(rounds(1)?),
         Some("registers") => {
             let [_, one, other, rest @ ..] = words else { return Err(USAGE.to_string()) };
             let programs = [one, other].map(Path::new);

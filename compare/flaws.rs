@@ -3,11 +3,13 @@
 use second::machine::{Free, Side};
 use second::operate::Row;
 use second::script::Setup;
-use tiligormis::{Answer, Owned, DATA_BARRIER, ENTRIES, PORTS, SLOTS, STATE_NOT_VALID, UNITS};
+use tiligormis::{
+    Answer, Owned, ACCEPTED, DATA_BARRIER, ENTRIES, PORTS, SLOTS, STATE_NOT_VALID, UNITS,
+};
 
 use crate::couple::Check;
 use crate::damaged::Asked;
-use crate::pack::{pair_word, set_of, ACCESS, FILLED, POOL};
+use crate::pack::{pair_word, pool_pages, set_of, ACCESS, FILLED, POOL};
 use crate::subject::{Library, Subject};
 
 /// Where a flaw shows, and what it makes of the right result.
@@ -26,7 +28,8 @@ pub enum Place {
     Sequence(fn(&mut Owned, &mut [Answer], &mut u64)),
     /// After each sequence of more than one row.
     Batch(fn(&mut Owned, &mut [Answer], &mut u64)),
-    Free(fn(&mut Free)),
+    /// The answer of the free query.
+    Free(fn(&Owned, &mut Free)),
     Valid(fn(bool) -> bool),
 }
 
@@ -82,7 +85,7 @@ impl Subject for Flawed {
     fn free(&self) -> Free {
         let mut free = self.library.free();
         if let Place::Free(flaw) = self.place {
-            flaw(&mut free);
+            flaw(&self.library.owned, &mut free);
         }
         free
     }
@@ -115,8 +118,10 @@ pub const ANSWERS: &[Flaw<Check>] = &[
     ("batch_state", Check::Batch, "known VMs", Place::Batch(|o, _, _| o.machine.known ^= 1 << 9)),
     ("short_room", Check::Batch, "short room's number", Place::Batch(never_2)),
     ("refused_box", Check::Row, "refused box", Place::Row(change_if_refused)),
-    ("free_count", Check::Free, "free query", Place::Free(|free| free.count += 1)),
-    ("free_lowest", Check::Free, "free query", Place::Free(|free| free.lowest = None)),
+    ("free_count", Check::Free, "free query", Place::Free(|_, free| free.count += 1)),
+    ("free_lowest", Check::Free, "free query", Place::Free(|_, free| free.lowest = None)),
+    ("free_count_held", Check::Free, "free query", Place::Free(counts_held)),
+    ("free_lowest_held", Check::Free, "free query", Place::Free(lowest_held)),
     ("validity", Check::Validity, "validity", Place::Valid(|_| false)),
     ("start_number", Check::Start, "start's number", Place::Start(|_, number| *number = 3)),
     ("start_memory", Check::Start, "memory", Place::Start(|o, _| o.memory[600] = 1)),
@@ -131,6 +136,20 @@ pub const ANSWERS: &[Flaw<Check>] = &[
 fn room_beyond(_: &mut Owned, answers: &mut [Answer], _: &mut u64) {
     if let [_, beyond] = answers {
         beyond.number = 0;
+    }
+}
+
+/// Every page of the pool counts, also one held for DMA.
+fn counts_held(owned: &Owned, free: &mut Free) {
+    if free.number == ACCEPTED {
+        free.count = pool_pages(owned).count() as u64;
+    }
+}
+
+/// The lowest is that of the pool, also one held for DMA.
+fn lowest_held(owned: &Owned, free: &mut Free) {
+    if free.number == ACCEPTED {
+        free.lowest = pool_pages(owned).next();
     }
 }
 
@@ -183,7 +202,7 @@ pub const DAMAGED: &[Flaw<Asked>] = &[
     ("sequence_says_2", Asked::Sequence, "sequence's number", Place::Sequence(|_, _, n| *n *= 2)),
     ("sequence_answers", Asked::Sequence, "room of a refused sequence", Place::Sequence(answers)),
     ("sequence_changes", Asked::Sequence, "refused box", Place::Sequence(changes)),
-    ("free_accepts", Asked::Free, "free query", Place::Free(|free| free.number = 0)),
+    ("free_accepts", Asked::Free, "free query", Place::Free(|_, free| free.number = 0)),
     ("start_of_any_length", Asked::Start, "start's number", Place::Start(|_, n| *n = 0)),
     ("start_writes", Asked::Start, "refused start", Place::Start(|o, _| o.memory.push(0))),
     ("start_gives_pages", Asked::Start, "pages of a refused start", Place::Start(gives_pages)),

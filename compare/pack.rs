@@ -77,6 +77,12 @@ pub fn set_of(side: Side, vm: Vm) -> usize {
     2 + 2 * vm as usize + usize::from(side == Side::Dma)
 }
 
+/// The pages in the pool of a box.
+pub fn pool_pages(owned: &Owned) -> impl Iterator<Item = Page> + '_ {
+    let pool = &owned.sets[POOL * SET_WORDS..];
+    (0..PAGES).filter(|&page| pool[page as usize / 64] >> (page % 64) & 1 == 1)
+}
+
 /// Words into the lowest places of a table of `places`, the rest empty.
 fn table(words: impl Iterator<Item = Option<u64>>, places: usize) -> Option<Vec<u64>> {
     let mut table: Vec<u64> = words.collect::<Option<_>>()?;

@@ -33,6 +33,7 @@ const RICH: &str = "
     box 6 5 1
     unit 1 16 0 2 3 3
     unit 2 16 2 1 1 1
+    unit 1 32 2 1 3 2
     1 1\n1 2\n1 3
     11 1 16 0 2 3\n13 1 16 0 2 3\n3 2 4
     5 1 2 0\n5 1 3 1
@@ -42,9 +43,10 @@ const RICH: &str = "
     23 0 16 0 5\n24 0 17 511 7
 ";
 
-/// The same, then barriers, at which flaws show, a query, and a start that is refused.
+/// The same, then barriers, at which flaws show, a page of the pool held for DMA below one that is free, a query, and a start that
+/// is refused.
 fn script() -> String {
-    RICH.to_string() + &"25\n".repeat(200) + "free\nbox 8 0 9\n1 1\n1 2\n"
+    RICH.to_string() + &"25\n".repeat(300) + "13 1 32 2 1 3\nfree\nbox 8 0 9\n1 1\n1 2\n"
 }
 
 fn only_trial(script: &str) -> Trial {

@@ -8,7 +8,7 @@ use second::machine::PAGES;
 use tiligormis::{Owned, Slot, IDLE, PORTS, SETS, SET_WORDS, SLOTS, UNITS, VMS};
 
 use crate::damage::any;
-use crate::pack::{take, Field, ACCESS, GENERATION, LEFT, POOL, PORT, RIGHT, SHARED, VM};
+use crate::pack::{pool_pages, take, Field, ACCESS, GENERATION, LEFT, PORT, RIGHT, SHARED, VM};
 
 /// Changes a part of a box; nothing where it has not got what the change is about.
 pub type Spoil<T> = fn(&mut T, &mut Rng) -> Option<()>;
@@ -109,9 +109,7 @@ pub const SETS_AND_HEADER: &[Named<Owned>] = &[
         Some(*word_of(owned, SHARED, page) &= !(1 << (page % 64)))
     }),
     ("a page of the pool in the shared set", false, |owned, rng| {
-        let pool = &owned.sets[POOL * SET_WORDS..];
-        let free = |page: &u64| pool[*page as usize / 64] >> (page % 64) & 1 == 1;
-        let page = any(rng, (0..PAGES).filter(free))?;
+        let page = any(rng, pool_pages(owned))?;
         Some(*word_of(owned, SHARED, page) |= 1 << (page % 64))
     }),
     ("a shared span shorter than its set", false, |owned, _| {

@@ -375,8 +375,8 @@ typedef struct tiligormis_answer {
 } tiligormis_answer;
 
 typedef struct tiligormis_free_pages {
-    uint64_t count;
-    uint64_t lowest; /* TILIGORMIS_NO_PAGE where none is free */
+    uint64_t count;  /* of free pages: in the pool, and held by no VM for DMA */
+    uint64_t lowest; /* of them; TILIGORMIS_NO_PAGE where none is free */
 } tiligormis_free_pages;
 
 /* ---- Rows: a constructor for each operation ----------------------------------------------------------------------------- */
@@ -819,9 +819,10 @@ bool tiligormis_valid(const tiligormis_machine *machine, size_t machine_numbers,
                       const uint64_t *memory, size_t memory_length);
 
 /*
- * How many pages are free, that is in the pool, and the lowest of them; one that a VM holds for DMA can be assigned to that VM
- * alone. Returns 0, or 1 where the box is not valid, and then `free_pages` has count 0 and TILIGORMIS_NO_PAGE. A `free_pages`
- * that is not of 2 numbers is refused with 1 and not written.
+ * How many pages are free, that is in the pool and held by no VM for DMA, and the lowest of them, which can be assigned to every
+ * known VM. A page of the pool that a VM still holds for DMA is not free: it can be assigned to that VM alone. Where none is free
+ * `free_pages` has count 0 and TILIGORMIS_NO_PAGE. Returns 0, or 1 where the box is not valid, and then `free_pages` has the same
+ * two. A `free_pages` that is not of 2 numbers is refused with 1 and not written.
  */
 uint64_t tiligormis_free(const tiligormis_machine *machine, size_t machine_numbers, const uint64_t *sets, size_t sets_length,
                          const uint64_t *pairs, size_t pairs_length, const uint64_t *cpu_map, size_t cpu_map_length,

@@ -51,6 +51,8 @@ const POINTS: &[(&[u64], &[&str])] = &[
     (&[0], &["start 3, unit count 0", "start 3, unit guest span", "start 3, unit page span"]),
     (&[0], &["start 3, wrapping", "start 3, shared span past N"]),
     (&[0], &["start 3, empty shared span above N", "free", "free none", "free refused"]),
+    (&[0], &["free, pool page held for DMA", "free, pool page held below the lowest"]),
+    (&[0], &["free none, pool not empty"]),
     (&[0], &["operation 0", "operation past the last", "operation over 32 bits"]),
     (&[2], &["13 CPU pages alone", "13 DMA pages alone", "13 borrower's CPU mapping"]),
     (&[2], &["13 DMA mappings alone", "13 edges alone", "13 a CPU alone", "13 a device alone"]),
@@ -130,7 +132,7 @@ impl Coverage {
                     record.rows += 1;
                     *record.answers.entry((row[0], 1)).or_default() += 1;
                 }
-                Event::Free => record.free(machine.free()),
+                Event::Free => record.free(&machine),
                 Event::Bad => record.unread += 1,
             }
         }
@@ -183,10 +185,18 @@ impl Coverage {
         }
     }
 
-    fn free(&mut self, free: Free) {
+    fn free(&mut self, m: &Machine) {
+        let free = m.free();
+        let none = free.number == 0 && free.lowest.is_none();
+        let held: Vec<Page> = m.pool.iter().copied().filter(|&page| m.dma.held(page)).collect();
+        let some_held = free.lowest.is_some() && !held.is_empty();
+        let below = free.lowest.is_some_and(|lowest| held.iter().any(|&page| page < lowest));
         self.hit(0, "free", free.lowest.is_some());
-        self.hit(0, "free none", free.number == 0 && free.lowest.is_none());
+        self.hit(0, "free none", none);
         self.hit(0, "free refused", free.number == 1);
+        self.hit(0, "free, pool page held for DMA", some_held);
+        self.hit(0, "free, pool page held below the lowest", below);
+        self.hit(0, "free none, pool not empty", none && !m.pool.is_empty());
     }
 }
 
@@ -506,7 +516,7 @@ impl Coverage {
         };
         match (op, number) {
             (11, 6) => {
-                self.hit(11, "6 a VM's page", m.cpu.owned.values().any(|p| p.contains(&page)));
+                self.hit(11, "6 a VM's page", m.cpu.held(page));
                 self.hit(11, "6 shared span", m.shared.contains(page));
             }
             (12 | 14, 9) => {

@@ -16,7 +16,7 @@ const SLOT_COUNT: u64 = SLOTS as u64;
 const LAST_WORD: u64 = WORDS - 1;
 
 /// Every scenario with its name.
-pub const SCENARIOS: [(&str, fn(&mut Author)); 21] = [
+pub const SCENARIOS: [(&str, fn(&mut Author)); 22] = [
     ("starts that are refused", refused_starts),
     ("starts at the edge", edge_starts),
     ("numbers out of range", ranges),
@@ -37,6 +37,7 @@ pub const SCENARIOS: [(&str, fn(&mut Author)); 21] = [
     ("dropped slots", drops),
     ("guest accesses", accesses),
     ("clearing", clearing),
+    ("free pages", free_pages),
     ("sizes", sizes),
 ];
 
@@ -52,6 +53,12 @@ fn refused(a: &mut Author, number: u64, size: [u64; 3], units: &[UnitNumbers]) {
         a.expect(1, &row);
     }
     a.free();
+}
+
+/// Asks for the free pages, of which the count and the lowest are known.
+fn free(a: &mut Author, count: u64, lowest: Option<Page>) {
+    a.free();
+    assert_eq!(a.machine.free(), Free { number: 0, count, lowest }, "the end of\n{}", a.text);
 }
 
 /// Adds VMs.
@@ -925,6 +932,48 @@ fn clearing_by_reclaim(a: &mut Author) {
     a.expect_word(0, &[21, 1, 104, LAST_WORD]);
     a.expect_word(43, &[21, 0, 103, LAST_WORD]);
     a.expect_word(55, &[21, 0, 105, 0]);
+}
+
+/// The pool has pages that are not free: those that a VM holds for DMA.
+fn free_pages(a: &mut Author) {
+    a.note("a pool page held for DMA is not counted, mapped or not, until its VM gives it up");
+    open(a, 8, 7, 1, &[[1, 16, 4, 1, 3, 2]]);
+    add(a, &[1, 2]);
+    free(a, 7, Some(0));
+    a.expect(0, &[13, 1, 16, 4, 1, 3]);
+    free(a, 6, Some(0));
+    a.expect(7, &[3, 2, 4]);
+    a.expect(0, &[10, 1, 16]);
+    free(a, 6, Some(0));
+    a.expect(0, &[8, 1, 16, 4, 3]);
+    a.note("its own VM takes it and gives it back: not free before, between or after");
+    a.expect(0, &[3, 1, 4]);
+    free(a, 6, Some(0));
+    a.expect(0, &[4, 1, 4]);
+    free(a, 6, Some(0));
+    a.expect(0, &[14, 1, 16, 4, 1, 3]);
+    free(a, 7, Some(0));
+    a.note("the lowest passes over pages held for DMA, and is one that can be assigned");
+    for held in [3, 63, 64, 65] {
+        open(a, 67, 66, 1, &[[1, 16, 0, held, 3, 3]]);
+        add(a, &[1, 2]);
+        for operation in [11, 13, 12] {
+            a.expect(0, &[operation, 1, 16, 0, held, 3]);
+        }
+        free(a, 66 - held, Some(held));
+        a.expect(7, &[3, 2, held - 1]);
+        a.expect(0, &[3, 2, held]);
+    }
+    a.note("none is free though the pool has pages");
+    open(a, 3, 2, 1, &[[1, 16, 0, 2, 3, 2]]);
+    add(a, &[1, 2]);
+    a.expect(0, &[13, 1, 16, 0, 2, 3]);
+    free(a, 0, None);
+    a.expect(7, &[3, 2, 0]);
+    a.expect(0, &[3, 1, 0]);
+    free(a, 0, None);
+    a.expect(0, &[14, 1, 16, 0, 2, 3]);
+    free(a, 1, Some(1));
 }
 
 /// Boxes of many sizes, above all those near whole 64-bit words of pages.

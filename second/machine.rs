@@ -108,6 +108,11 @@ impl Half {
         self.owned.get(&vm).is_some_and(|pages| pages.contains(&page))
     }
 
+    /// Some VM holds `page` on this side.
+    pub fn held(&self, page: Page) -> bool {
+        self.owned.values().any(|pages| pages.contains(&page))
+    }
+
     /// A VM other than `vm` holds `page` on this side.
     pub fn other_holds(&self, vm: Vm, page: Page) -> bool {
         self.owned.iter().any(|(&holder, pages)| holder != vm && pages.contains(&page))
@@ -297,13 +302,18 @@ impl Machine {
         })
     }
 
-    /// How many pages are in the pool and which is the lowest.
+    /// A page is free when it lies in the pool and no VM holds it for DMA.
+    pub fn is_free(&self, page: Page) -> bool {
+        self.pool.contains(&page) && !self.dma.held(page)
+    }
+
+    /// How many pages are free and which is the lowest.
     pub fn free(&self) -> Free {
         if !valid::is_valid(self) {
             return Free { number: 1, count: 0, lowest: None };
         }
-        let lowest = self.pool.first().copied();
-        Free { number: 0, count: self.pool.len() as u64, lowest }
+        let free: BTreeSet<Page> = (0..self.pages).filter(|&page| self.is_free(page)).collect();
+        Free { number: 0, count: free.len() as u64, lowest: free.first().copied() }
     }
 
     pub fn half(&self, side: Side) -> &Half {

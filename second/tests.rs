@@ -1,5 +1,5 @@
-//! Tests: the worked table, entries, validity, the script format, the suite,
-//! the log.
+//! Tests: the worked table, entries, effects, free pages, validity, the script
+//! format, the suite, the log.
 
 use std::collections::BTreeSet;
 
@@ -41,6 +41,13 @@ fn go(m: &mut Machine, numbers: &[u64]) -> u64 {
     answer(m, numbers).number
 }
 
+/// The count of the free pages and the lowest.
+fn free(m: &Machine) -> (u64, Option<u64>) {
+    let free = m.free();
+    assert_eq!(free.number, 0);
+    (free.count, free.lowest)
+}
+
 fn output_of(script: &[u8]) -> String {
     let mut output = Vec::new();
     run(script, &mut output).expect("memory can be read and written");
@@ -49,10 +56,6 @@ fn output_of(script: &[u8]) -> String {
 
 mod worked_table {
     use super::*;
-
-    fn free(m: &Machine) -> (u64, Option<u64>) {
-        (m.free().count, m.free().lowest)
-    }
 
     #[test]
     fn c1_to_c3() {
@@ -71,6 +74,7 @@ mod worked_table {
         assert_eq!(answer(&mut m, &[11, 2, 16, 2, 2, 3]).numbers(), [6, 0, 0, 0]);
         assert_eq!(go(&mut m, &[13, 1, 16, 0, 3, 3]), 0);
         assert_eq!(go(&mut m, &[12, 1, 16, 0, 3, 3]), 0);
+        assert_eq!(free(&m), (4, Some(3)));
         assert_eq!(answer(&mut m, &[11, 2, 16, 2, 2, 3]).numbers(), [7, 0, 0, 0]);
     }
 
@@ -324,6 +328,88 @@ mod effects {
         assert!(m.memory.iter().all(|&word| word == 0 || word == 6));
         assert_eq!(go(&mut m, &[4, 1, 1]), 0);
         assert_eq!(m.memory[Machine::address(1, 0)..Machine::address(2, 0)], EMPTY);
+    }
+}
+
+mod free_pages {
+    use super::*;
+
+    /// Eight pages, the last one shared, a unit for VM 1's DMA, and VMs 1 and 2.
+    fn with_dma(page: u64, count: u64) -> Machine {
+        let (shared, unit) = (Span { base: 7, count: 1 }, [1, 16, page, count, 3, 2]);
+        let (_, mut m) = Machine::start(8, shared, &[unit], Lent::fitting(8));
+        for row in [&[1, 1][..], &[1, 2], &[13, 1, 16, page, count, 3]] {
+            assert_eq!(go(&mut m, row), 0);
+        }
+        assert_eq!(m.pool, (0..7).collect());
+        m
+    }
+
+    #[test]
+    fn what_a_vm_holds_for_dma_is_not_counted() {
+        let mut m = with_dma(3, 2);
+        assert_eq!(free(&m), (5, Some(0)));
+        let pages: Vec<u64> = (0..9).filter(|&page| m.is_free(page)).collect();
+        assert_eq!(pages, [0, 1, 2, 5, 6]);
+        // It becomes free neither by an unmap nor as a CPU page of its VM.
+        let rows: [(&[u64], u64); 5] = [
+            (&[10, 1, 16], 5),
+            (&[8, 1, 16, 3, 3], 5),
+            (&[3, 1, 3], 5),
+            (&[14, 1, 16, 3, 2, 3], 6),
+            (&[4, 1, 3], 7),
+        ];
+        for (row, count) in rows {
+            assert_eq!(go(&mut m, row), 0);
+            assert_eq!(free(&m), (count, Some(0)), "after {row:?}");
+        }
+    }
+
+    #[test]
+    fn the_lowest_passes_over_what_is_held_for_dma() {
+        let mut m = with_dma(0, 2);
+        assert_eq!(free(&m), (5, Some(2)));
+        assert_eq!([1, 2].map(|page| go(&mut m, &[3, 2, page])), [7, 0]);
+        assert_eq!(free(&m), (4, Some(3)));
+        assert_eq!(go(&mut m, &[14, 1, 16, 0, 2, 3]), 0);
+        assert_eq!(free(&m), (6, Some(0)));
+    }
+
+    #[test]
+    fn none_is_free_though_the_pool_has_pages() {
+        let mut m = with_dma(0, 7);
+        assert_eq!(m.free(), Free { number: 0, count: 0, lowest: None });
+        assert_eq!(go(&mut m, &[3, 1, 5]), 0);
+        assert_eq!(m.free(), Free { number: 0, count: 0, lowest: None });
+        assert_eq!(go(&mut m, &[14, 1, 16, 0, 7, 3]), 0);
+        assert_eq!(free(&m), (6, Some(0)));
+    }
+
+    /// Every known VM could be assigned the page.
+    fn assignable_to_all(m: &Machine, page: u64) -> bool {
+        m.known.iter().all(|&vm| m.verdict(&[3, vm, page, 0, 0, 0, 0, 0]).number == 0)
+    }
+
+    /// Where there are two VMs or more, these are just the free pages.
+    #[test]
+    fn free_is_what_every_vm_could_be_assigned() {
+        let (mut m, mut asked, mut held) = (Machine::empty(), 0, 0);
+        let scripts: String = (0..8).map(|seed| generate(seed, 1500)).collect();
+        for event in Events::new(scripts.as_bytes()) {
+            match event.expect("memory reads").1 {
+                Event::Start(setup) => m = setup.start().1,
+                Event::Row(row) => drop(m.apply(&row)),
+                Event::Free if m.known.len() >= 2 => {
+                    let pages = (0..m.pages).filter(|&page| assignable_to_all(&m, page));
+                    let pages: Vec<u64> = pages.collect();
+                    assert_eq!(free(&m), (pages.len() as u64, pages.first().copied()));
+                    asked += 1;
+                    held += u64::from(pages.len() < m.pool.len());
+                }
+                _ => {}
+            }
+        }
+        assert!(asked > 100 && held > 20, "asked {asked} times, {held} with pages held for DMA");
     }
 }
 

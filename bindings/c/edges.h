@@ -100,6 +100,8 @@ uint64_t start_with(const struct parts *lent, uint64_t pages, uint64_t shared_ba
 uint64_t start(const struct parts *lent);
 uint64_t operation(const struct parts *lent, size_t row_length, size_t answer_numbers);
 uint64_t sequence(const struct parts *lent, size_t rows_length, size_t answers_length);
+/* Operations on the whole box, one after the other; 0 where all are accepted. */
+uint64_t carry_out(const uint64_t rows[][TILIGORMIS_ROW_NUMBERS], size_t count);
 uint64_t free_pages(const struct parts *lent, size_t free_numbers);
 uint64_t log_write(size_t row_length, size_t log_length, size_t place_length);
 uint64_t log_read(size_t log_length, size_t place_length, size_t row_length);
@@ -153,6 +155,8 @@ bool all_refuse(const struct parts *lent);
     TEST(answers_long)                                                                                                         \
     TEST(no_rows)                                                                                                              \
     TEST(free_lengths)                                                                                                         \
+    TEST(free_held)                                                                                                            \
+    TEST(free_none)                                                                                                            \
     TEST(start_unit_lengths)                                                                                                   \
     TEST(start_marks)                                                                                                          \
     TEST(start_pages)                                                                                                          \

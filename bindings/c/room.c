@@ -58,6 +58,15 @@ uint64_t replay(const struct parts *lent, size_t log_length, uint64_t most, size
     return replay_with(lent, log_length, 1, most, answers_length, 1);
 }
 
+uint64_t carry_out(const uint64_t rows[][TILIGORMIS_ROW_NUMBERS], size_t count) {
+    uint64_t refused = TILIGORMIS_ACCEPTED;
+    for (size_t k = 0; k < count; k++) {
+        memcpy(room.rows + GUARD, rows[k], sizeof *rows);
+        refused |= operation(&box, TILIGORMIS_ROW_NUMBERS, TILIGORMIS_ANSWER_NUMBERS);
+    }
+    return refused;
+}
+
 bool make_whole(void) {
     static const tiligormis_unit units[UNIT_COUNT] = {{1, 16, 0, 3, 3, TILIGORMIS_MARK_BOTH},
                                                       {2, 16, 2, 2, 3, TILIGORMIS_MARK_CPU}};
@@ -80,10 +89,7 @@ bool make_whole(void) {
     memset(&room, 0xa5, sizeof room);
     memcpy(&room.units[SECOND], units, sizeof units);
     uint64_t refused = start(&box);
-    for (size_t k = 0; k < sizeof work / sizeof *work; k++) {
-        memcpy(room.rows + GUARD, work[k], sizeof *work);
-        refused |= operation(&box, TILIGORMIS_ROW_NUMBERS, TILIGORMIS_ANSWER_NUMBERS);
-    }
+    refused |= carry_out(work, sizeof work / sizeof *work);
     memset(&whole, 0xa5, sizeof whole);
     memcpy(&whole.units[SECOND], units, sizeof units);
     memcpy(whole.rows + GUARD, rows, sizeof rows);

@@ -1,4 +1,4 @@
-/* Rows, answers and the free query's result of other lengths. */
+/* Rows, answers and the free query's result of other lengths; what that query gives. */
 #include "edges.h"
 
 #include <string.h>
@@ -80,4 +80,36 @@ bool free_lengths(void) {
         good &= holds(number == TILIGORMIS_STATE_NOT_VALID && as_expected(), "free pages", lengths[k]);
     }
     return good;
+}
+
+/* The query alone changes the room, and gives these numbers. */
+static bool free_are(uint64_t count, uint64_t lowest) {
+    expected = room;
+    expected.free_pages[SECOND] = (tiligormis_free_pages){count, lowest};
+    return holds(free_pages(&box, TILIGORMIS_FREE_NUMBERS) == TILIGORMIS_ACCEPTED && as_expected(), "free pages", count);
+}
+
+/* The worked table's C5: pages 0 to 2 are in the pool again, but VM 1 holds them for DMA. The lowest goes to VM 2. */
+bool free_held(void) {
+    static const uint64_t rows[][TILIGORMIS_ROW_NUMBERS] = {
+        {TILIGORMIS_ADD_VM, 1},
+        {TILIGORMIS_ADD_VM, 2},
+        {TILIGORMIS_INSERT_REGION, 1, 16, 0, 3, 3},
+        {TILIGORMIS_DMA_INSERT_REGION, 1, 16, 0, 3, 3},
+        {TILIGORMIS_REMOVE_REGION, 1, 16, 0, 3, 3},
+    };
+    static const uint64_t held[][TILIGORMIS_ROW_NUMBERS] = {{TILIGORMIS_ASSIGN_PAGE, 2, 2}};
+    static const uint64_t lowest[][TILIGORMIS_ROW_NUMBERS] = {{TILIGORMIS_ASSIGN_PAGE, 2, 3}};
+    bool good = start(&box) == TILIGORMIS_ACCEPTED && free_are(7, 0);
+    good &= carry_out(rows, sizeof rows / sizeof *rows) == TILIGORMIS_ACCEPTED && free_are(4, 3);
+    good &= carry_out(held, 1) == TILIGORMIS_PAGE_CLAIMED && free_are(4, 3);
+    return good && carry_out(lowest, 1) == TILIGORMIS_ACCEPTED && free_are(3, 4);
+}
+
+/* All that is in the pool is held for DMA, so none is free. */
+bool free_none(void) {
+    static const uint64_t rows[][TILIGORMIS_ROW_NUMBERS] = {{TILIGORMIS_ADD_VM, 1}, {TILIGORMIS_DMA_INSERT_REGION, 1, 16, 0, 7, 3}};
+    room.units[SECOND] = (tiligormis_unit){1, 16, 0, 7, 3, TILIGORMIS_MARK_DMA};
+    bool good = start_with(&box, PAGES, SHARED_BASE, TILIGORMIS_UNIT_NUMBERS) == TILIGORMIS_ACCEPTED;
+    return good && carry_out(rows, sizeof rows / sizeof *rows) == TILIGORMIS_ACCEPTED && free_are(0, TILIGORMIS_NO_PAGE);
 }

@@ -211,7 +211,8 @@ impl Lent<'_> {
         self.shared().valid()
     }
 
-    /// The pages in the pool; refused with [`Refusal::StateNotValid`] where the box is not valid.
+    /// The free pages: those in the pool that no VM holds for DMA. Refused with
+    /// [`Refusal::StateNotValid`] where the box is not valid.
     pub fn free(&self) -> Result<FreePages, Refusal> {
         self.shared().free()
     }
@@ -239,7 +240,8 @@ impl LentRef<'_> {
         call!(tiligormis_valid, self, as_ptr)
     }
 
-    /// The pages in the pool; refused with [`Refusal::StateNotValid`] where the box is not valid.
+    /// The free pages: those in the pool that no VM holds for DMA. Refused with
+    /// [`Refusal::StateNotValid`] where the box is not valid.
     pub fn free(self) -> Result<FreePages, Refusal> {
         let mut pages = FreePages { count: 0, lowest: NO_PAGE };
         Refusal::accepted(call!(tiligormis_free, self, as_ptr, &mut pages, FREE_NUMBERS))?;

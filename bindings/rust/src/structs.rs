@@ -68,17 +68,17 @@ pub struct Answer {
     pub word: u64,
 }
 
-/// The free query's result.
+/// The free query's result. A page is free that is in the pool and that no VM holds for DMA.
 #[repr(C)]
 #[derive(Clone, Copy, Debug, PartialEq, Eq)]
 pub struct FreePages {
-    /// Pages in the pool.
+    /// How many pages are free.
     pub count: u64,
     pub(crate) lowest: u64,
 }
 
 impl FreePages {
-    /// The lowest page in the pool, if there is one.
+    /// The lowest free page, if there is one; it can be assigned to every known VM.
     pub fn lowest(self) -> Option<u64> {
         (self.lowest != NO_PAGE).then_some(self.lowest)
     }

@@ -1,25 +1,27 @@
 -- What the library leaves in a box of slots: the model's new state, in a valid box; and after a refused start a box that no other entry
--- takes. When a row is accepted, and demand 3, of the library's own contracts. `BoxesKept`, `BoxesExact` and `BoxesSecret` say it for
--- caches whose words can be read again, and slots are such.
-use Prim.Native.Nat.{ℕ, _*_, _<_}
+-- takes. When a row is accepted, that the lowest free page can be assigned, and demand 3, of the library's own contracts. `BoxesKept`,
+-- `BoxesExact`, `BoxesFree` and `BoxesSecret` say it for caches whose words can be read again, and slots are such.
+use Prim.Native.Nat.{ℕ, _+_, _*_, _<_}
 use mathlib.Core.Bool.{Bool}
 use mathlib.Core.List.{List, [], _∷_}
 use mathlib.Core.Logic.{_↔_}
 use mathlib.Core.Path.{_≡_, refl}
 use lib.Dec.{eqb}
 use lib.ListN.{length, getD}
-use Rattle.numbers.specs.Limits.{ANSWER-NUMBERS}
+use Rattle.numbers.specs.Limits.{ROW-NUMBERS, ANSWER-NUMBERS}
 use Rattle.numbers.specs.declared.Answer.the-variants.{Refused}
 use Rattle.numbers.specs.declared.Refusal.{Refusal}
-use Rattle.model.specs.Conditions.{RowConditions}
+use Rattle.model.specs.Conditions.{Knows, RowConditions}
 use Rattle.model.specs.Effect.{accepted}
 use Rattle.model.specs.Secrecy.{PrivateTo, Private}
 use Rattle.model.specs.Sequence.{rowAt, rowCount, stepRow, after, sequence}
-use Rattle.model.specs.Start.{Told, startAnswer, start}
+use Rattle.model.specs.Start.{Told, startAnswer, start, freeRefused}
+use Rattle.box_header.specs.Numbers.{NO-PAGE}
 use Rattle.box_cores.specs.Boxes.{Box, BoxValid, stateIn, lentIn}
 use Rattle.box_laws.specs.BoxSecrecy.{BoxesAlike, Calls, AllAlike, OperationSecret, SequenceSecret, FreeSecret, OperationOwnWrite, SequenceOwnWrite}
-use Rattle.box_cores.specs.Given.{Judgement, Given, OperationAsked, operationGives, operationRefused, sequenceGives, refusedWhole, startGives, HeaderWhole}
+use Rattle.box_cores.specs.Given.{Judgement, Given, OperationAsked, operationGives, operationRefused, sequenceGives, refusedWhole, FreeGiven, FreeAsked, freeGives, freeTold, startGives, HeaderWhole}
 use Rattle.box_laws.proofs.BoxesExact.{NumberListed, Answered, operation-exactly, operation-listed, operation-answered, sequence-exactly, sequence-answered}
+use Rattle.box_laws.proofs.BoxesFree.{lowestIn, assignLowest, lowest-assigned}
 use Rattle.box_laws.proofs.BoxesKept.{operation-state, operation-box-valid, sequence-state, sequence-box-valid, start-state, start-box-valid, refused-box-not-valid}
 use Rattle.box_laws.proofs.BoxesSecret.{of-set, of-one, operation-secret, calls-secret, sequence-secret, free-secret, operation-own-write, sequence-own-write}
 use Rattle.slots.specs.SlotLaws.{word-of-slot}
@@ -73,6 +75,15 @@ module _ (b : Box (List Slot)) where
   pub sequence-slots-answered : (rows room : List ℕ) (r : Given (List Slot)) → Judgement (BoxValid words b) (sequenceGives words slotsOf b rows room) (refusedWhole b room) r → r .number ≡ 0 →
       (k : ℕ) → k < rowCount rows → Answered (rowAt rows k) (r .room) (k * ANSWER-NUMBERS)
   sequence-slots-answered = sequence-answered words slotsOf b
+
+-- ---- what `tiligormis_free` names `tiligormis_operation` assigns to every known VM
+module _ (b : Box (List Slot)) where
+  pub lowest-slots-assigned :
+      (room : List ℕ) (f : FreeGiven) → Judgement (FreeAsked words b room) (freeGives words b room) (freeTold room freeRefused) f → f .number ≡ 0 → (lowestIn f ≡ NO-PAGE → ⊥) →
+      (vm : ℕ) → Knows (stateIn words b .tables) vm → (rest answers : List ℕ) → length rest + 3 ≡ ROW-NUMBERS → length answers ≡ ANSWER-NUMBERS →
+      (r : Given (List Slot)) → Judgement (OperationAsked words b (assignLowest f vm rest) answers) (operationGives words slotsOf b (assignLowest f vm rest) answers) (operationRefused b answers) r →
+      r .number ≡ 0
+  lowest-slots-assigned = lowest-assigned words slotsOf b
 
 -- ---- demand 3 for a set of VMs
 module _ (members : ℕ → Bool) where

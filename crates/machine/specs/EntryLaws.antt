@@ -1,9 +1,9 @@
 -- What a valid state gives to the functions behind the entries.
-use Prim.Native.Nat.{ℕ, _≤_}
+use Prim.Native.Nat.{ℕ, _*_, _≤_}
 use mathlib.Core.List.{List}
 use native.Mathlib.Omega.{arith}
 use lib.ListN.{length}
-use Rattle.numbers.specs.Limits.{PAGES, SET-WORDS}
+use Rattle.numbers.specs.Limits.{PAGES, SETS, SET-WORDS}
 use Rattle.model.specs.Header.{stateOf}
 use Rattle.model.specs.Valid.{Valid}
 use Rattle.model.specs.declared.Machine.{Machine}
@@ -18,6 +18,6 @@ module _ (m : Machine) (sets pairs cpuMap cpuWalker cpuCache dmaMap dmaWalker dm
         few-units = v .tables .setup .unit-count;
       }
 
-  -- and so may the searches of the pool
-  pub free-asks : (m .fixed .pages ≤ PAGES) × (SET-WORDS ≤ length sets)
+  -- and so may the searches for free pages
+  pub free-asks : (m .fixed .pages ≤ PAGES) × (SETS * SET-WORDS ≤ length sets)
   free-asks = (v .tables .setup .most-pages, omega (arith, v .tables .lengths .sets))

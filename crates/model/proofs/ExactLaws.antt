@@ -1,7 +1,6 @@
--- Chains of checks and searches as exact tests: a chain accepts just where nothing that it refuses holds.
+-- Chains of checks as exact tests: a chain accepts just where nothing that it refuses holds.
 use Prim.Native.Nat.{ℕ, _<_}
 use mathlib.Core.Bool.{Bool, true, false, not}
-use mathlib.Core.List.{List}
 use mathlib.Core.Logic.{⊎-elim}
 use mathlib.Core.Path.{_≡_}
 use lib.Dec.{ltb}
@@ -13,9 +12,8 @@ use Rattle.numbers.specs.DecidesLaws.{says-no, refutes, decides-as, decides-not
 use Rattle.numbers.specs.declared.Answer.{Answer}
 use Rattle.numbers.specs.declared.Answer.the-variants.{Accepted, Refused}
 use Rattle.numbers.specs.declared.Refusal.{Refusal}
-use Rattle.table.specs.Scan.{any, anyBelow, lowest}
-use Rattle.table.specs.ScanLaws.{has-any, any-true, below-any, any-below-true, lowest-found, lowest-none}
-use Rattle.table.specs.Table.{Has}
+use Rattle.table.specs.Scan.{lowest}
+use Rattle.table.specs.ScanLaws.{lowest-found, lowest-none}
 use Rattle.numbers.specs.declared.Region.{Region}
 use Rattle.model.specs.Conditions.{accepts}
 use Rattle.model.specs.Effect.{acceptedDropping, andThen}
@@ -71,13 +69,3 @@ no-clash fails F region refusal next {Q = Q} d e = ⊎-elim found none (cases (l
     none f =
         let h = ltb-false (lowest fails (region .count)) (region .count) f in
         rw f (decides-as e (λ q. (λ k l. refutes (d k l) (lowest-none fails (region .count) h k l), q)) (λ p. p .1))
-
--- ---- searches
--- some word of a table passes, where an empty one does not
-pub some-word : (p : ℕ → Bool) (P : ℕ → Type 0) (ws : List ℕ) → p 0 ≡ false → ((w : ℕ) → Has ws w → Decides (p w) (P w)) → Decides (any p ws) ((w : ℕ) × Has ws w × P w)
-some-word p P ws empty d =
-    record { sound = λ t. let (w, h, e) = any-true p ws empty t in (w, h, d w h .sound e); complete = λ r. has-any p ws (r .0) (r .1) (d (r .0) (r .1) .complete (r .2)) }
-
-pub some-below : (p : ℕ → Bool) (P : ℕ → Type 0) (n : ℕ) → ((k : ℕ) → k < n → Decides (p k) (P k)) → Decides (anyBelow p n) ((k : ℕ) × (k < n) × P k)
-some-below p P n d =
-    record { sound = λ t. let (k, h, e) = any-below-true p n t in (k, h, d k h .sound e); complete = λ r. below-any p n (r .0) (r .1) (d (r .0) (r .1) .complete (r .2)) }

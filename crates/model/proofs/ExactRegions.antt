@@ -15,6 +15,7 @@ use Rattle.numbers.specs.Packing.{vmOf, guestOf, pageOf, accessOf, generationOf
 use Rattle.numbers.specs.PackingLaws.{entry-fits, entry-page, entry-access, entry-generation, word-vm, word-guest, word-page, word-access, word-generation, key-same}
 use Rattle.numbers.specs.declared.Side.{Side}
 use Rattle.numbers.specs.declared.Side.the-variants.{Cpu, Dma}
+use Rattle.table.specs.ScanLaws.{some-below}
 use Rattle.table.specs.Table.{Has, lookup, freeEntries}
 use Rattle.table.specs.TableLaws.{lookup-has}
 use Rattle.units.specs.Units.{suits, isUnit, noUnit, assignable}
@@ -27,7 +28,7 @@ use Rattle.model.specs.Start.{unitRegion}
 use Rattle.model.specs.Regions.{pageIn, guestIn, keyIn, regionEntry, regionEarly, notFree, claimed, inUse, insertAnswer, removeMay, removeAnswer}
 use Rattle.model.specs.Conditions.{accepts, Claims, Edge, Maps, Mapped, IsUnit, RegionGood, Insertable, Inserts, Unshared, Removes}
 use Rattle.model.proofs.OneRoute.{route-of}
-use Rattle.model.proofs.ExactLaws.{where-so, after-early, after-check, no-clash, some-below, dropping-exact}
+use Rattle.model.proofs.ExactLaws.{where-so, after-early, after-check, no-clash, dropping-exact}
 use Rattle.model.proofs.ExactViews.{claimed-exact, mapped-exact, targets-exact, edge-on-exact, map-key, whole, mapped-lookup, mapping}
 
 -- ---- units

@@ -17,7 +17,7 @@ use Rattle.numbers.specs.Packing.{portOf, vmOf, guestOf, filledOf, pageOf, acce
 use Rattle.numbers.specs.PackingLaws.{entry-whole, word-key, word-whole, key-same, key-filled, pair-same, pair-either, parts-fit}
 use Rattle.numbers.specs.declared.Side.{Side}
 use Rattle.numbers.specs.declared.Side.the-variants.{Cpu, Dma}
-use Rattle.table.specs.ScanLaws.{any-at, any-here}
+use Rattle.table.specs.ScanLaws.{any-at, any-here, some-word, some-below}
 use Rattle.table.specs.Table.{Has, find, place, lookup, isFound, orElse, lowestFree, freeEntries}
 use Rattle.table.specs.TableLaws.{find-at, find-none, has-lookup, lookup-has, free-place, place-free}
 use Rattle.table.specs.declared.Found.{Found}
@@ -27,7 +27,6 @@ use Rattle.model.specs.State.{Tables}
 use Rattle.model.specs.Views.{claims, claimedElsewhere, hasPages, onPage, ofVm, joins, isFilled, shares, edgeOn, edgeOf, paired, targeted, hasMappings, mayMap, onPort, whichever}
 use Rattle.model.specs.Valid.{ValidTables, PairGood, MapGood}
 use Rattle.model.specs.Conditions.{Edge, Maps, Mapped, Targets, MayMap}
-use Rattle.model.proofs.ExactLaws.{some-word, some-below}
 
 -- ---- page sets
 pub claimed-exact : (side : Side) (sets : List ℕ) (vm page : ℕ) →

@@ -28,6 +28,7 @@ pub mod ExactLedger
 pub mod ExactMaps
 pub mod ExactRegions
 pub mod Exactly
+pub mod FreePages
 pub mod Determined
 pub mod Answers
 pub mod AnswerNumbers

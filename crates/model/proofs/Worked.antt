@@ -104,12 +104,13 @@ cases =
     ∷ (row (11 ∷ 2 ∷ 16 ∷ 2 ∷ 2 ∷ 3 ∷ []) ⟼ 6 ∷ 0 ∷ 0 ∷ 0 ∷ [])
     ∷ [])
     ∷
-    -- C5: in the pool again, but still VM 1's for DMA
+    -- C5: in the pool again, but still VM 1's for DMA, so neither free nor another VM's to take
     ((row (1 ∷ 1 ∷ []) ⟼ 0 ∷ 0 ∷ 0 ∷ 0 ∷ [])
     ∷ (row (1 ∷ 2 ∷ []) ⟼ 0 ∷ 0 ∷ 0 ∷ 0 ∷ [])
     ∷ (row (11 ∷ 1 ∷ 16 ∷ 0 ∷ 3 ∷ 3 ∷ []) ⟼ 0 ∷ 0 ∷ 0 ∷ 0 ∷ [])
     ∷ (row (13 ∷ 1 ∷ 16 ∷ 0 ∷ 3 ∷ 3 ∷ []) ⟼ 0 ∷ 0 ∷ 0 ∷ 0 ∷ [])
     ∷ (row (12 ∷ 1 ∷ 16 ∷ 0 ∷ 3 ∷ 3 ∷ []) ⟼ 0 ∷ 0 ∷ 0 ∷ 0 ∷ [])
+    ∷ (query ⟼ 4 ∷ 3 ∷ [])
     ∷ (row (11 ∷ 2 ∷ 16 ∷ 2 ∷ 2 ∷ 3 ∷ []) ⟼ 7 ∷ 0 ∷ 0 ∷ 0 ∷ [])
     ∷ [])
     ∷

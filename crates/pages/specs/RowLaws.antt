@@ -1,9 +1,9 @@
--- Laws of the page sets: what adding and removing a page changes, and what the free count and the lowest free page say of the pool.
+-- Laws of the page sets: what adding and removing a page changes, when a page is free, and what the free count and the lowest free page say.
 use Prim.Native.Nat.{ℕ, zero, suc, _+_, _*_, _%_, _≤_, _<_}
-use mathlib.Core.Bool.{Bool, true, false}
+use mathlib.Core.Bool.{Bool, true, false, true≢false, and-true, and-false}
 use mathlib.Core.List.{List}
 use mathlib.Core.Logic.{⊎-elim}
-use mathlib.Core.Path.{_≡_, refl, sym}
+use mathlib.Core.Path.{_≡_, refl, sym, _∙_}
 use native.Mathlib.Omega.{arith}
 use native.Mathlib.Numerals.{add-one}
 use borrow.Author.Count.{below-more}
@@ -11,10 +11,13 @@ use borrow.Author.Tests.{eq-eqb, ne-eqb, eqb-true, eqb-false}
 use lib.Dec.{eqb}
 use lib.ListN.{length}
 use Rattle.numbers.specs.CaseLaws.{cases, equal}
-use Rattle.numbers.specs.Limits.{PAGES, SET-WORDS}
+use Rattle.numbers.specs.Decides.{Decides}
+use Rattle.numbers.specs.DecidesLaws.{decides-itself, decides-and, decides-not, same-answer}
+use Rattle.numbers.specs.Limits.{PAGES, SET-WORDS, VMS}
 use Rattle.numbers.specs.declared.Lowest.the-variants.{Page, Nothing}
 use Rattle.numbers.specs.declared.PhysPage.{PhysPage}
-use Rattle.table.specs.Scan.{countBelow, lowest, lowestFrom}
+use Rattle.table.specs.Scan.{countBelow, lowest}
+use Rattle.table.specs.ScanLaws.{lowest-within, lowest-found, lowest-none, some-below}
 use Rattle.pages.specs.BitLaws.{
   below-or,
   contains-insert-same,
@@ -24,7 +27,7 @@ use Rattle.pages.specs.BitLaws.{
   length-insert,
   length-delete,
 }
-use Rattle.pages.specs.Rows.{poolRow, holds, add, remove, freeCount, lowestOf, lowestFree}
+use Rattle.pages.specs.Rows.{poolRow, dmaRow, holds, add, remove, heldForDma, isFree, freeCount, lowestOf, lowestFree}
 
 -- ---- a page of a row
 -- a row begins with a word of its own, so a page's bit is the same in every row
@@ -72,62 +75,71 @@ module _ (p : ℕ → Bool) where
       (λ f. below-more _ n (count-none n (rw f at e)) f k (omega arith))
       (cases (p n))
 
-  -- what the search of the n numbers from i on says of where it ends
-  record Ends (i n stop : ℕ) : Type 0 where
-    within : stop ≤ i + n
-    below : (k : ℕ) → i ≤ k → k < stop → p k ≡ false
-    here : stop < i + n → p stop ≡ true
-
-  ends : (i n : ℕ) → Ends i n (lowestFrom p i n)
-  ends i zero = record { within = omega arith; below = λ k a b. absurd (omega arith); here = λ h. absurd (omega arith) }
-  ends i (suc n) = ⊎-elim found (later (ends (suc i) n)) (cases (p i))
-    where
-      found : p i ≡ true → Ends i (suc n) (lowestFrom p i (suc n))
-      found t = rw t (record { within = omega arith; below = λ k a b. absurd (omega arith); here = λ h. t })
-
-      low : Ends (suc i) n (lowestFrom p (suc i) n) → p i ≡ false → (k : ℕ) → i ≤ k → k < lowestFrom p (suc i) n → p k ≡ false
-      low e f k a b = ⊎-elim (λ q. rw q f) (λ d. e .below k (omega arith) b) (equal k i)
-
-      later : Ends (suc i) n (lowestFrom p (suc i) n) → p i ≡ false → Ends i (suc n) (lowestFrom p i (suc n))
-      later e f = rw f (record { within = omega (arith, e .within); below = low e f; here = λ h. e .here (omega arith) })
-
   none-lowest : (n : ℕ) → countBelow p n ≡ 0 → lowest p n ≡ n
-  none-lowest n e = ⊎-elim passes (λ h. omega (arith, ends 0 n .within)) (below-or (lowest p n) n)
+  none-lowest n e = ⊎-elim passes (λ h. omega (arith, lowest-within p n)) (below-or (lowest p n) n)
     where
       passes : lowest p n < n → lowest p n ≡ n
-      passes h =
-          let t = ends 0 n .here (omega arith) in
-          let f = count-none n e (lowest p n) h in
-          absurd (let z : _≡_ {A = ℕ} 0 1 = cc in omega arith)
+      passes h = absurd (true≢false (sym (lowest-found p n h .0) ∙ count-none n e (lowest p n) h))
 
 module _ (p q : ℕ → Bool) where
   count-alike : (n : ℕ) → ((k : ℕ) → k < n → q k ≡ p k) → countBelow q n ≡ countBelow p n
   count-alike zero h = refl
   count-alike (suc n) h = rw (h n (omega arith), count-alike n (λ k l. h k (omega arith)))
 
-  -- one number fewer passes q than p
-  count-one : (i n : ℕ) → i < n → p i ≡ true → q i ≡ false → ((k : ℕ) → (k ≡ i → ⊥) → q k ≡ p k) →
+  -- one number below n fewer passes q than p
+  count-one : (i n : ℕ) → i < n → p i ≡ true → q i ≡ false → ((k : ℕ) → k < n → (k ≡ i → ⊥) → q k ≡ p k) →
       countBelow q n + 1 ≡ countBelow p n
   count-one i zero l t f h = absurd (omega arith)
-  count-one i (suc n) l t f h = ⊎-elim last (earlier (λ g. count-one i n g t f h)) (equal n i)
+  count-one i (suc n) l t f h = ⊎-elim last (earlier (λ g. count-one i n g t f (λ k l. h k (omega arith)))) (equal n i)
     where
       last : n ≡ i → countBelow q (suc n) + 1 ≡ countBelow p (suc n)
-      last e = let r = count-alike n (λ k g. h k (omega arith)) in rw (e, t, f, ← e) (omega arith)
+      last e = let r = count-alike n (λ k g. h k (omega arith) (omega arith)) in rw (e, t, f, ← e) (omega arith)
 
       earlier : (i < n → countBelow q n + 1 ≡ countBelow p n) → (n ≡ i → ⊥) → countBelow q (suc n) + 1 ≡ countBelow p (suc n)
       earlier r d =
           let e = r (omega arith) in
-          rw (h n d) (⊎-elim (λ g. rw g (omega arith)) (λ g. rw g (omega arith)) (cases (p n)))
+          rw (h n (omega arith) d) (⊎-elim (λ g. rw g (omega arith)) (λ g. rw g (omega arith)) (cases (p n)))
 
--- ---- the free pages
-abbrev pub inPool : List ℕ → ℕ → Bool
-inPool sets page = holds sets poolRow page
+-- ---- free pages
+module _ (sets : List ℕ) (page : ℕ) where
+  pub heldForDma-exact : Decides (heldForDma sets page) ((vm : ℕ) × (vm < VMS) × (holds sets (dmaRow vm) page ≡ true))
+  unfolding heldForDma
+  heldForDma-exact = some-below _ (λ vm. holds sets (dmaRow vm) page ≡ true) VMS (λ vm h. decides-itself (holds sets (dmaRow vm) page))
+
+  pub isFree-exact : Decides (isFree sets page) ((holds sets poolRow page ≡ true) × (heldForDma sets page ≡ true → ⊥))
+  unfolding isFree
+  isFree-exact = decides-and (decides-itself (holds sets poolRow page)) (decides-not (decides-itself (heldForDma sets page)))
+
+  -- not free: one that is not in the pool, one that is held; of a page that nobody holds the pool alone says it
+  isFree-outside : holds sets poolRow page ≡ false → isFree sets page ≡ false
+  unfolding isFree
+  isFree-outside f = rw f
+
+  isFree-held : heldForDma sets page ≡ true → isFree sets page ≡ false
+  unfolding isFree
+  isFree-held t = rw t (and-false (holds sets poolRow page))
+
+  isFree-unheld : heldForDma sets page ≡ false → isFree sets page ≡ holds sets poolRow page
+  unfolding isFree
+  isFree-unheld f = rw f (and-true (holds sets poolRow page))
+
+-- the pool and the DMA rows alone say it
+module _ (sets sets′ : List ℕ) (page : ℕ) (dma : (vm : ℕ) → vm < VMS → holds sets′ (dmaRow vm) page ≡ holds sets (dmaRow vm) page) where
+  heldForDma-alike : heldForDma sets′ page ≡ heldForDma sets page
+  heldForDma-alike =
+      same-answer
+      (λ t. let (vm, h, e) = heldForDma-exact sets′ page .sound t in heldForDma-exact sets page .complete (vm, h, sym (dma vm h) ∙ e))
+      (λ t. let (vm, h, e) = heldForDma-exact sets page .sound t in heldForDma-exact sets′ page .complete (vm, h, dma vm h ∙ e))
+
+  pub isFree-alike : holds sets′ poolRow page ≡ holds sets poolRow page → isFree sets′ page ≡ isFree sets page
+  unfolding isFree
+  isFree-alike e = rw (heldForDma-alike, e)
 
 -- what a lowest free page is
 pub record LowestFree (sets : List ℕ) (n page : ℕ) : Type 0 where
   pub within : page < n
-  pub held : holds sets poolRow page ≡ true
-  pub lower : (k : ℕ) → k < page → holds sets poolRow k ≡ false
+  pub free : isFree sets page ≡ true
+  pub lower : (k : ℕ) → k < page → isFree sets k ≡ false
 
 -- the answer for where a search ends
 pub lowest-page : (n stop : ℕ) → stop < n → Page (record { 0 = stop }) ≡ lowestOf n stop
@@ -136,7 +148,8 @@ lowest-page n stop h = rw (ne-eqb stop n (omega arith))
 pub lowest-nothing : (n : ℕ) → Nothing ≡ lowestOf n n
 lowest-nothing n = rw (eq-eqb n n refl)
 
-page-nothing : (page : PhysPage) → Page page ≡ Nothing → ⊥
+-- a page is not nothing
+pub page-nothing : (page : PhysPage) → Page page ≡ Nothing → ⊥
 page-nothing page e = let z : _≡_ {A = ℕ} 0 1 = cc in omega arith
 
 at-end : (n stop : ℕ) → lowestOf n stop ≡ Nothing → stop ≡ n
@@ -151,52 +164,102 @@ at-page n stop page e =
 
 module _ (sets : List ℕ) (n : ℕ) where
   -- the count, one page further
-  pub freeCount-held : holds sets poolRow n ≡ true → freeCount sets (n + 1) ≡ freeCount sets n + 1
+  pub freeCount-found : isFree sets n ≡ true → freeCount sets (n + 1) ≡ freeCount sets n + 1
   unfolding freeCount
-  freeCount-held t = rw (add-one n, t)
+  freeCount-found t = rw (add-one n, t)
 
-  pub freeCount-passed : holds sets poolRow n ≡ false → freeCount sets (n + 1) ≡ freeCount sets n
+  pub freeCount-passed : isFree sets n ≡ false → freeCount sets (n + 1) ≡ freeCount sets n
   unfolding freeCount
   freeCount-passed f = rw (add-one n, f)
 
   pub freeCount-le : freeCount sets n ≤ n
   unfolding freeCount
-  freeCount-le = count-le (inPool sets) n
+  freeCount-le = count-le (isFree sets) n
 
+  -- it is 0 exactly where there is no lowest
   pub freeCount-zero : lowestFree sets n ≡ Nothing → freeCount sets n ≡ 0
   unfolding freeCount lowestFree
   freeCount-zero e =
-      let r = ends (inPool sets) 0 n in
-      let z = at-end n (lowest (inPool sets) n) e in
-      count-zero (inPool sets) n (λ k l. r .below k (omega arith) (omega arith))
+      let z = at-end n (lowest (isFree sets) n) e in
+      count-zero (isFree sets) n (lowest-none (isFree sets) n (omega arith))
 
   pub lowestFree-nothing : freeCount sets n ≡ 0 → lowestFree sets n ≡ Nothing
   unfolding freeCount lowestFree
-  lowestFree-nothing e = rw (none-lowest (inPool sets) n e) (sym (lowest-nothing n))
+  lowestFree-nothing e = rw (none-lowest (isFree sets) n e) (sym (lowest-nothing n))
 
   pub lowestFree-page : (page : PhysPage) → lowestFree sets n ≡ Page page → LowestFree sets n (page .0)
   unfolding lowestFree
   lowestFree-page page e =
-      let r = ends (inPool sets) 0 n in
-      let z = at-page n (lowest (inPool sets) n) page e in
-      record { within = omega arith; held = rw (z .0) at (r .here (omega arith)); lower = λ k l. r .below k (omega arith) (omega arith) }
+      let (same, short) = at-page n (lowest (isFree sets) n) page e in
+      let h : lowest (isFree sets) n < n = omega (arith, lowest-within (isFree sets) n) in
+      let (free, lower) = lowest-found (isFree sets) n h in
+      record { within = omega arith; free = rw same at free; lower = λ k l. lower k (omega arith) }
 
-module _ (sets : List ℕ) (page n : ℕ) (h : page < n) where
-  pub freeCount-add : page < PAGES → SET-WORDS ≤ length sets → holds sets poolRow page ≡ false →
+-- ---- the count, where a page comes or goes
+module _ (sets sets′ : List ℕ) (n : ℕ) where
+  -- sets that agree below n in the pool and in every DMA row
+  pub freeCount-alike : ((k : ℕ) → k < n → holds sets′ poolRow k ≡ holds sets poolRow k) →
+      ((k vm : ℕ) → k < n → vm < VMS → holds sets′ (dmaRow vm) k ≡ holds sets (dmaRow vm) k) →
+      freeCount sets′ n ≡ freeCount sets n
+  unfolding freeCount
+  freeCount-alike pool dma = count-alike (isFree sets) (isFree sets′) n (λ k h. isFree-alike sets sets′ k (λ vm. dma k vm h) (pool k h))
+
+  -- sets that agree so but for one page, which is free in the first alone
+  freeCount-one : (page : ℕ) → page < n → isFree sets page ≡ true → isFree sets′ page ≡ false →
+      ((k : ℕ) → k < n → (k ≡ page → ⊥) → holds sets′ poolRow k ≡ holds sets poolRow k) →
+      ((k vm : ℕ) → k < n → (k ≡ page → ⊥) → holds sets′ (dmaRow vm) k ≡ holds sets (dmaRow vm) k) →
+      freeCount sets′ n + 1 ≡ freeCount sets n
+  unfolding freeCount
+  freeCount-one page h t f pool dma =
+      count-one (isFree sets) (isFree sets′) page n h t f (λ k l d. isFree-alike sets sets′ k (λ vm _. dma k vm l d) (pool k l d))
+
+module _ (sets : List ℕ) (page n : ℕ) (h : page < n) (most : n ≤ PAGES) where
+  -- a page that nobody holds for DMA comes into the pool, or leaves it
+  pub freeCount-add : SET-WORDS ≤ length sets → holds sets poolRow page ≡ false → heldForDma sets page ≡ false →
       freeCount (add sets poolRow page) n ≡ freeCount sets n + 1
-  unfolding freeCount
-  freeCount-add b l f =
-      sym (count-one (inPool (add sets poolRow page)) (inPool sets) page n h (holds-add-same sets poolRow page b (omega arith)) f
-      (λ k d. sym (contains-insert-other sets (poolRow * PAGES + page) (poolRow * PAGES + k) (λ e. d (omega arith)))))
+  freeCount-add l f none =
+      let dma : (vm : ℕ) → vm < VMS → holds (add sets poolRow page) (dmaRow vm) page ≡ holds sets (dmaRow vm) page = λ vm _. holds-add-other sets poolRow page (dmaRow vm) page (omega arith) (omega arith) (λ e _. omega arith) in
+      sym
+      (freeCount-one (add sets poolRow page) sets n page h
+      (isFree-unheld _ page (heldForDma-alike sets (add sets poolRow page) page dma ∙ none) ∙ holds-add-same sets poolRow page (omega arith) (omega arith))
+      (isFree-unheld sets page none ∙ f)
+      (λ k b d. sym (holds-add-other sets poolRow page poolRow k (omega arith) (omega arith) (λ _ e. d (sym e))))
+      (λ k vm b d. sym (holds-add-other sets poolRow page (dmaRow vm) k (omega arith) (omega arith) (λ e _. omega arith))))
 
-  pub freeCount-remove : holds sets poolRow page ≡ true → freeCount (remove sets poolRow page) n + 1 ≡ freeCount sets n
-  unfolding freeCount
+  pub freeCount-remove : isFree sets page ≡ true → freeCount (remove sets poolRow page) n + 1 ≡ freeCount sets n
   freeCount-remove t =
-      count-one (inPool sets) (inPool (remove sets poolRow page)) page n h t (holds-remove-same sets poolRow page)
-      (λ k d. contains-delete-other sets (poolRow * PAGES + page) (poolRow * PAGES + k) (λ e. d (omega arith)))
+      freeCount-one sets (remove sets poolRow page) n page h t
+      (isFree-outside _ page (holds-remove-same sets poolRow page))
+      (λ k b d. holds-remove-other sets poolRow page poolRow k (omega arith) (omega arith) (λ _ e. d (sym e)))
+      (λ k vm b d. holds-remove-other sets poolRow page (dmaRow vm) k (omega arith) (omega arith) (λ e _. omega arith))
 
--- sets that agree in the pool below n
-pub freeCount-alike : (sets sets′ : List ℕ) (n : ℕ) → ((k : ℕ) → k < n → holds sets′ poolRow k ≡ holds sets poolRow k) →
-    freeCount sets′ n ≡ freeCount sets n
-unfolding freeCount
-freeCount-alike sets sets′ n h = count-alike (inPool sets) (inPool sets′) n h
+  -- a VM's DMA claim comes on a free page; the only one on a page of the pool goes
+  module _ (vm : ℕ) (few : vm < VMS) where
+    pub freeCount-claim : (dmaRow vm + 1) * SET-WORDS ≤ length sets → isFree sets page ≡ true → freeCount (add sets (dmaRow vm) page) n + 1 ≡ freeCount sets n
+    freeCount-claim l t =
+        freeCount-one sets (add sets (dmaRow vm) page) n page h t
+        (isFree-held _ page (heldForDma-exact _ page .complete (vm, few, holds-add-same sets (dmaRow vm) page (omega arith) l)))
+        (λ k b d. holds-add-other sets (dmaRow vm) page poolRow k (omega arith) (omega arith) (λ e _. omega arith))
+        (λ k other b d. holds-add-other sets (dmaRow vm) page (dmaRow other) k (omega arith) (omega arith) (λ _ e. d (sym e)))
+
+    pub freeCount-release : holds sets poolRow page ≡ true → holds sets (dmaRow vm) page ≡ true →
+        ((other : ℕ) → other < VMS → holds sets (dmaRow other) page ≡ true → other ≡ vm) →
+        freeCount (remove sets (dmaRow vm) page) n ≡ freeCount sets n + 1
+    freeCount-release pool held alone =
+        sym
+        (freeCount-one (remove sets (dmaRow vm) page) sets n page h
+        (isFree-exact _ page .complete (pool-stays ∙ pool, unheld))
+        (isFree-held sets page (heldForDma-exact sets page .complete (vm, few, held)))
+        (λ k b d. sym (holds-remove-other sets (dmaRow vm) page poolRow k (omega arith) (omega arith) (λ e _. omega arith)))
+        (λ k other b d. sym (holds-remove-other sets (dmaRow vm) page (dmaRow other) k (omega arith) (omega arith) (λ _ e. d (sym e)))))
+      where
+        pool-stays : holds (remove sets (dmaRow vm) page) poolRow page ≡ holds sets poolRow page
+        pool-stays = holds-remove-other sets (dmaRow vm) page poolRow page (omega arith) (omega arith) (λ e _. omega arith)
+
+        unheld : heldForDma (remove sets (dmaRow vm) page) page ≡ true → ⊥
+        unheld t =
+            let (other, l, e) = heldForDma-exact (remove sets (dmaRow vm) page) page .sound t in
+            ⊎-elim
+            (λ q. true≢false (sym (rw q at e) ∙ holds-remove-same sets (dmaRow vm) page))
+            (λ d. d (alone other l (sym (holds-remove-other sets (dmaRow vm) page (dmaRow other) page (omega arith) (omega arith) (λ q _. d (omega arith))) ∙ e)))
+            (equal other vm)

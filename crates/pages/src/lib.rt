@@ -2,14 +2,15 @@
 ghost use mathlib.Core.Path.{_≡_};
 ghost use Prim.Native.Nat.{_+_, _*_, _/_, _<_, _≤_};
 ghost use lib.ListN.{length};
-ghost use Rattle.numbers.specs.Limits.{PAGES, SET-WORDS};
+ghost use Rattle.numbers.specs.Limits.{PAGES, SETS, SET-WORDS};
 ghost use Rattle.numbers.specs.Packing.{VM-FIELD};
 ghost use Rattle.table.specs.Scan.{anyBelow};
 ghost use Rattle.pages.specs.Bits.{hasBit, withBit, withoutBit};
-ghost use Rattle.pages.specs.Rows.{cpuRow, dmaRow, holds, add, remove, freeCount, lowestFree};
+ghost use Rattle.pages.specs.Rows.{cpuRow, dmaRow, holds, add, remove, heldForDma, isFree, freeCount, lowestFree};
 use numbers::Lowest;
 use numbers::PhysPage;
 use numbers::SET_WORDS;
+use numbers::VMS;
 use numbers::VmId;
 
 // ---- Rows: the pool, the shared span, then two for each VM.
@@ -105,16 +106,38 @@ pub fn holds_any(sets: &[u64], row: u64) -> bool
     false
 }
 
-// ---- The free pages of a machine of so many pages: those in the pool. Each visits every page.
+// ---- The free pages of a machine of so many pages: those in the pool that no VM holds for DMA. Each search visits every page.
+
+// Some VM holds the page for DMA.
+fn held_for_dma(sets: &[u64], page: PhysPage) -> bool
+    requires { ⌜ (page .0 < PAGES) × (SETS * SET-WORDS ≤ length (now sets)) ⌝ }
+    ensures { λ r. ⌜ r ≡ heldForDma (now (sets .entry)) (page .0) ⌝ }
+{
+    let mut vm = 0;
+    while vm < VMS {
+        if holds(sets, dma_row(VmId(vm)), page) {
+            return true;
+        }
+        vm += 1;
+    }
+    false
+}
+
+pub fn is_free(sets: &[u64], page: PhysPage) -> bool
+    requires { ⌜ (page .0 < PAGES) × (SETS * SET-WORDS ≤ length (now sets)) ⌝ }
+    ensures { λ r. ⌜ r ≡ isFree (now (sets .entry)) (page .0) ⌝ }
+{
+    holds(sets, POOL, page) && !held_for_dma(sets, page)
+}
 
 pub fn free_count(sets: &[u64], pages: u64) -> u64
-    requires { ⌜ (pages ≤ PAGES) × (SET-WORDS ≤ length (now sets)) ⌝ }
+    requires { ⌜ (pages ≤ PAGES) × (SETS * SET-WORDS ≤ length (now sets)) ⌝ }
     ensures { λ r. ⌜ r ≡ freeCount (now (sets .entry)) pages ⌝ }
 {
     let mut count: u64 = 0;
     let mut page: u64 = 0;
     while page < pages {
-        if holds(sets, POOL, PhysPage(page)) {
+        if is_free(sets, PhysPage(page)) {
             count += 1;
         }
         page += 1;
@@ -123,12 +146,12 @@ pub fn free_count(sets: &[u64], pages: u64) -> u64
 }
 
 pub fn lowest_free(sets: &[u64], pages: u64) -> Lowest
-    requires { ⌜ (pages ≤ PAGES) × (SET-WORDS ≤ length (now sets)) ⌝ }
+    requires { ⌜ (pages ≤ PAGES) × (SETS * SET-WORDS ≤ length (now sets)) ⌝ }
     ensures { λ r. ⌜ r ≡ lowestFree (now (sets .entry)) pages ⌝ }
 {
     let mut lowest: u64 = 0;
     while lowest < pages {
-        if holds(sets, POOL, PhysPage(lowest)) {
+        if is_free(sets, PhysPage(lowest)) {
             return Lowest::Page(PhysPage(lowest));
         }
         lowest += 1;

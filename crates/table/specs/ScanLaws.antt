@@ -8,6 +8,7 @@ use native.Mathlib.Omega.{arith}
 use lib.ListN.{length, getD, set, length-map, List·getD-map}
 use Rattle.numbers.specs.CaseLaws.{cases, equal}
 use Rattle.numbers.specs.Choice.{if_then_else_}
+use Rattle.numbers.specs.Decides.{Decides}
 use Rattle.table.specs.Scan.{first, firstFrom, any, count, cleared, wipe, lowest, lowestFrom, anyFrom, anyBelow}
 use Rattle.table.specs.Table.{Has}
 use Rattle.table.specs.declared.Found.the-variants.{At, Nothing}
@@ -147,6 +148,16 @@ module _ (p : ℕ → Bool) where
 
   pub lowest-none : (n : ℕ) → n ≤ lowest p n → (k : ℕ) → k < n → p k ≡ false
   lowest-none n e k h = from-lowest 0 n .before k (omega arith) (omega arith)
+
+-- ---- searches as exact tests
+-- some word of a table passes, where an empty one does not
+pub some-word : (p : ℕ → Bool) (P : ℕ → Type 0) (ws : List ℕ) → p 0 ≡ false → ((w : ℕ) → Has ws w → Decides (p w) (P w)) → Decides (any p ws) ((w : ℕ) × Has ws w × P w)
+some-word p P ws empty d =
+    record { sound = λ t. let (w, h, e) = any-true p ws empty t in (w, h, d w h .sound e); complete = λ r. has-any p ws (r .0) (r .1) (d (r .0) (r .1) .complete (r .2)) }
+
+pub some-below : (p : ℕ → Bool) (P : ℕ → Type 0) (n : ℕ) → ((k : ℕ) → k < n → Decides (p k) (P k)) → Decides (anyBelow p n) ((k : ℕ) × (k < n) × P k)
+some-below p P n d =
+    record { sound = λ t. let (k, h, e) = any-below-true p n t in (k, h, d k h .sound e); complete = λ r. below-any p n (r .0) (r .1) (d (r .0) (r .1) .complete (r .2)) }
 
 -- ---- the words that pass, emptied
 module _ (p : ℕ → Bool) where

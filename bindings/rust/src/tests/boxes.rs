@@ -8,8 +8,7 @@ fn whole_box_is_accepted() {
     let before = owned.clone();
     assert!(owned.shared().valid());
     assert!(owned.lent().valid());
-    let free = owned.shared().free().unwrap();
-    assert_eq!((free.count, free.lowest()), (4, Some(3)));
+    assert_eq!(free(&owned), (4, Some(3)));
     assert!(owned == before);
     let read = owned.lent().operation(row([CPU_READ, 0, 16, 0]));
     assert_eq!(read, Answer { word: 1111, ..Answer::default() });
@@ -76,10 +75,43 @@ fn answers_are_counted() {
     assert_eq!(answers, [Answer::default(), known, untouched]);
 }
 
+fn free(owned: &Owned) -> (u64, Option<u64>) {
+    let pages = owned.shared().free().unwrap();
+    (pages.count, pages.lowest())
+}
+
 #[test]
 fn none_free_is_none() {
     let mut owned = Owned::new(8);
     owned.lent().start(8, 0, 8, &[]).unwrap();
-    let free = owned.shared().free().unwrap();
-    assert_eq!((free.count, free.lowest()), (0, None));
+    assert_eq!(free(&owned), (0, None));
+}
+
+/// The worked table's C5: pages 0 to 2 are in the pool again, but VM 1 holds them for DMA.
+#[test]
+fn held_for_dma_is_not_free() {
+    let mut owned = Owned::new(8);
+    owned.lent().start(8, 7, 1, &UNITS_TOLD).unwrap();
+    assert_eq!(free(&owned), (7, Some(0)));
+    owned.lent().add_vm(1).unwrap();
+    owned.lent().add_vm(2).unwrap();
+    owned.lent().insert_region(1, 16, 0, 3, READ | WRITE).unwrap();
+    owned.lent().dma_insert_region(1, 16, 0, 3, READ | WRITE).unwrap();
+    owned.lent().remove_region(1, 16, 0, 3, READ | WRITE).unwrap();
+    assert_eq!(free(&owned), (4, Some(3)));
+    assert_eq!(owned.lent().assign_page(2, 2), Err(Refusal::PageClaimed));
+    owned.lent().assign_page(2, 3).unwrap();
+    owned.lent().dma_remove_region(1, 16, 0, 3, READ | WRITE).unwrap();
+    assert_eq!(free(&owned), (6, Some(0)));
+}
+
+/// All that is in the pool may be held for DMA, and then none is free.
+#[test]
+fn none_free_though_the_pool_has_pages() {
+    let mut owned = Owned::new(3);
+    let unit = Unit { vm: 1, guest: 16, page: 0, count: 2, access: READ, mark: MARK_DMA };
+    owned.lent().start(3, 2, 1, &[unit]).unwrap();
+    owned.lent().add_vm(1).unwrap();
+    owned.lent().dma_insert_region(1, 16, 0, 2, READ).unwrap();
+    assert_eq!(free(&owned), (0, None));
 }

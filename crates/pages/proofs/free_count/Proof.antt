@@ -5,7 +5,7 @@ use mathlib.Core.Path.{_≡_, sym, _∙_}
 use native.Mathlib.Omega.{arith}
 use borrow.Author.Needs.{needs}
 use Rattle.pages.specs.Rows.{freeCount}
-use Rattle.pages.specs.RowLaws.{freeCount-held, freeCount-passed, freeCount-le}
+use Rattle.pages.specs.RowLaws.{freeCount-found, freeCount-passed, freeCount-le}
 use Rattle.pages.proofs.free_count.Statement.{statement}
 use Rattle.pages.proofs.free_count.Tie as tie
 
@@ -24,10 +24,10 @@ add-count c = omega (arith, freeCount-le (c .before .before .before .before .bef
 
 loop-again : tie.Need-loop-again Inv-loop μ-loop
 loop-again c =
-    let test = sym (c .before .holds .ensures) in (
+    let test = sym (c .before .is-free .ensures) in (
       omega arith,
       ⊎-elim
-          (λ w. omega (arith, freeCount-held _ _ (test ∙ w .0 .taken)))
+          (λ w. omega (arith, freeCount-found _ _ (test ∙ w .0 .taken)))
           (λ w. omega (arith, freeCount-passed _ _ (test ∙ w .0 .left)))
           (c .if1 .came),
     )
