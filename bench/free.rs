@@ -80,7 +80,10 @@ pub fn table(rounds: usize) -> Result<(), String> {
         ("all in the pool, none held", pool_alone(None)),
         ("all in the pool, held by the last VM", pool_alone(Some(VMS - 1))),
     ];
-    println!("| {PAGES} pages, us | query | validity | search | over pages in Rust | over words |");
+    println!(
+        "| {PAGES} pages, us | query | validity | query over validity | search over pages in Rust \
+         | over words |"
+    );
     println!("|---|---|---|---|---|---|");
     for (name, owned) in boxes {
         let found = [by_library, by_pages, by_words].map(|form| form(&owned));
@@ -89,10 +92,10 @@ pub fn table(rounds: usize) -> Result<(), String> {
         }
         let [query, valid, pages, words] = times(&owned, rounds);
         let search = query - valid;
-        let over = [search / pages, search / words];
+        let over = [query / valid, search / pages, search / words];
         println!(
-            "| {name} | {query:.1} | {valid:.1} | {search:.1} | {:.2} | {:.1} |",
-            over[0], over[1]
+            "| {name} | {query:.1} | {valid:.1} | {:.2} | {:.2} | {:.1} |",
+            over[0], over[1], over[2]
         );
     }
     Ok(())
