@@ -1,5 +1,7 @@
 //! The rows by which each operation is timed, at three levels of the tables.
 
+use std::ops::Range;
+
 use face::Setup;
 use tiligormis::*;
 
@@ -14,16 +16,16 @@ pub enum Level {
 pub const LEVELS: [Level; 3] = [Level::Empty, Level::Half, Level::Full];
 
 impl Level {
-    /// Of each working VM: mappings on either side, pairs, and slots of either cache.
-    fn each(self) -> (u64, u64, u64) {
+    /// Of each working VM: mappings on either side, pairs, and slots of either cache, where one more
+    /// has so many.
+    fn each(self, more: [u64; 3]) -> [u64; 3] {
         let (entries, pairs, slots) = (ENTRIES as u64, PAIRS as u64, SLOTS as u64);
         let all = match self {
             Level::Empty => [0, 0, 0],
             Level::Half => [entries / 2, pairs / 2, slots / 2],
             Level::Full => [entries - NEW, pairs * 3 / 4, slots],
         };
-        let [mappings, pairs, slots] = all.map(|count| count / WORKING);
-        (mappings, pairs, slots)
+        std::array::from_fn(|k| (all[k] - more[k]) / WORKING)
     }
 }
 
@@ -82,26 +84,26 @@ pub fn setup() -> Setup {
     }
 }
 
-/// The working VMs with their pages, each on a CPU and a device; the tables filled to the level.
-pub fn fill(level: Level) -> Vec<Row> {
-    let (mappings, pairs, slots) = level.each();
+/// The working VMs with their pages, each on a CPU and a device, and the newcomer.
+fn working() -> Vec<Row> {
     let mut rows: Vec<Row> = (0..=NEWCOMER).map(|vm| row([ADD_VM, vm])).collect();
     for vm in 0..WORKING {
         rows.extend((0..OWNED).map(|k| row([ASSIGN_PAGE, vm, vm * OWNED + k])));
         rows.extend([row([SWITCH_CPU, vm, vm]), row([BIND_DEVICE, vm, vm])]);
     }
-    // One VM after the other for each place, so that keys of a VM are spread over the table.
-    for k in 0..mappings {
-        rows.extend((0..WORKING).flat_map(|vm| mapping(vm, k)));
-    }
-    for k in 0..pairs {
-        let next = |vm| (vm + 1) % WORKING;
-        rows.extend((0..WORKING).map(|vm| row([SHARE_PAGE, vm, next(vm), vm * OWNED + k])));
-    }
-    for k in 0..slots {
-        rows.extend((0..WORKING).flat_map(|vm| [row([CPU_FILL, vm, k]), row([DMA_FILL, vm, k])]));
-    }
     rows
+}
+
+/// One working VM after the other for each place, so that keys of a VM are spread over the table.
+fn in_turn<const ROWS: usize>(places: Range<u64>, make: fn(u64, u64) -> [Row; ROWS]) -> Vec<Row> {
+    places.flat_map(|k| (0..WORKING).flat_map(move |vm| make(vm, k))).collect()
+}
+
+/// The working VMs, the tables filled to the level.
+pub fn fill(level: Level) -> Vec<Row> {
+    let [mappings, pairs, slots] = level.each([0; 3]);
+    let tables = [in_turn(0..mappings, mapping), in_turn(0..pairs, lending)];
+    [working(), tables.concat(), in_turn(0..slots, filling)].concat()
 }
 
 /// Guest page k of a VM, mapped for CPUs and for devices.
@@ -110,9 +112,19 @@ fn mapping(vm: u64, k: u64) -> [Row; 2] {
     [row([CPU_MAP, vm, k, own, READ_WRITE, 0]), row([DMA_MAP, vm, k, shared, READ_WRITE, 0])]
 }
 
+/// Page k of a VM, shared with the next.
+fn lending(vm: u64, k: u64) -> [Row; 1] {
+    [row([SHARE_PAGE, vm, (vm + 1) % WORKING, vm * OWNED + k])]
+}
+
+/// Guest page k of the VM on a port, into a slot of either cache.
+fn filling(port: u64, k: u64) -> [Row; 2] {
+    [row([CPU_FILL, port, k]), row([DMA_FILL, port, k])]
+}
+
 /// What every mapped guest page of the level is named by, once each; at `Empty` there is one.
 fn mapped(level: Level) -> Vec<(u64, u64)> {
-    let guests = level.each().0.max(1);
+    let guests = level.each([0; 3])[0].max(1);
     let vms = if level == Level::Empty { 1 } else { WORKING };
     (0..guests).flat_map(|k| (0..vms).map(move |vm| (vm, k))).collect()
 }
@@ -205,7 +217,7 @@ fn slots(level: Level, [fill, empty]: [u64; 2], names: [&'static str; 3]) -> Vec
     let fills = over_mapped(level, |vm, k| row([fill, vm, k]));
     let each: Vec<Row> = (0..SLOTS as u64).map(|slot| row([empty, slot])).collect();
     // The lowest empty slot, or at `Full` the last one, which is emptied first.
-    let slot = (level.each().2 * WORKING).min(SLOTS as u64 - 1);
+    let slot = (level.each([0; 3])[2] * WORKING).min(SLOTS as u64 - 1);
     let turn = [row([empty, slot]), row([fill, slot % WORKING, slot / WORKING])];
     let [filled, emptied, turns] = names;
     vec![
@@ -256,4 +268,72 @@ pub fn clearing() -> [Case; 2] {
     let turns = |name| by_turns(name, [page(ASSIGN_PAGE), page(RECLAIM_PAGE)]);
     let kept = turns("3, 4 of a page still claimed");
     [turns("3, 4 of a page, clearing"), Case { before: vec![region(DMA_INSERT_REGION, 0)], ..kept }]
+}
+
+// ---- A VM that is retired: the last one, on no port. Its pages are in for CPUs and for devices as
+// one region. It lends one to each working VM and borrows one from each.
+
+const LEAVER: u64 = PASSING;
+const LEAVER_PAGES: u64 = 64;
+const LEAVER_PAIRS: u64 = 2 * WORKING;
+/// Slots of either cache that hold a guest page of it.
+const LEAVER_SLOTS: u64 = 8;
+
+fn leaver_region(operation: u64) -> Row {
+    row([operation, LEAVER, 0, LOOSE, LEAVER_PAGES, READ_WRITE])
+}
+
+/// The pair in which it lends a page to a working VM, and that in which it borrows one.
+fn leaver_pairs(operation: u64, vm: u64) -> [Row; 2] {
+    let (lent, borrowed) = (LOOSE + vm, vm * OWNED + OWNED - 1);
+    [row([operation, LEAVER, vm, lent]), row([operation, vm, LEAVER, borrowed])]
+}
+
+/// Its pairs with a VM, which maps the page that is lent to it at guest page k.
+fn borrowing(vm: u64, k: u64) -> [Row; 4] {
+    let ([lends, borrows], [_, for_devices]) = (leaver_pairs(SHARE_PAGE, vm), mapping(vm, k));
+    [lends, borrows, row([CPU_MAP, vm, k, LOOSE + vm, READ_WRITE, 0]), for_devices]
+}
+
+/// All of PAGES, and its region a unit.
+pub fn leaver_setup() -> Setup {
+    let [_, vm, guest, page, count, access, ..] = leaver_region(INSERT_REGION);
+    Setup { units: vec![[vm, guest, page, count, access, MARK_BOTH]], ..setup() }
+}
+
+/// The tables filled to the level, what it has among the rest: its mappings in the middle of the maps,
+/// and in slots both its own and those onto its pages.
+pub fn before_retire(level: Level) -> Vec<Row> {
+    let [mappings, pairs, slots] = level.each([LEAVER_PAGES, LEAVER_PAIRS, LEAVER_SLOTS]);
+    let (first, middle) = (1, mappings / 2);
+    let regions = [INSERT_REGION, DMA_INSERT_REGION].map(leaver_region);
+    let on_ports = |vm| [row([SWITCH_CPU, 0, vm]), row([BIND_DEVICE, 0, vm])];
+    [
+        working(),
+        in_turn(first..middle, mapping),
+        [&[row([ADD_VM, LEAVER])], &regions[..]].concat(),
+        in_turn(0..first, borrowing),
+        in_turn(middle..mappings, mapping),
+        in_turn(0..pairs, lending),
+        in_turn(0..slots, filling),
+        // On a port it writes to each of its pages and gets its slots; then it leaves the port.
+        on_ports(LEAVER).to_vec(),
+        (0..LEAVER_PAGES).map(|k| row([CPU_WRITE, 0, k, k, 7])).collect(),
+        (0..LEAVER_SLOTS).flat_map(|k| filling(0, k)).collect(),
+        on_ports(0).to_vec(),
+    ]
+    .concat()
+}
+
+pub fn retire() -> Vec<Row> {
+    vec![row([RETIRE_VM, LEAVER])]
+}
+
+/// The fewest single rows that come to the same: what others map of its pages, its pairs, its region
+/// on either side, then the VM.
+pub fn retire_by_parts() -> Vec<Row> {
+    let unmaps = (0..WORKING).map(|vm| row([CPU_UNMAP, vm, 0]));
+    let pairs = (0..WORKING).flat_map(|vm| leaver_pairs(UNSHARE_PAGE, vm));
+    let regions = [REMOVE_REGION, DMA_REMOVE_REGION].map(leaver_region);
+    unmaps.chain(pairs).chain(regions).chain([row([REMOVE_VM, LEAVER])]).collect()
 }

@@ -4,6 +4,7 @@
 //!     bench [ROUNDS]                      first compares answers, then measures
 //!     bench check                         compares answers alone
 //!     bench mixed [ROUNDS]                compares, then measures mixed rows alone
+//!     bench retire [ROUNDS]               the same for a VM retired
 //!     bench valid [ROUNDS]                the test for validity: compares, then measures
 //!     bench free [ROUNDS]                 the free query: the same
 //!     bench registers ONE OTHER [TURNS]   mixed rows of the library in two programs, by turns
@@ -19,6 +20,7 @@ mod library;
 mod measure;
 mod mixed;
 mod quadratic;
+mod retire;
 mod validity;
 
 use std::path::Path;
@@ -32,8 +34,8 @@ const ROUNDS: usize = 200;
 const TURNS: usize = 20;
 
 const USAGE: &str = "usage: bench [ROUNDS] | bench check | bench mixed [ROUNDS] | \
-    bench valid [ROUNDS] | bench free [ROUNDS] | bench registers ONE OTHER [TURNS] | \
-    bench library [ROUNDS]";
+    bench retire [ROUNDS] | bench valid [ROUNDS] | bench free [ROUNDS] | \
+    bench registers ONE OTHER [TURNS] | bench library [ROUNDS]";
 
 /// All machines held to the same answers.
 fn agreement() -> Result<(), String> {
@@ -55,6 +57,10 @@ fn carry_out(words: &[String]) -> Result<(), String> {
             let rounds = rounds(1)?;
             agreement().map(|()| mixed::lines(rounds))
         }
+        Some("retire") => {
+            let rounds = rounds(1)?;
+            agreement().and_then(|()| retire::lines(rounds))
+        }
         Some("valid") => {
             let rounds = rounds(1)?;
             println!("{}", validity::agree()?);
@@ -70,7 +76,7 @@ fn carry_out(words: &[String]) -> Result<(), String> {
         Some("library") => rounds(1).map(mixed::library_alone),
         _ => {
             let rounds = rounds(0)?;
-            agreement().map(|()| measure::table(rounds))
+            agreement().and_then(|()| measure::table(rounds))
         }
     }
 }

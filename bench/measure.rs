@@ -7,7 +7,7 @@ use face::{Machine, Setup, PAGES, PAGE_WORDS};
 
 use crate::cases::{self, Case, Level, LEVELS};
 use crate::contest::{contest, time, Machines, Times};
-use crate::mixed;
+use crate::{mixed, retire};
 
 /// The aim: at most the time of (a), and at most twice that of (b).
 const AIM_BOUNDED: f64 = 1.0;
@@ -42,7 +42,7 @@ pub fn joined<T>(each: &[T], say: impl Fn(&T) -> String) -> String {
 }
 
 /// Three digits of a ratio.
-fn ratio(number: f64) -> String {
+pub fn ratio(number: f64) -> String {
     let places = match number {
         100.0.. => 0,
         10.0.. => 1,
@@ -184,12 +184,14 @@ fn start_lines(rounds: usize) {
     }
 }
 
-pub fn table(rounds: usize) {
+pub fn table(rounds: usize) -> Result<(), String> {
     let few = rounds.div_ceil(MIXED_SHARE);
     println!("The least of {rounds} rounds, of mixed rows of {few}.");
     mixed::lines(few);
     operation_lines(rounds);
+    retire::lines(rounds)?;
     entry_lines(rounds);
     clearing_lines(rounds);
     start_lines(rounds);
+    Ok(())
 }

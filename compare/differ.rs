@@ -83,7 +83,8 @@ pub fn page(library: &[u64], second: &[u64], page: Page) -> Result<(), Differenc
         .map_err(|differs| Difference::new("memory", format!("page {page}: {}", differs.detail)))
 }
 
-/// The pages that a row names, and those that its guest page translates to in `m`.
+/// The pages that a row names, those that its guest page translates to in `m`, and those of a VM that
+/// it retires.
 pub fn touched(m: &Machine, row: &Row) -> Vec<Page> {
     let [operation, vm, guest, third, count, ..] = *row;
     let side = side_of(operation);
@@ -91,6 +92,7 @@ pub fn touched(m: &Machine, row: &Row) -> Vec<Page> {
         3 | 4 => vec![row[2]],
         5..=8 => vec![third],
         11..=14 => (0..count.min(m.pages)).map(|index| third.saturating_add(index)).collect(),
+        27 => held(m, vm),
         _ => Vec::new(),
     };
     let acting = match operation {
@@ -103,6 +105,12 @@ pub fn touched(m: &Machine, row: &Row) -> Vec<Page> {
     }
     pages.retain(|&page| page < m.pages);
     pages
+}
+
+/// The pages that a VM holds, for CPU or DMA.
+fn held(m: &Machine, vm: Vm) -> Vec<Page> {
+    let sides = [&m.cpu, &m.dma].into_iter();
+    sides.filter_map(|half| half.owned.get(&vm)).flatten().copied().collect()
 }
 
 /// The side of an operation that has a twin on the other.

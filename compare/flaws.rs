@@ -1,15 +1,15 @@
 //! Libraries that are wrong in one place each, to see that the comparison says so.
 
-use second::machine::{Free, Side};
+use second::machine::{Entry, Free, Machine, Side};
 use second::operate::Row;
 use second::script::Setup;
 use tiligormis::{
-    Answer, Owned, ACCEPTED, DATA_BARRIER, ENTRIES, PORTS, SLOTS, STATE_NOT_VALID, UNITS,
+    Answer, Owned, ACCEPTED, DATA_BARRIER, ENTRIES, PORTS, RETIRE_VM, SLOTS, STATE_NOT_VALID, UNITS,
 };
 
 use crate::couple::Check;
 use crate::damaged::Asked;
-use crate::pack::{pair_word, pool_pages, set_of, ACCESS, FILLED, POOL};
+use crate::pack::{map_word, pair_word, pool_pages, set_of, ACCESS, FILLED, POOL};
 use crate::subject::{Library, Subject};
 
 /// Where a flaw shows, and what it makes of the right result.
@@ -22,6 +22,8 @@ pub enum Place {
     Answer(fn(&mut Answer)),
     /// The box after each data barrier.
     Table(fn(&mut Owned)),
+    /// After each VM that was retired.
+    Retired(fn(&mut Owned, &mut Answer)),
     /// The box after each call of the one-operation entry.
     Operation(fn(&mut Owned)),
     /// After each sequence.
@@ -45,6 +47,9 @@ impl Flawed {
             Place::Row(flaw) => flaw(&mut self.library.owned, row, answer),
             Place::Answer(flaw) if row[0] == DATA_BARRIER => flaw(answer),
             Place::Table(flaw) if row[0] == DATA_BARRIER => flaw(&mut self.library.owned),
+            Place::Retired(flaw) if row[0] == RETIRE_VM && answer.number == ACCEPTED => {
+                flaw(&mut self.library.owned, answer)
+            }
             _ => {}
         }
     }
@@ -189,6 +194,29 @@ pub const TABLES: &[(&str, &str, fn(&mut Owned))] = &[
 /// A page of the pool goes in or out.
 fn turn_page(owned: &mut Owned, set: usize) {
     owned.sets[set * tiligormis::SET_WORDS] ^= 1 << 3;
+}
+
+/// Flaws of a retire. The script's drops two CPU slots and a DMA slot; VM 2 had page 0 of the VM at
+/// guest page 40, and page 2, with 7 in its first word, was held for DMA alone.
+pub const RETIRED: &[Flaw<Check>] = &[
+    ("counts_one_cache", Check::Row, "answer's dropped slots", Place::Retired(counts_one_cache)),
+    ("keeps_borrowed", Check::Row, "CPU walker", Place::Retired(keeps_borrowed)),
+    ("keeps_words", Check::Row, "memory", Place::Retired(keeps_words)),
+];
+
+fn counts_one_cache(_: &mut Owned, answer: &mut Answer) {
+    answer.dropped = 2;
+}
+
+/// A mapping of a borrower stays in the walker.
+fn keeps_borrowed(owned: &mut Owned, _: &mut Answer) {
+    let entry = Entry { page: 0, access: 1, generation: 9 };
+    owned.cpu_walker[ENTRIES - 1] = map_word((2, 40), &entry).unwrap_or(0);
+}
+
+/// A page that was held for DMA alone is not cleared.
+fn keeps_words(owned: &mut Owned, _: &mut Answer) {
+    owned.memory[Machine::address(2, 0)] = 7;
 }
 
 /// Flaws that only a changed state brings to light.

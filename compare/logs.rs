@@ -7,6 +7,7 @@ use second::log::{record, Reader};
 use second::machine::{Machine, OPERATIONS};
 use second::operate::{arguments, Row};
 use second::script::Setup;
+use tiligormis::{INSTRUCTION_BARRIER, RETIRE_VM};
 
 use crate::differ::same;
 use crate::log::Run;
@@ -162,7 +163,10 @@ pub fn lengthened(run: &mut Run) -> Result<(), Difference> {
     for turn in 0..run.count {
         let log = log_of(&Made::of_turn(run.seed, turn).rows);
         let random: Vec<u8> = (0..5).map(|_| run.rng.next() as u8).collect();
-        for more in [&[0; 5], &[255; 5], &[6, 0, 1, 0, 1], &[2, 0, 26, 0, 2], &random[..]] {
+        // The barrier is whole with four bytes, and a retire of that length is wrong.
+        let [barrier, retire] =
+            [INSTRUCTION_BARRIER, RETIRE_VM].map(|kind| [2, 0, kind as u8, 0, 2]);
+        for more in [&[0; 5], &[255; 5], &[6, 0, 1, 0, 1], &barrier, &retire, &random[..]] {
             for count in 1..=more.len() {
                 run.read_on(&[&log, &more[..count]].concat(), 0)?;
             }

@@ -68,21 +68,23 @@ pub fn buffers(run: &mut Run) -> Result<(), Difference> {
     Ok(())
 }
 
-/// Rows and places of other lengths, for a good row and one of no kind, a good log, a cut one, one
-/// of no kind, and an empty one.
+/// A good log, a cut one, one of no kind, and an empty one.
+pub const LOGS: [&[u8]; 4] =
+    [&[6, 0, 1, 0, 1, 0, 0, 0], &[6, 0, 1], &[2, 0, OPERATIONS as u8 + 1, 0], &[]];
+
+/// Rows and places of other lengths, for good rows and ones of no kind, and for these logs.
 pub fn lengths(run: &mut Run) -> Result<(), Difference> {
     let right = (ROW_NUMBERS, 1);
     let wrong = |rooms: &(usize, usize)| *rooms != right;
     let rooms = [0, 1, 7, 8, 9, 16].into_iter().flat_map(|row| [0, 1, 2].map(|place| (row, place)));
     for (numbers, places) in rooms.filter(wrong) {
-        for kind in [1, 7, 26, 0, 27] {
+        for kind in [1, 7, OPERATIONS, 0, OPERATIONS + 1] {
             let mut row = plain_row(kind).to_vec();
             row.resize(numbers, kind);
             run.write(&row, 40, &vec![3; places])?;
             run.write(&row, 0, &vec![3; places])?;
         }
-        let logs: [&[u8]; 4] = [&[6, 0, 1, 0, 1, 0, 0, 0], &[6, 0, 1], &[2, 0, 27, 0], &[]];
-        for log in logs {
+        for log in LOGS {
             run.read_into(log, &mut vec![0; places], &mut vec![0; numbers])?;
         }
     }

@@ -16,6 +16,7 @@ use crate::differ::{same, state};
 use crate::log::Run;
 use crate::logs::{any_change, bad_record, begins, following, log_of, Made};
 use crate::pack::{pack, Difference};
+use crate::records::LOGS;
 use crate::spoil::scatter;
 use crate::subject::{answer, used_box, Library, Subject};
 use crate::supply::Supply;
@@ -264,11 +265,10 @@ pub fn answers(run: &mut Run) -> Result<(), Difference> {
 pub fn lengths(run: &mut Run) -> Result<(), Difference> {
     let (twins, _) = Source::new(run.seed).next(&mut run.rng);
     let none = Twins { owned: Owned::new(8), second: Machine::empty() };
-    let logs: [&[u8]; 4] = [&[6, 0, 1, 0, 1, 0, 0, 0], &[6, 0, 1], &[2, 0, 27, 0], &[]];
     let lengths = [(0, 1), (2, 1), (1, 0), (1, 2), (0, 0), (2, 2), (7, 8)];
     for (given, log, (place, taken)) in [&twins, &none]
         .into_iter()
-        .flat_map(|twins| logs.into_iter().map(move |log| (twins, log)))
+        .flat_map(|twins| LOGS.into_iter().map(move |log| (twins, log)))
         .flat_map(|(twins, log)| lengths.map(|lengths| (twins, log, lengths)))
     {
         let rooms = Rooms { place: vec![0; place], taken: vec![UNTOLD; taken], ..rooms(0, 8) };

@@ -4,7 +4,7 @@ use std::process::ExitCode;
 
 use second::author::Rng;
 use second::generate::generate_of_size;
-use second::machine::{Machine, PAGES, SLOTS};
+use second::machine::{Machine, IDLE, PAGES, SLOTS};
 use second::operate::Row;
 use tiligormis::{fill_slot, Owned, Refusal};
 
@@ -13,7 +13,7 @@ use crate::cases::cases;
 use crate::couple::{run, Check, Finding};
 use crate::damaged::{self, Asked};
 use crate::differ::state;
-use crate::flaws::{Flaw, Flawed, Place, ANSWERS, DAMAGED, TABLES};
+use crate::flaws::{Flaw, Flawed, Place, ANSWERS, DAMAGED, RETIRED, TABLES};
 use crate::log::{self, Run, Seen, CHECKS};
 use crate::logflaws::{LogFlaw, READERS, REPLAYS, WRITERS};
 use crate::pack::pack;
@@ -43,10 +43,13 @@ const RICH: &str = "
     23 0 16 0 5\n24 0 17 511 7
 ";
 
-/// The same, then barriers, at which flaws show, a page of the pool held for DMA below one that is free, a query, and a start that
-/// is refused.
+/// The same, then barriers, at which flaws show, a page of the pool held for DMA below one that is free, a query, a VM that has
+/// left its ports retired, and a start that is refused.
 fn script() -> String {
-    RICH.to_string() + &"25\n".repeat(300) + "13 1 32 2 1 3\nfree\nbox 8 0 9\n1 1\n1 2\n"
+    let barriers = "25\n".repeat(400);
+    let free = "13 1 32 2 1 3\nfree\n";
+    let retired = format!("24 0 32 0 7\n15 0 {IDLE}\n16 0 {IDLE}\n27 1\n");
+    format!("{RICH}{barriers}{free}{retired}box 8 0 9\n1 1\n1 2\n")
 }
 
 fn only_trial(script: &str) -> Trial {
@@ -272,6 +275,9 @@ pub fn report() -> ExitCode {
     for &(name, part, table) in TABLES {
         let flaw = (name, Check::Row, part, Place::Table(table));
         report.check(&format!("self_test_tables_{name}"), found(&flaw));
+    }
+    for flaw in RETIRED {
+        report.check(&format!("self_test_retired_{}", flaw.0), found(flaw));
     }
     for flaw in DAMAGED {
         report.check(&format!("self_test_damaged_{}", flaw.0), found_in_damaged(flaw));

@@ -64,7 +64,15 @@
  * it. Units may overlap, repeat, and name pages that another's unit names; what is refused then is the insertion, while
  * somebody else has a page.
  *
- * How a VM is retired. Remove VM wants nothing left of it; this order gets there.
+ * How a VM is retired. Its CPUs and devices come first: switch CPU and bind device to TILIGORMIS_IDLE. Then retire VM takes it
+ * away in one call with all that it has: mappings, slots, pairs, and its pages, which are cleared. Other VMs lose the pairs that
+ * join them with it and what they CPU-map of its pages, and nothing else.
+ *
+ *   tiligormis_box_operation(&box, tiligormis_row_switch_cpu(cpu, TILIGORMIS_IDLE), &answer);
+ *   tiligormis_box_operation(&box, tiligormis_row_bind_device(device, TILIGORMIS_IDLE), &answer);
+ *   number = tiligormis_box_operation(&box, tiligormis_row_retire_vm(vm), &answer);
+ *
+ * How a VM is taken down piece by piece. Remove VM wants nothing left of it; this order gets there.
  *
  *   1  CPUs, devices  switch CPU and bind device to TILIGORMIS_IDLE; at the latest before step 6
  *   2  mappings       CPU unmap and DMA unmap for what CPU map and DMA map made, and for what other VMs CPU-map of the pages
@@ -73,11 +81,11 @@
  *   4  CPU pages      remove region for what came by insert region, reclaim page for every other. A region of which a mapping
  *                     is gone or replaced goes page by page: the rest of its mappings by CPU unmap, then reclaim page
  *   5  DMA pages      DMA remove region. One of its mappings that is gone or replaced is first put back, by DMA map with the
- *                     region's access and generation 0: nothing else ends the claim
+ *                     region's access and generation 0: but for retire VM nothing else ends the claim
  *   6  the VM         remove VM
  *
- * Step 5 may come before 3 and 4. A page is cleared when the VM's last claim on it ends, and slots are dropped with the
- * mappings that they hold.
+ * Step 5 may come before 3 and 4, and retire VM, once step 1 is done, in place of all that is left. Either way a page is
+ * cleared when the VM's last claim on it ends, and slots are dropped with the mappings that they hold.
  *
  * How a box is replayed elsewhere. The firmware keeps an operation log: after each operation, accepted or refused, it writes
  * the row's record and puts it into a ring or a file of its own; the library keeps none. A row that was refused with 1 is left
@@ -129,7 +137,7 @@
  *     tiligormis_find_slot       1,280     1,280
  *     tiligormis_free           16,640    16,640
  *     tiligormis_log_read          512       512
- *     tiligormis_log_write         256       256
+ *     tiligormis_log_write         256       512
  *     tiligormis_operation      17,920    17,920
  *     tiligormis_replay         16,896    16,640
  *     tiligormis_sequence       18,176    18,176
@@ -152,7 +160,7 @@ extern "C" {
 /* ---- Version ------------------------------------------------------------------------------------------------------------ */
 
 #define TILIGORMIS_VERSION_MAJOR 0
-#define TILIGORMIS_VERSION_MINOR 3
+#define TILIGORMIS_VERSION_MINOR 4
 #define TILIGORMIS_VERSION (1000 * TILIGORMIS_VERSION_MAJOR + TILIGORMIS_VERSION_MINOR)
 
 /* ---- Limits ------------------------------------------------------------------------------------------------------------- */
@@ -177,7 +185,7 @@ extern "C" {
 #define TILIGORMIS_FREE_NUMBERS 2    /* numbers of the free query's result */
 #define TILIGORMIS_MACHINE_NUMBERS 215 /* numbers of a machine header */
 
-#define TILIGORMIS_KINDS 26          /* kinds of a log's records: 1 to 26, the operations' numbers */
+#define TILIGORMIS_KINDS 27          /* kinds of a log's records: 1 to 27, the operations' numbers */
 #define TILIGORMIS_RECORD_BYTES 24   /* bytes of the longest record that a row makes */
 
 #define TILIGORMIS_IDLE 4294967295u  /* how rows and the header write that a port is idle */
@@ -209,7 +217,7 @@ enum tiligormis_refusal {
     TILIGORMIS_MAPPING_PRESENT = 10, /* a guest page is mapped already */
     TILIGORMIS_STILL_IN_USE = 11,    /* a page is still mapped or shared */
     TILIGORMIS_PAIR_WRONG = 12,      /* the pair is wrong: a VM with itself, or no such pair */
-    TILIGORMIS_VM_BUSY = 13,         /* the VM still has something: a page, a mapping, an edge, a CPU or a device */
+    TILIGORMIS_VM_BUSY = 13,         /* the VM still has something: a CPU, a device, for remove VM also a page, mapping or edge */
     TILIGORMIS_NO_ROOM = 14,         /* there is no room: too few entries are free */
     TILIGORMIS_PORT_IDLE = 15,       /* the port is idle */
     TILIGORMIS_ACCESS_LACKING = 16   /* the mapping's access lacks the needed bit */
@@ -270,7 +278,7 @@ static inline const char *tiligormis_refusal_sentence(uint64_t number) {
         "a guest page is mapped already",
         "a page is still mapped or shared",
         "the pair is wrong: a VM with itself, or no such pair",
-        "the VM still has something: a page, a mapping, an edge, a CPU or a device",
+        "the VM still has something: a CPU, a device, for remove VM also a page, mapping or edge",
         "there is no room: too few entries are free",
         "the port is idle",
         "the mapping's access lacks the needed bit",
@@ -313,7 +321,8 @@ enum tiligormis_operation_number {
     TILIGORMIS_CPU_WRITE = 23,          /* cpu, guest page, word, value */
     TILIGORMIS_DMA_WRITE = 24,          /* device, guest page, word, value */
     TILIGORMIS_DATA_BARRIER = 25,
-    TILIGORMIS_INSTRUCTION_BARRIER = 26
+    TILIGORMIS_INSTRUCTION_BARRIER = 26,
+    TILIGORMIS_RETIRE_VM = 27           /* vm */
 };
 
 /* ---- Structs. Those of numbers only cross as a pointer and how many numbers they have. ------------------------------------ */
@@ -370,7 +379,7 @@ typedef struct tiligormis_row {
 typedef struct tiligormis_answer {
     uint64_t number;  /* 0, or the refusal number */
     uint64_t index;   /* of a region refused with 6, 7, 9, 10 or 11: where in it, from 0, its lowest failing page is; else 0 */
-    uint64_t dropped; /* cache slots that an unmapping, a replacement or the removal of a region dropped; else 0 */
+    uint64_t dropped; /* cache slots that an unmapping, a replacement, the removal of a region or a retirement dropped; else 0 */
     uint64_t word;    /* the word read; 0 except for an accepted read */
 } tiligormis_answer;
 
@@ -404,7 +413,7 @@ static inline tiligormis_row tiligormis_row_add_vm(uint64_t vm) {
 }
 
 /*
- * 2, remove VM; how it comes to that, the head of this file says.
+ * 2, remove VM; how it comes to that, the head of this file says. Retire VM, 27, takes away a VM that still has something.
  * Refused: 4 the VM is not known; 13 it has a CPU or DMA page, a CPU or DMA mapping, an edge, a CPU or a device.
  * Effect: the VM is not known.
  */
@@ -676,6 +685,19 @@ static inline tiligormis_row tiligormis_row_instruction_barrier(void) {
     return row;
 }
 
+/*
+ * 27, retire VM, with all that it has; it may have nothing.
+ * Refused: 4 the VM is not known; 13 it has a CPU or a device. Nothing else that it has is a reason.
+ * Effect: the VM is not known. Its CPU and DMA mappings are gone, and the CPU mappings of other VMs that target a page which it
+ *   owned; the slots of all these are dropped, and answer.dropped counts those of both sides together. Every pair of which it
+ *   was an end is gone. The pages that it owned go back to the pool, and it holds none for DMA. Each page that it held is
+ *   cleared; pages that it was lent, and those of the shared span, are not.
+ */
+static inline tiligormis_row tiligormis_row_retire_vm(uint64_t vm) {
+    tiligormis_row row = {{TILIGORMIS_RETIRE_VM, vm}};
+    return row;
+}
+
 /* ---- The box ------------------------------------------------------------------------------------------------------------ */
 
 /*
@@ -882,7 +904,7 @@ static inline uint64_t tiligormis_box_replay(const tiligormis_box *box, const ui
 /* Whether the box is valid. */
 static inline bool tiligormis_box_valid(const tiligormis_box *box) { return tiligormis_valid(TILIGORMIS_LENT(box)); }
 
-/* How many pages are in the pool, and the lowest of them. Returns 0, or 1 where the box is not valid. */
+/* How many pages are free, and the lowest of them. Returns 0, or 1 where the box is not valid. */
 static inline uint64_t tiligormis_box_free(const tiligormis_box *box, tiligormis_free_pages *free_pages) {
     return tiligormis_free(TILIGORMIS_LENT(box), free_pages, TILIGORMIS_FREE_NUMBERS);
 }

@@ -13,7 +13,7 @@ use crate::script::{Event, Events, Setup};
 pub fn refusals(operation: u64) -> &'static [u64] {
     match operation {
         1 => &[5],
-        2 => &[4, 13],
+        2 | 27 => &[4, 13],
         3 => &[4, 6, 7],
         4 => &[4, 6, 11],
         5 => &[4, 6, 12, 14],
@@ -93,6 +93,15 @@ const POINTS: &[(&[u64], &[&str])] = &[
     (&[21, 22, 23, 24], &["0 last word", "9 though another VM maps it"]),
     (&[21, 22], &["0 nonzero word"]),
     (&[22, 24], &["0 on the shared span"]),
+    (&[27], &["13 a CPU alone", "13 a device alone", "0 VM with nothing"]),
+    (&[27], &["0 drops in the CPU cache alone", "0 drops in the DMA cache alone"]),
+    (&[27], &["0 drops in both caches", "0 keeps another VM's slots on both sides"]),
+    (&[27], &["0 a borrower's mapping goes", "0 a borrower's slot goes"]),
+    (&[27], &["0 edge goes, VM its left end", "0 edge goes, VM its right end"]),
+    (&[27], &["0 edge goes, VM the lower end", "0 edge goes, VM the higher end"]),
+    (&[27], &["0 nonzero page cleared", "0 nonzero DMA-only page cleared"]),
+    (&[27], &["0 nonzero page kept for its lender", "0 nonzero shared page kept"]),
+    (&[27], &["0 CPU map full", "0 DMA map full", "0 pairs full"]),
 ];
 
 #[derive(Clone, Default, Debug)]
@@ -288,6 +297,7 @@ impl Coverage {
                 self.hit(operation, "0 empty slot", !filled);
             }
             21..=24 => self.access(m, row, answer),
+            27 => self.retire(m, row[1], answer),
             _ => {}
         }
         if answer.number == 0 {
@@ -311,18 +321,7 @@ impl Coverage {
 
     /// Which of the reasons of 13 hold, and that one of them holds alone.
     fn remove_vm(&mut self, m: &Machine, vm: Vm) {
-        let pages = |half: &Half| half.owned.get(&vm).is_some_and(|pages| !pages.is_empty());
-        let mapped = |half: &Half| half.software.keys().any(|key| key.0 == vm);
-        let edges = m.pairs.iter().any(|&(low, high, _)| low == vm || high == vm);
-        let reasons = [
-            pages(&m.cpu),
-            pages(&m.dma),
-            mapped(&m.cpu),
-            mapped(&m.dma),
-            edges,
-            m.cpu.ports.contains(&Some(vm)),
-            m.dma.ports.contains(&Some(vm)),
-        ];
+        let reasons = belongings(m, vm);
         let alone = |reason: usize| (0..7).all(|i| reasons[i] == (i == reason));
         self.hit(2, "13 CPU pages alone", alone(0));
         self.hit(2, "13 DMA pages alone", alone(1));
@@ -357,8 +356,7 @@ impl Coverage {
     }
 
     fn clearing(&mut self, m: &Machine, operation: u64, page: Page, stays: bool) {
-        let begin = Machine::address(page, 0);
-        let nonzero = m.memory[begin..begin + WORDS as usize].iter().any(|&word| word != 0);
+        let nonzero = nonzero(m, page);
         self.hit(operation, "nonzero page cleared", nonzero && !stays);
         self.hit(operation, "nonzero page kept for the other claim", nonzero && stays);
     }
@@ -613,6 +611,88 @@ impl Coverage {
         self.hit(operation, "drops several slots", dropped > 1);
         self.hit(operation, "keeps another VM's slot", near.len() > dropped);
     }
+}
+
+/// Operation 27.
+impl Coverage {
+    fn retire(&mut self, m: &Machine, vm: Vm, answer: Answer) {
+        match answer.number {
+            0 => {
+                self.hit(27, "0 VM with nothing", belongings(m, vm) == [false; 7]);
+                self.retired_slots(m, vm);
+                self.retired_edges(m, vm);
+                self.retired_pages(m, vm);
+                self.hit(27, "0 CPU map full", m.cpu.software.len() == ENTRIES);
+                self.hit(27, "0 DMA map full", m.dma.software.len() == ENTRIES);
+                self.hit(27, "0 pairs full", m.pairs.len() == PAIRS);
+            }
+            13 => {
+                let (cpu, device) = (m.cpu.runs(vm), m.dma.runs(vm));
+                self.hit(27, "13 a CPU alone", cpu && !device);
+                self.hit(27, "13 a device alone", device && !cpu);
+            }
+            _ => {}
+        }
+    }
+
+    /// Slots that go and stay; borrowers are others with what lies on its pages.
+    fn retired_slots(&mut self, m: &Machine, vm: Vm) {
+        let lent = |user: Vm, entry: &Entry| user != vm && m.cpu.holds(vm, entry.page);
+        let slots = |half: &Half| half.cache.slots.into_iter().flatten().collect::<Vec<Slot>>();
+        let (cpu, dma) = (slots(&m.cpu), slots(&m.dma));
+        let borrowed = cpu.iter().filter(|slot| lent(slot.vm, &slot.entry)).count();
+        let of_cpu = borrowed + cpu.iter().filter(|slot| slot.vm == vm).count();
+        let of_dma = dma.iter().filter(|slot| slot.vm == vm).count();
+        let kept = of_cpu < cpu.len() && of_dma < dma.len();
+        let mapping = m.cpu.software.iter().any(|(key, entry)| lent(key.0, entry));
+        self.hit(27, "0 drops in the CPU cache alone", of_cpu > 0 && of_dma == 0);
+        self.hit(27, "0 drops in the DMA cache alone", of_cpu == 0 && of_dma > 0);
+        self.hit(27, "0 drops in both caches", of_cpu > 0 && of_dma > 0);
+        self.hit(27, "0 keeps another VM's slots on both sides", kept);
+        self.hit(27, "0 a borrower's mapping goes", mapping);
+        self.hit(27, "0 a borrower's slot goes", borrowed > 0);
+    }
+
+    /// The left end is the one that share named first, and that is the owner.
+    fn retired_edges(&mut self, m: &Machine, vm: Vm) {
+        let edge = |holds: &dyn Fn(&Pair) -> bool| {
+            m.pairs.iter().any(|pair| joins(pair, vm) && holds(pair))
+        };
+        let owns = |pair: &Pair| m.cpu.holds(vm, pair.2);
+        self.hit(27, "0 edge goes, VM its left end", edge(&owns));
+        self.hit(27, "0 edge goes, VM its right end", edge(&|pair| !owns(pair)));
+        self.hit(27, "0 edge goes, VM the lower end", edge(&|&(low, ..)| low == vm));
+        self.hit(27, "0 edge goes, VM the higher end", edge(&|&(_, high, _)| high == vm));
+    }
+
+    /// Pages that hold words and are cleared, and pages in its reach that aren't.
+    fn retired_pages(&mut self, m: &Machine, vm: Vm) {
+        let written: Vec<Page> = (0..m.pages).filter(|&page| nonzero(m, page)).collect();
+        let any = |picked: &dyn Fn(Page) -> bool| written.iter().any(|&page| picked(page));
+        let (owned, held) = (|page| m.cpu.holds(vm, page), |page| m.dma.holds(vm, page));
+        let maps = |page| m.dma.software.iter().any(|(key, e)| key.0 == vm && e.page == page);
+        let borrowed = |page| m.shared_with(vm, page) && !owned(page);
+        self.hit(27, "0 nonzero page cleared", any(&owned));
+        self.hit(27, "0 nonzero DMA-only page cleared", any(&|page| held(page) && !owned(page)));
+        self.hit(27, "0 nonzero page kept for its lender", any(&borrowed));
+        self.hit(27, "0 nonzero shared page kept", any(&|p| m.shared.contains(p) && maps(p)));
+    }
+}
+
+/// What a VM has: CPU pages, DMA pages, CPU mappings, DMA mappings, edges, a
+/// CPU, a device.
+fn belongings(m: &Machine, vm: Vm) -> [bool; 7] {
+    let pages = |half: &Half| half.owned.get(&vm).is_some_and(|pages| !pages.is_empty());
+    let mapped = |half: &Half| half.software.keys().any(|key| key.0 == vm);
+    let edges = m.pairs.iter().any(|pair| joins(pair, vm));
+    let (cpu, dma) = (&m.cpu, &m.dma);
+    [pages(cpu), pages(dma), mapped(cpu), mapped(dma), edges, cpu.runs(vm), dma.runs(vm)]
+}
+
+/// The page has a word other than 0.
+fn nonzero(m: &Machine, page: Page) -> bool {
+    let begin = Machine::address(page, 0);
+    m.memory[begin..begin + WORDS as usize].iter().any(|&word| word != 0)
 }
 
 /// The side on which an operation from 7 to 24 works.

@@ -16,7 +16,7 @@ const SLOT_COUNT: u64 = SLOTS as u64;
 const LAST_WORD: u64 = WORDS - 1;
 
 /// Every scenario with its name.
-pub const SCENARIOS: [(&str, fn(&mut Author)); 22] = [
+pub const SCENARIOS: [(&str, fn(&mut Author)); 27] = [
     ("starts that are refused", refused_starts),
     ("starts at the edge", edge_starts),
     ("numbers out of range", ranges),
@@ -38,6 +38,11 @@ pub const SCENARIOS: [(&str, fn(&mut Author)); 22] = [
     ("guest accesses", accesses),
     ("clearing", clearing),
     ("free pages", free_pages),
+    ("a VM retired", retire),
+    ("a VM that can't be retired", retire_refused),
+    ("a VM retired with one thing", retire_one),
+    ("all that goes with a retired VM", retire_all),
+    ("caches after a VM is retired", retire_caches),
     ("sizes", sizes),
 ];
 
@@ -169,6 +174,7 @@ fn ranges(a: &mut Author) {
         a.expect(0, &[1, 2, HUGE, HUGE, HUGE, HUGE, HUGE, HUGE]);
         a.expect(0, &[25, HUGE, HUGE, HUGE, HUGE, HUGE, HUGE, HUGE]);
         a.expect(0, &[26, HUGE]);
+        a.expect(0, &[27, 2, HUGE, HUGE, HUGE, HUGE, HUGE, HUGE]);
     }
 }
 
@@ -350,6 +356,15 @@ fn pairs_full(a: &mut Author) {
     a.expect(0, &[6, 2, 3, 3]);
     a.expect(0, &[5, 9, 1, 9]);
     a.expect(14, &[5, 3, 2, 3]);
+    a.note("VM 0 retired leaves the room of its 15 pairs and of 8 by which others lent to it");
+    a.expect_drops(0, &[27, 0]);
+    a.expect(0, &[3, 9, 10]);
+    let room = [2, 3, 4, 5, 6, 7, 8, 10, 11, 12, 13, 14, 15].map(|vm| (vm, 9));
+    let more = [1, 2, 3, 4, 5, 6, 7, 8, 10, 11].map(|vm| (vm, 10));
+    for (vm, page) in room.into_iter().chain(more) {
+        a.expect(0, &[5, 9, vm, page]);
+    }
+    a.expect(14, &[5, 9, 12, 10]);
 }
 
 fn cpu_maps(a: &mut Author) {
@@ -431,6 +446,15 @@ fn maps_full(a: &mut Author) {
     a.expect(14, &[11, 1, 60_000, 1, 2, 3]);
     a.expect(0, &[13, 1, 60_000, 2, 1, 3]);
     a.expect(14, &[8, 1, 1, 7, 1]);
+    a.note("VM 1 retired takes all CPU entries, and of DMA its own");
+    a.expect(0, &[7, 1, 1, 0, 3]);
+    a.expect_drops(0, &[27, 1]);
+    a.expect(9, &[9, 2, (ENTRY_COUNT - 1) * apart]);
+    a.expect(0, &[10, 2, (ENTRY_COUNT - 1) * apart]);
+    add(a, &[1]);
+    a.expect(9, &[9, 1, 0]);
+    a.expect(9, &[10, 1, 0]);
+    a.expect(0, &[8, 1, 0, 7, 3]);
 }
 
 /// Refusals 3, 4 and 8 of all four region operations.
@@ -665,7 +689,20 @@ fn regions_full(a: &mut Author) {
         a.expect(0, &[insert, 2, 2000, 700, 101, 3]);
         a.expect_at(6, 0, &[remove, 1, 0, 0, most, 3]);
         a.free();
+        retired_room(a, insert, most);
     }
+}
+
+/// Of VM 1 a hundred entries are in, of VM 2 one more; each retired leaves the
+/// room of its own.
+fn retired_room(a: &mut Author, insert: u64, most: u64) {
+    a.expect(0, &[27, 1]);
+    add(a, &[1]);
+    a.expect(14, &[insert, 1, 0, 0, most, 3]);
+    a.expect(0, &[27, 2]);
+    free(a, PAGES, Some(0));
+    a.expect(0, &[insert, 1, 0, 0, most, 3]);
+    a.expect(0, &[insert, 1, 2000, 500, 100, 3]);
 }
 
 /// For CPU the whole box, whose page 500 is taken; for DMA a region still in.
@@ -974,6 +1011,269 @@ fn free_pages(a: &mut Author) {
     free(a, 0, None);
     a.expect(0, &[14, 1, 16, 0, 2, 3]);
     free(a, 1, Some(1));
+}
+
+/// The worked piece: a borrower's mapping goes, slots of both caches are
+/// counted, and 13 holds until the device is idle.
+fn retire(a: &mut Author) {
+    open(a, 8, 7, 1, &[[1, 16, 0, 3, 3, 3], [2, 16, 2, 2, 3, 1]]);
+    add(a, &[1, 2]);
+    a.expect(0, &[11, 1, 16, 0, 3, 3]);
+    a.expect(0, &[13, 1, 16, 0, 3, 3]);
+    a.expect(0, &[5, 1, 2, 0]);
+    a.expect(0, &[7, 2, 40, 0, 1, 0]);
+    a.expect(0, &[15, 0, 2]);
+    a.expect(0, &[16, 3, 1]);
+    a.expect(0, &[17, 0, 40]);
+    a.expect(0, &[18, 3, 16]);
+    a.expect(13, &[27, 1]);
+    a.expect(0, &[16, 3, IDLE]);
+    a.expect_drops(2, &[27, 1]);
+    free(a, 7, Some(0));
+    a.expect(9, &[21, 0, 40, 0]);
+    a.expect(4, &[27, 1]);
+    a.expect(0, &[1, 1]);
+}
+
+/// Each refusal of operation 27 by each of its reasons.
+fn retire_refused(a: &mut Author) {
+    open(a, 8, 7, 1, &[]);
+    a.note("2, then 4; numbers past the VM are ignored");
+    for vm in [VMS, IDLE, IDLE + 1, HUGE] {
+        a.expect(2, &[27, vm, 1]);
+    }
+    for vm in 0..VMS {
+        a.expect(4, &[27, vm, HUGE]);
+    }
+    add(a, &[0, 1, 2, VMS - 1]);
+    for vm in [0, VMS - 1] {
+        a.expect_drops(0, &[27, vm, HUGE, HUGE, HUGE, HUGE, HUGE, HUGE]);
+        a.expect(4, &[27, vm]);
+        a.expect(2, &[27, vm + VMS]);
+    }
+    a.note("13 for each CPU and each device alone");
+    for port in 0..PORT_COUNT {
+        for side in [CPU, DMA] {
+            a.expect(0, &[side.run, port, 1]);
+            a.expect(13, &[27, 1]);
+            a.expect(0, &[side.run, port, IDLE]);
+        }
+    }
+    a.note("13 for both, then one; a port that goes to another VM lets go too");
+    a.expect(0, &[15, 0, 1]);
+    a.expect(0, &[16, 7, 1]);
+    a.expect(13, &[27, 1]);
+    a.expect(0, &[15, 0, IDLE]);
+    a.expect(13, &[27, 1]);
+    a.expect(0, &[16, 7, 2]);
+    a.expect_drops(0, &[27, 1]);
+    a.expect(4, &[27, 1]);
+    a.expect(13, &[27, 2]);
+    a.expect(4, &[15, 0, 1]);
+    a.expect(4, &[16, 0, 1]);
+}
+
+/// VM 1 with nothing, or with one thing alone that would keep operation 2
+/// away; added again, it has nothing.
+fn retire_one(a: &mut Author) {
+    open(a, 8, 7, 1, &[[1, 16, 0, 2, 3, 3]]);
+    add(a, &[0, 2]);
+    a.expect(0, &[3, 2, 5]);
+    let things: [&[&[u64]]; 8] = [
+        &[],
+        &[&[3, 1, 6]],
+        &[&[3, 1, 6], &[5, 1, 0, 6]],
+        &[&[3, 1, 6], &[5, 1, 2, 6]],
+        &[&[5, 2, 1, 5]],
+        &[&[5, 2, 1, 5], &[7, 1, 9, 5, 3]],
+        &[&[8, 1, 9, 7, 3]],
+        &[&[13, 1, 16, 0, 2, 3], &[10, 1, 16], &[10, 1, 17]],
+    ];
+    for thing in things {
+        add(a, &[1]);
+        for row in thing {
+            a.expect(0, row);
+        }
+        if !thing.is_empty() {
+            a.expect(13, &[2, 1]);
+        }
+        a.expect_drops(0, &[27, 1]);
+        free(a, 6, Some(0));
+        add(a, &[1]);
+        a.expect(0, &[2, 1]);
+    }
+    a.note("what VM 2 has was lent at most, and is still its own");
+    a.expect(0, &[4, 2, 5]);
+    a.expect(0, &[2, 2]);
+}
+
+/// VM 1 has something of every kind, and VMs 2 and 3 beside it.
+fn retire_all(a: &mut Author) {
+    open(a, 8, 7, 1, &[[1, 16, 0, 3, 3, 3], [1, 60, 4, 1, 3, 2], [2, 16, 3, 1, 3, 3]]);
+    add(a, &[1, 2, 3]);
+    three_vms(a);
+    three_vms_at_work(a);
+    free(a, 2, Some(5));
+    a.expect(13, &[27, 1]);
+    a.expect(0, &[15, 0, IDLE]);
+    a.expect(13, &[27, 1]);
+    a.expect(0, &[16, 0, IDLE]);
+    a.note("four slots of the CPU cache, two of them borrowers', and two of the DMA cache");
+    a.expect_drops(6, &[27, 1]);
+    free(a, 6, Some(0));
+    others_after_retire(a);
+    a.note("the id is unknown; added again, it has nothing, and its units are there");
+    a.expect(4, &[3, 1, 0]);
+    a.expect(4, &[6, 1, 2, 1]);
+    add(a, &[1]);
+    a.expect(12, &[6, 1, 2, 1]);
+    a.expect(12, &[6, 2, 1, 3]);
+    a.expect(9, &[9, 1, 16]);
+    a.expect(9, &[10, 1, 70]);
+    a.expect(6, &[7, 1, 80, 3, 3]);
+    a.expect(6, &[8, 1, 60, 4, 3]);
+    a.expect(0, &[2, 1]);
+    add(a, &[1]);
+    a.expect(0, &[11, 1, 16, 0, 3, 3]);
+    a.expect_drops(0, &[27, 1]);
+    zeros_after_retire(a);
+}
+
+/// The pages, pairs and mappings of VM 1 and of two VMs beside it.
+fn three_vms(a: &mut Author) {
+    let rows: [&[u64]; 15] = [
+        &[11, 1, 16, 0, 3, 3],
+        &[13, 1, 16, 0, 3, 3],
+        &[13, 1, 60, 4, 1, 3],
+        &[11, 2, 16, 3, 1, 3],
+        &[13, 2, 16, 3, 1, 3],
+        &[5, 1, 2, 1],
+        &[5, 1, 3, 1],
+        &[5, 2, 1, 3],
+        &[5, 2, 3, 3],
+        &[7, 1, 80, 3, 3],
+        &[7, 2, 90, 1, 3],
+        &[7, 3, 91, 1, 3],
+        &[7, 3, 92, 3, 1],
+        &[8, 1, 70, 7, 3],
+        &[8, 2, 70, 7, 1],
+    ];
+    for row in rows {
+        a.expect(0, row);
+    }
+}
+
+/// CPUs 0 to 2 on VMs 1 to 3, devices 0 and 1 on VMs 1 and 2; words in every
+/// page that VM 1 has or reaches, and slots of all three.
+fn three_vms_at_work(a: &mut Author) {
+    for (run, port, vm) in [(15, 0, 1), (15, 1, 2), (15, 2, 3), (16, 0, 1), (16, 1, 2)] {
+        a.expect(0, &[run, port, vm]);
+    }
+    let writes = [
+        [23, 0, 16, 0, 11],
+        [23, 2, 91, LAST_WORD, 22],
+        [23, 0, 80, 5, 33],
+        [24, 0, 60, 9, 44],
+        [24, 0, 70, 1, 55],
+        [24, 0, 18, 100, 66],
+        [23, 1, 16, LAST_WORD, 77],
+    ];
+    for write in writes {
+        a.expect(0, &write);
+    }
+    for (port, guest) in [(0, 16), (0, 80), (1, 90), (1, 16), (2, 91), (2, 92)] {
+        a.expect(0, &[17, port, guest]);
+    }
+    for (port, guest) in [(0, 16), (0, 70), (1, 70), (1, 16)] {
+        a.expect(0, &[18, port, guest]);
+    }
+}
+
+/// Borrowers lost what they had of VM 1; all else of theirs is untouched.
+fn others_after_retire(a: &mut Author) {
+    for (port, vm, guest) in [(1, 2, 90), (2, 3, 91)] {
+        a.expect(9, &[21, port, guest, LAST_WORD]);
+        a.expect(9, &[23, port, guest, LAST_WORD, 1]);
+        a.expect(9, &[17, port, guest]);
+        a.expect(9, &[9, vm, guest]);
+        a.expect(6, &[7, vm, guest, 1, 3]);
+    }
+    a.note("a page that was lent to VM 1 keeps its words, and so does the shared span");
+    a.expect_word(33, &[21, 1, 16, 5]);
+    a.expect_word(77, &[22, 1, 16, LAST_WORD]);
+    a.expect_word(33, &[21, 2, 92, 5]);
+    a.expect_word(55, &[22, 1, 70, 1]);
+    a.expect(11, &[6, 2, 3, 3]);
+    a.note("the slots of others stay");
+    a.expect_drops(1, &[9, 3, 92]);
+    a.expect_drops(1, &[9, 2, 16]);
+    a.expect_drops(1, &[10, 2, 70]);
+    a.expect_drops(1, &[10, 2, 16]);
+    a.expect(0, &[6, 3, 2, 3]);
+}
+
+/// VM 3 takes the pages that VM 1 had and reads zeros where words were.
+fn zeros_after_retire(a: &mut Author) {
+    for (page, word) in [(0, 0), (1, LAST_WORD), (2, 100), (4, 9)] {
+        a.expect(0, &[3, 3, page]);
+        a.expect(0, &[7, 3, page, page, 1]);
+        a.expect_word(0, &[21, 2, page, word]);
+    }
+    free(a, 2, Some(5));
+}
+
+/// Slots that VM 2 leaves are filled first, the lowest of them, and the hands
+/// wait; all other slots stay where they are.
+fn retire_caches(a: &mut Author) {
+    open(a, 8, 7, 1, &[]);
+    add(a, &[1]);
+    a.expect(0, &[3, 1, 0]);
+    for (side, pages) in [(CPU, [0, 1]), (DMA, [7, 7])] {
+        add(a, &[2]);
+        a.expect(0, &[3, 2, 1]);
+        two_in_cache(a, &side, pages);
+        a.expect(0, &[side.run, 1, IDLE]);
+        a.expect_drops(6, &[27, 2]);
+        for guest in SLOT_COUNT - 1..SLOT_COUNT + 6 {
+            a.expect(0, &[side.fill, 0, guest]);
+        }
+        let late = SLOT_COUNT - 1;
+        for (slot, guest) in [(10, late), (20, late + 1), (60, late + 2), (63, late + 5)] {
+            a.expect(0, &[side.empty, slot]);
+            a.expect_drops(0, &[side.unmap, 1, guest]);
+        }
+        a.note("the hand stood at 3, and its slot was taken last");
+        a.expect_drops(0, &[side.unmap, 1, 3]);
+        for (slot, guest) in [(3, late + 6), (4, 4), (59, 59)] {
+            a.expect(0, &[side.empty, slot]);
+            a.expect_drops(0, &[side.unmap, 1, guest]);
+        }
+        a.expect_drops(1, &[side.unmap, 1, 5]);
+        a.expect(0, &[side.run, 0, IDLE]);
+    }
+    a.note("what is left goes with VM 1, in both caches");
+    a.expect_drops(2 * (SLOT_COUNT - 8), &[27, 1]);
+}
+
+/// VM 1 fills slots 0 to 59 and VM 2 the last four, VM 1 the first three again
+/// by the hand, and VM 2 slots 10 and 20 once they are empty.
+fn two_in_cache(a: &mut Author, side: &Numbers, pages: [Page; 2]) {
+    for guest in 0..SLOT_COUNT + 6 {
+        a.expect(0, &[side.map, 1, guest, pages[0], 3]);
+    }
+    for guest in 0..6 {
+        a.expect(0, &[side.map, 2, guest, pages[1], 3]);
+    }
+    a.expect(0, &[side.run, 0, 1]);
+    a.expect(0, &[side.run, 1, 2]);
+    let first = (0..60).map(|guest| (0, guest)).chain((0..4).map(|guest| (1, guest)));
+    for (port, guest) in first.chain((60..63).map(|guest| (0, guest))) {
+        a.expect(0, &[side.fill, port, guest]);
+    }
+    for (slot, guest) in [(10, 4), (20, 5)] {
+        a.expect(0, &[side.empty, slot]);
+        a.expect(0, &[side.fill, 1, guest]);
+    }
 }
 
 /// Boxes of many sizes, above all those near whole 64-bit words of pages.

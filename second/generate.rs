@@ -29,6 +29,9 @@ const ODD: [u64; 14] = [
 /// VMs that a box for the log never adds, so that some stay unknown.
 const STRANGERS: std::ops::Range<Vm> = 10..VMS - 1;
 
+/// The operation that takes most out of the tables.
+const RETIRE: u64 = 27;
+
 /// How many rows the writer tries for one wanted answer.
 const TRIES: usize = 24;
 
@@ -54,39 +57,44 @@ impl Mood {
     fn weights(self) -> [u64; OPERATIONS as usize] {
         match self {
             Mood::Any => {
-                [4, 2, 4, 4, 4, 4, 6, 6, 4, 4, 6, 5, 6, 5, 4, 4, 6, 6, 2, 2, 5, 5, 5, 5, 1, 1]
+                [4, 2, 4, 4, 4, 4, 6, 6, 4, 4, 6, 5, 6, 5, 4, 4, 6, 6, 2, 2, 5, 5, 5, 5, 1, 1, 1]
             }
             Mood::Grow => {
-                [5, 0, 6, 0, 6, 0, 12, 12, 0, 0, 8, 0, 8, 0, 4, 4, 4, 4, 0, 0, 1, 1, 4, 4, 0, 0]
+                [5, 0, 6, 0, 6, 0, 12, 12, 0, 0, 8, 0, 8, 0, 4, 4, 4, 4, 0, 0, 1, 1, 4, 4, 0, 0, 0]
             }
             Mood::Shrink => {
-                [0, 4, 0, 8, 0, 8, 0, 0, 12, 12, 1, 9, 1, 9, 3, 3, 1, 1, 2, 2, 2, 2, 0, 0, 1, 1]
+                [0, 4, 0, 8, 0, 8, 0, 0, 12, 12, 1, 9, 1, 9, 3, 3, 1, 1, 2, 2, 2, 2, 0, 0, 1, 1, 1]
             }
             Mood::Guests => {
-                [0, 0, 0, 0, 1, 1, 2, 2, 1, 1, 1, 1, 1, 1, 3, 3, 6, 6, 1, 1, 9, 9, 9, 9, 1, 1]
+                [0, 0, 0, 0, 1, 1, 2, 2, 1, 1, 1, 1, 1, 1, 3, 3, 6, 6, 1, 1, 9, 9, 9, 9, 1, 1, 1]
             }
-            Mood::Regions => {
-                [2, 0, 0, 8, 0, 4, 2, 2, 9, 9, 22, 18, 22, 18, 2, 2, 4, 4, 0, 0, 1, 1, 8, 8, 0, 0]
-            }
+            Mood::Regions => [
+                2, 0, 0, 8, 0, 4, 2, 2, 9, 9, 22, 18, 22, 18, 2, 2, 4, 4, 0, 0, 1, 1, 8, 8, 0, 0, 1,
+            ],
             Mood::Fills => {
-                [0, 0, 0, 0, 0, 0, 3, 3, 1, 1, 0, 0, 0, 0, 3, 3, 40, 40, 2, 2, 1, 1, 1, 1, 0, 0]
+                [0, 0, 0, 0, 0, 0, 3, 3, 1, 1, 0, 0, 0, 0, 3, 3, 40, 40, 2, 2, 1, 1, 1, 1, 0, 0, 0]
             }
             Mood::Pairs => {
-                [6, 0, 9, 1, 70, 4, 4, 0, 1, 0, 1, 1, 1, 1, 0, 0, 0, 0, 0, 0, 1, 0, 1, 0, 0, 0]
+                [6, 0, 9, 1, 70, 4, 4, 0, 1, 0, 1, 1, 1, 1, 0, 0, 0, 0, 0, 0, 1, 0, 1, 0, 0, 0, 0]
             }
             Mood::Maps => {
-                [1, 0, 2, 0, 1, 0, 99, 99, 1, 1, 2, 1, 2, 1, 2, 2, 1, 1, 0, 0, 1, 1, 1, 1, 0, 0]
+                [1, 0, 2, 0, 1, 0, 99, 99, 1, 1, 2, 1, 2, 1, 2, 2, 1, 1, 0, 0, 1, 1, 1, 1, 0, 0, 0]
             }
             Mood::Sweep => {
-                [0, 1, 0, 8, 0, 12, 0, 0, 40, 40, 0, 8, 0, 8, 1, 1, 1, 1, 0, 0, 0, 0, 0, 0, 0, 0]
+                [0, 1, 0, 8, 0, 12, 0, 0, 40, 40, 0, 8, 0, 8, 1, 1, 1, 1, 0, 0, 0, 0, 0, 0, 0, 0, 0]
             }
             Mood::Full => {
-                [0, 0, 0, 0, 1, 0, 99, 99, 0, 0, 0, 0, 0, 0, 1, 1, 1, 1, 0, 0, 1, 1, 1, 1, 0, 0]
+                [0, 0, 0, 0, 1, 0, 99, 99, 0, 0, 0, 0, 0, 0, 1, 1, 1, 1, 0, 0, 1, 1, 1, 1, 0, 0, 0]
             }
-            Mood::Brim => {
-                [1, 0, 0, 0, 9, 0, 22, 22, 0, 0, 40, 0, 40, 0, 1, 1, 1, 1, 1, 1, 1, 1, 1, 1, 0, 0]
-            }
+            Mood::Brim => [
+                1, 0, 0, 0, 9, 0, 22, 22, 0, 0, 40, 0, 40, 0, 1, 1, 1, 1, 1, 1, 1, 1, 1, 1, 0, 0, 0,
+            ],
         }
+    }
+
+    /// VMs are retired in it; where tables are to get full, none is.
+    fn retires(self) -> bool {
+        self.weights()[RETIRE as usize - 1] > 0
     }
 
     /// How many rows it lasts: long enough to bring its table to the brim.
@@ -302,11 +310,20 @@ impl Writer {
         };
         if self.logged && self.mood == Mood::Maps {
             self.mood = Mood::Full;
+            self.plan_pages();
             for _ in 0..3 {
                 if let Some(region) = self.free_a_unit() {
                     self.plan_region(14, region);
                 }
             }
+        }
+        if self.logged && self.mood == Mood::Brim {
+            self.plan_no_room(Side::Cpu);
+            self.plan_no_room(Side::Dma);
+        }
+        // One VM goes while the tables are still full.
+        if self.mood == Mood::Sweep {
+            self.plan_retire();
         }
         self.left = self.mood.length();
         self.guests = match self.mood {
@@ -317,7 +334,7 @@ impl Writer {
 }
 
 /// Makes of a row one that a log can hold: the operation a known one, of an
-/// argument too wide its upper half.
+/// argument too wide its upper half. A stranger to be added becomes another VM.
 fn mend(row: &mut Row) {
     if log::body(row[0]).is_none() {
         row[0] = 1 + row[0] % OPERATIONS;
@@ -327,6 +344,9 @@ fn mend(row: &mut Row) {
         if width < 8 && *number >> 32 > 0 {
             *number >>= 32;
         }
+    }
+    if row[0] == 1 && STRANGERS.contains(&row[1]) {
+        row[1] -= STRANGERS.start;
     }
 }
 
@@ -347,7 +367,13 @@ impl Writer {
     }
 
     fn write_row(&mut self) {
-        let row = if self.logged { self.logged_row() } else { self.any_row() };
+        if self.planned.is_empty() {
+            self.plan();
+        }
+        let mut row = self.planned.pop().unwrap_or_else(|| self.any_row());
+        if self.logged {
+            mend(&mut row);
+        }
         let spelling = self.spell(&row);
         self.author.row_as(&row, &spelling);
     }
@@ -360,20 +386,6 @@ impl Writer {
         }
     }
 
-    /// A planned row or any other, such that a log can hold it.
-    fn logged_row(&mut self) -> Row {
-        let percent = if self.mood == Mood::Regions { 4 } else { 1 };
-        if self.planned.is_empty() && self.rng.chance(percent) {
-            self.plan();
-        }
-        let mut row = self.planned.pop().unwrap_or_else(|| self.any_row());
-        mend(&mut row);
-        if row[0] == 1 && STRANGERS.contains(&row[1]) {
-            row[1] -= STRANGERS.start;
-        }
-        row
-    }
-
     /// Any operation with any numbers at all.
     fn noise(&mut self) -> Row {
         let operation =
@@ -382,6 +394,10 @@ impl Writer {
         row[0] = operation;
         for number in &mut row[1..] {
             *number = if self.rng.chance(50) { self.odd() } else { self.rng.below(10) };
+        }
+        // Where tables are to get full, chance retires no VM.
+        if operation == RETIRE && !self.mood.retires() {
+            row[1] = VMS + row[1] % VMS;
         }
         row
     }
@@ -452,6 +468,7 @@ impl Writer {
             9 | 10 => self.mapped_key(&mut row, 85),
             11..=14 => self.unit_region(&mut row),
             17 | 18 | 21..=24 => self.running_port(&mut row),
+            RETIRE => self.leaving_vm(&mut row),
             _ => self.plain(&mut row),
         }
         row
@@ -600,6 +617,19 @@ impl Writer {
         }
     }
 
+    /// Mostly a VM that no port runs; at times a number that is no VM's.
+    fn leaving_vm(&mut self, row: &mut Row) {
+        self.plain(row);
+        let m = &self.author.machine;
+        let runs = |vm: &Vm| m.cpu.runs(*vm) || m.dma.runs(*vm);
+        let off: Vec<Vm> = m.known.iter().copied().filter(|vm| !runs(vm)).collect();
+        match self.rng.below(10) {
+            0 => self.spoil(row),
+            1..=5 => row[1] = self.rng.pick(&off).unwrap_or(row[1]),
+            _ => {}
+        }
+    }
+
     /// The text of a row: mostly plain, at times in one of the spellings that
     /// the script allows.
     fn spell(&mut self, row: &Row) -> String {
@@ -672,10 +702,52 @@ impl Writer {
         Some(region)
     }
 
+    /// Plans for each known VM to take a page that is free, if there are enough.
+    fn plan_pages(&mut self) {
+        let m = &self.author.machine;
+        let free = (0..m.pages).rev().filter(|&page| m.is_free(page));
+        let rows: Vec<[u64; 3]> =
+            m.known.iter().zip(free).map(|(&vm, page)| [3, vm, page]).collect();
+        rows.iter().for_each(|row| self.plan_row(row));
+    }
+
+    /// Plans to free a unit, to bring the map to its brim, and to insert the unit.
+    fn plan_no_room(&mut self, side: Side) {
+        let Some(region) = self.free_a_unit() else { return };
+        let (insert, map, unmap) = if side == Side::Cpu { (11, 7, 9) } else { (13, 8, 10) };
+        for index in 0..region.count {
+            self.plan_row(&[unmap, region.vm, region.guest + index]);
+        }
+        let m = &self.author.machine;
+        let page = match side {
+            Side::Cpu => m.cpu.owned.get(&region.vm).and_then(|pages| pages.last().copied()),
+            Side::Dma => Some(m.shared.base),
+        };
+        let room = ENTRIES - m.half(side).software.len() + self.planned.len();
+        if let (Some(page), true) = (page, room < Mood::Brim.length() as usize) {
+            for _ in 0..room {
+                let guest = self.rng.below(GUESTS);
+                self.plan_row(&[map, region.vm, guest, page, 3]);
+            }
+        }
+        self.plan_region(insert, region);
+    }
+
+    /// At times plans rows: in a box for the log about regions, and where VMs
+    /// are retired how one of them comes to that.
+    fn plan(&mut self) {
+        let percent = if self.mood == Mood::Regions { 4 } else { 1 };
+        if self.logged && self.rng.chance(percent) {
+            self.plan_unit();
+        } else if self.mood.retires() && self.rng.chance(1) {
+            self.plan_retire();
+        }
+    }
+
     /// Plans to free a unit and insert it: with one of its guest pages mapped
     /// before, with a page shared or mapped again after, or with a page held
     /// for DMA by another VM.
-    fn plan(&mut self) {
+    fn plan_unit(&mut self) {
         let Some(region) = self.free_a_unit() else { return };
         let (vm, index, other) = (region.vm, self.rng.below(region.count), self.vm());
         let (insert, remove, map) = if self.rng.chance(70) { (11, 12, 7) } else { (13, 14, 8) };
@@ -711,5 +783,114 @@ impl Writer {
             self.plan_row(&[1, rival.vm]);
             self.plan_region(13, rival);
         }
+    }
+}
+
+/// Ways to a VM retired.
+impl Writer {
+    fn plan_retire(&mut self) {
+        match self.rng.below(6) {
+            0 => self.plan_newcomer(),
+            1 => self.plan_lender(),
+            2 => self.plan_device_page(),
+            3 => self.plan_slots(&[Side::Cpu]),
+            4 => self.plan_slots(&[Side::Dma]),
+            _ => self.plan_slots(&[Side::Cpu, Side::Dma]),
+        }
+    }
+
+    /// A port on the VM fills one guest page and is idle again.
+    fn plan_slot(&mut self, side: Side, vm: Vm, guest: Guest) {
+        let (run, fill) = if side == Side::Cpu { (15, 17) } else { (16, 18) };
+        let port = self.rng.below(PORTS as u64);
+        for row in [[run, port, vm], [fill, port, guest], [run, port, IDLE]] {
+            self.plan_row(&row);
+        }
+    }
+
+    /// The VM is taken off its ports and goes, at times told to go before that
+    /// too; mostly it comes back.
+    fn plan_leave(&mut self, vm: Vm) {
+        if self.rng.chance(30) {
+            self.plan_row(&[RETIRE, vm]);
+        }
+        for (run, side) in [(15, Side::Cpu), (16, Side::Dma)] {
+            let ports = self.author.machine.half(side).ports;
+            for port in (0..PORTS).filter(|&port| ports[port] == Some(vm)) {
+                self.plan_row(&[run, port as u64, IDLE]);
+            }
+        }
+        self.plan_row(&[RETIRE, vm]);
+        if self.rng.chance(80) {
+            self.plan_row(&[1, vm]);
+        }
+    }
+
+    /// A VM that has nothing.
+    fn plan_newcomer(&mut self) {
+        let known = &self.author.machine.known;
+        let new = |vm: &Vm| !known.contains(vm) && !STRANGERS.contains(vm);
+        let unknown: Vec<Vm> = (0..VMS).filter(new).collect();
+        if let Some(vm) = self.rng.pick(&unknown) {
+            self.plan_row(&[1, vm]);
+            self.plan_row(&[RETIRE, vm]);
+        }
+    }
+
+    /// A VM with a slot on each of the sides on which it maps something.
+    fn plan_slots(&mut self, sides: &[Side]) {
+        let m = &self.author.machine;
+        let of_side = |&side: &Side| m.half(side).software.keys().map(|key| key.0);
+        let vms: Vec<Vm> = sides.iter().flat_map(of_side).collect();
+        let Some(vm) = self.rng.pick(&vms) else { return };
+        for &side in sides {
+            let keys = self.author.machine.half(side).software.range((vm, 0)..=(vm, GUESTS));
+            let guests: Vec<Guest> = keys.map(|(key, _)| key.1).collect();
+            if let Some(guest) = self.rng.pick(&guests) {
+                self.plan_slot(side, vm, guest);
+            }
+        }
+        self.plan_leave(vm);
+    }
+
+    /// A VM lends a page to another, which maps it, has a slot for it and reads
+    /// it in vain when the lender is gone.
+    fn plan_lender(&mut self) {
+        let held = self.held(Side::Cpu);
+        let Some((vm, page)) = self.rng.pick(&held) else { return };
+        let Some(other) = self.other_vm(vm) else { return };
+        let guest = self.guest();
+        self.plan_row(&[5, vm, other, page]);
+        self.plan_row(&[7, other, guest, page, 3]);
+        self.plan_slot(Side::Cpu, other, guest);
+        self.plan_leave(vm);
+        self.plan_row(&[15, 0, other]);
+        self.plan_row(&[21, 0, guest]);
+    }
+
+    /// A device writes a word to a page that its VM holds for DMA alone; when
+    /// the VM is gone, the next one reads 0 there.
+    fn plan_device_page(&mut self) {
+        let Some(Region { vm, guest, page, count, access }) = self.free_a_unit() else { return };
+        let Some(other) = self.other_vm(vm) else { return };
+        let (index, word, port) = (self.rng.below(count), self.rng.below(WORDS), 0);
+        let (at, new) = (page + index, self.guest());
+        self.plan_row(&[13, vm, guest, page, count, access]);
+        self.plan_row(&[8, vm, guest + index, at, 3]);
+        self.plan_row(&[16, port, vm]);
+        self.plan_row(&[24, port, guest + index, word, 1 + word]);
+        self.plan_row(&[16, port, IDLE]);
+        self.plan_leave(vm);
+        for row in [[3, other, at, 0, 0], [7, other, new, at, 1], [15, port, other, 0, 0]] {
+            self.plan_row(&row);
+        }
+        self.plan_row(&[21, port, new, word]);
+    }
+
+    /// A known VM that is not the one named.
+    fn other_vm(&mut self, vm: Vm) -> Option<Vm> {
+        let known = self.author.machine.known.iter().copied();
+        let others: Vec<Vm> = known.filter(|&other| other != vm).collect();
+        self.rng.pick(&others)
     }
 }

@@ -31,6 +31,7 @@ pub const BODIES: [usize; OPERATIONS as usize] = [
     8, 8, 8, 8, 4, 4, // ports, fills, slots
     12, 12, 20, 20, // reads, writes
     0, 0, // barriers
+    4, // a VM retired
 ];
 
 /// The bytes of a kind's body; `None` for an unknown kind.

@@ -30,7 +30,7 @@ pub const UNIT_NUMBERS: usize = 6;
 pub type UnitNumbers = [u64; UNIT_NUMBERS];
 
 /// Operations and refusals are numbered from 1 to these.
-pub const OPERATIONS: u64 = 26;
+pub const OPERATIONS: u64 = 27;
 pub const REFUSALS: u64 = 16;
 
 /// The number by which a row names idle.
@@ -116,6 +116,11 @@ impl Half {
     /// A VM other than `vm` holds `page` on this side.
     pub fn other_holds(&self, vm: Vm, page: Page) -> bool {
         self.owned.iter().any(|(&holder, pages)| holder != vm && pages.contains(&page))
+    }
+
+    /// A CPU is on `vm`, or a device bound to it.
+    pub fn runs(&self, vm: Vm) -> bool {
+        self.ports.contains(&Some(vm))
     }
 }
 
@@ -211,6 +216,11 @@ pub type Pair = (Vm, Vm, Page);
 /// The one form of a pair, whichever end is named first.
 pub fn pair(left: Vm, right: Vm, page: Page) -> Pair {
     (left.min(right), left.max(right), page)
+}
+
+/// One of the pair's ends is `vm`.
+pub fn joins(&(low, high, _): &Pair, vm: Vm) -> bool {
+    low == vm || high == vm
 }
 
 /// Lengths of what is lent to `start`.
@@ -332,7 +342,7 @@ impl Machine {
 
     /// A pair that names `page` has `vm` as one of its ends.
     pub fn shared_with(&self, vm: Vm, page: Page) -> bool {
-        self.pairs.iter().any(|&(low, high, named)| named == page && (low == vm || high == vm))
+        self.pairs.iter().any(|pair| pair.2 == page && joins(pair, vm))
     }
 
     /// Some pair names `page`.

@@ -1,4 +1,4 @@
-//! The twenty-six operations: reading a row, judging it, doing it.
+//! The twenty-seven operations: reading a row, judging it, doing it.
 //! Judging only looks at the machine, so a refusal can't change anything.
 
 use crate::machine::*;
@@ -67,7 +67,7 @@ impl Kind {
 pub fn arguments(operation: u64) -> Option<&'static [Kind]> {
     use Kind::*;
     Some(match operation {
-        1 | 2 => &[Vm],
+        1 | 2 | 27 => &[Vm],
         3 | 4 => &[Vm, Page],
         5 | 6 => &[Vm, Vm, Page],
         7 | 8 => &[Vm, Guest, Page, Access, Generation],
@@ -111,6 +111,7 @@ pub enum Operation {
     Read(Place),
     Write(Place, u64),
     Barrier,
+    Retire(Vm),
 }
 
 /// Reads a row; `None` if its operation is unknown or a number is out of range.
@@ -151,6 +152,7 @@ fn decode(row: &Row, pages: u64) -> Option<Operation> {
         22 => Read(place(Dma)),
         23 => Write(place(Cpu), d),
         24 => Write(place(Dma), d),
+        27 => Retire(a),
         _ => Barrier,
     })
 }
@@ -260,6 +262,10 @@ impl Machine {
             Read(place) => self.translate(place, READ).map(|_| ()),
             Write(place, _) => self.translate(place, WRITE).map(|_| ()),
             Empty(..) | Barrier => Ok(()),
+            Retire(vm) => {
+                self.known_or_4(vm)?;
+                refuse(13, self.cpu.runs(vm) || self.dma.runs(vm))
+            }
         }
     }
 
@@ -276,9 +282,9 @@ impl Machine {
         let in_use = |half: &Half| {
             half.owned.get(&vm).is_some_and(|pages| !pages.is_empty())
                 || half.software.keys().any(|key| key.0 == vm)
-                || half.ports.contains(&Some(vm))
+                || half.runs(vm)
         };
-        let edges = self.pairs.iter().any(|&(low, high, _)| low == vm || high == vm);
+        let edges = self.pairs.iter().any(|pair| joins(pair, vm));
         in_use(&self.cpu) || in_use(&self.dma) || edges
     }
 
@@ -396,6 +402,7 @@ impl Machine {
                 }
             }
             Barrier => {}
+            Retire(vm) => answer.dropped = self.retire(vm),
         }
         answer
     }
@@ -412,6 +419,20 @@ impl Machine {
         for half in [&mut self.cpu, &mut self.dma] {
             half.owned.remove(&vm);
         }
+    }
+
+    /// Ends all that the VM has, what others map of its CPU pages, and then its
+    /// id; gives how many slots were dropped on both sides.
+    fn retire(&mut self, vm: Vm) -> u64 {
+        let pages = |half: &Half| half.owned.get(&vm).cloned().unwrap_or_default();
+        let (owned, held) = (pages(&self.cpu), pages(&self.dma));
+        let of_cpu = self.cpu.sweep(|user, page| user == vm || owned.contains(&page));
+        let of_dma = self.dma.sweep(|user, _| user == vm);
+        self.pairs.retain(|pair| !joins(pair, vm));
+        owned.iter().for_each(|&page| self.reclaim(vm, page));
+        held.iter().for_each(|&page| self.release(Side::Dma, vm, page));
+        self.remove_vm(vm);
+        of_cpu + of_dma
     }
 
     fn assign(&mut self, vm: Vm, page: Page) {
@@ -476,14 +497,15 @@ impl Half {
     fn erase(&mut self, key: (Vm, Guest)) -> u64 {
         self.software.remove(&key);
         self.walker.remove(&key);
-        let mut dropped = 0;
-        for slot in &mut self.cache.slots {
-            if slot.is_some_and(|filled| (filled.vm, filled.guest) == key) {
-                *slot = None;
-                dropped += 1;
-            }
+        self.cache.drop_slots(|slot| (slot.vm, slot.guest) == key)
+    }
+
+    /// The same for every translation whose VM and page are such that it goes.
+    fn sweep(&mut self, goes: impl Fn(Vm, Page) -> bool) -> u64 {
+        for map in [&mut self.software, &mut self.walker] {
+            map.retain(|key, entry| !goes(key.0, entry.page));
         }
-        dropped
+        self.cache.drop_slots(|slot| goes(slot.vm, slot.entry.page))
     }
 
     /// Caches the walker's entry for the VM on the port.
@@ -497,6 +519,18 @@ impl Half {
 }
 
 impl Cache {
+    /// Empties the slots that go, in their places; gives how many they were.
+    fn drop_slots(&mut self, goes: impl Fn(&Slot) -> bool) -> u64 {
+        let mut dropped = 0;
+        for slot in &mut self.slots {
+            if slot.as_ref().is_some_and(&goes) {
+                *slot = None;
+                dropped += 1;
+            }
+        }
+        dropped
+    }
+
     /// The slot that has the key, else the lowest empty one, else that at the
     /// hand, which only then steps on.
     fn place_for(&mut self, key: (u64, Vm, Guest)) -> usize {

@@ -1,5 +1,5 @@
-//! Tests: the worked table, entries, effects, free pages, validity, the script
-//! format, the suite, the log.
+//! Tests: the worked table, entries, effects, free pages, retired VMs, validity,
+//! the script format, the suite, the log.
 
 use std::collections::BTreeSet;
 
@@ -7,7 +7,7 @@ use crate::coverage::{refusals, Coverage};
 use crate::generate::{generate, go_on, single, suite};
 use crate::log::{self, Reader};
 use crate::machine::*;
-use crate::operate::{Answer, Row};
+use crate::operate::{arguments, Answer, Row};
 use crate::script::{self, check, look, run, Event, Events};
 use crate::valid::{broken, CLAUSES};
 
@@ -46,6 +46,10 @@ fn free(m: &Machine) -> (u64, Option<u64>) {
     let free = m.free();
     assert_eq!(free.number, 0);
     (free.count, free.lowest)
+}
+
+fn whole_suite(seed: u64, rows: u64) -> String {
+    suite(seed, rows).into_iter().map(|(_, script)| script).collect()
 }
 
 fn output_of(script: &[u8]) -> String {
@@ -413,6 +417,109 @@ mod free_pages {
     }
 }
 
+mod retired {
+    use super::*;
+
+    /// Ends a VM's DMA claim on a page by way of a unit of that page.
+    fn give_up(m: &mut Machine, vm: u64, page: u64) {
+        let region = Region { vm, guest: 0, page, count: 1, access: 3 };
+        let units = std::mem::replace(&mut m.units, vec![Unit { region, mark: Mark::Dma }]);
+        for row in [[8, vm, 0, page, 3, 0], [14, vm, 0, page, 1, 3]] {
+            assert_eq!(go(m, &row), 0);
+        }
+        m.units = units;
+    }
+
+    /// Takes all that a VM has, one thing after the other, by the operations
+    /// that are there for it; gives how many slots they dropped.
+    fn piece_by_piece(m: &mut Machine, vm: u64) -> u64 {
+        let before = m.clone();
+        let (cpu, dma) = (&before.cpu, &before.dma);
+        let entries = cpu.software.iter();
+        let gone = entries.filter(|(key, entry)| key.0 == vm || cpu.holds(vm, entry.page));
+        let unmaps = gone.map(|(key, _)| [9, key.0, key.1, 0]);
+        let own = dma.software.keys().filter(|key| key.0 == vm);
+        let dma_unmaps = own.map(|key| [10, key.0, key.1, 0]);
+        let pairs = before.pairs.iter().filter(|pair| joins(pair, vm));
+        let unshares = pairs.map(|&(low, high, page)| [6, low, high, page]);
+        let reclaims = cpu.owned[&vm].iter().map(|&page| [4, vm, page, 0]);
+        let mut dropped = 0;
+        for row in unmaps.chain(dma_unmaps).chain(unshares).chain(reclaims) {
+            let answer = answer(m, &row);
+            assert_eq!(answer.number, 0);
+            dropped += answer.dropped;
+        }
+        dma.owned[&vm].iter().for_each(|&page| give_up(m, vm, page));
+        assert_eq!(go(m, &[2, vm]), 0);
+        dropped
+    }
+
+    /// The VM that an event retires, if that is accepted.
+    fn accepted(m: &Machine, event: &Event) -> Option<u64> {
+        match event {
+            Event::Row(row) if row[0] == 27 && m.verdict(row).number == 0 => Some(row[1]),
+            _ => None,
+        }
+    }
+
+    #[test]
+    fn a_vm_goes_at_once_as_piece_by_piece() {
+        let (mut m, mut met, mut dropping) = (Machine::empty(), 0, 0);
+        let scripts = whole_suite(5, 20_000) + &single(3, 20_000);
+        for event in Events::new(scripts.as_bytes()) {
+            let event = event.expect("memory reads").1;
+            if let Some(vm) = accepted(&m, &event) {
+                let (mut whole, mut pieces) = (m.clone(), m.clone());
+                let dropped = piece_by_piece(&mut pieces, vm);
+                assert_eq!(answer(&mut whole, &[27, vm]).numbers(), [0, 0, dropped, 0]);
+                assert_eq!(whole, pieces);
+                met += 1;
+                dropping += u64::from(dropped > 0);
+            }
+            match event {
+                Event::Start(setup) => m = setup.start().1,
+                Event::Row(row) => drop(m.apply(&row)),
+                _ => {}
+            }
+        }
+        assert!(met > 50 && dropping > 20, "{met} VMs retired, {dropping} with slots");
+    }
+
+    #[test]
+    fn a_vm_with_a_region_on_both_sides_leaves_a_bare_box() {
+        let mut m = with_u1();
+        assert_eq!(go(&mut m, &[13, 1, 16, 0, 3, 3]), 0);
+        m.memory[..Machine::address(3, 0)].fill(6);
+        (m.cpu.cache.hand, m.dma.cache.hand) = (5, SLOTS - 1);
+        assert_eq!(answer(&mut m, &[27, 1]), Answer::default());
+        assert_eq!((m.cpu.cache.hand, m.dma.cache.hand), (5, SLOTS - 1));
+        (m.cpu.cache.hand, m.dma.cache.hand) = (0, 0);
+        assert_eq!(m, eight(&[2]));
+    }
+
+    #[test]
+    fn only_pages_that_it_held_are_cleared() {
+        let mut m = with_u1();
+        let rows: [&[u64]; 6] = [
+            &[13, 1, 16, 0, 3, 3],
+            &[12, 1, 16, 0, 3, 3],
+            &[3, 1, 1],
+            &[3, 2, 4],
+            &[5, 2, 1, 4],
+            &[8, 1, 9, 7, 3],
+        ];
+        for row in rows {
+            assert_eq!(go(&mut m, row), 0);
+        }
+        m.memory.fill(6);
+        assert_eq!(go(&mut m, &[27, 1]), 0);
+        for (place, &word) in m.memory.iter().enumerate() {
+            assert_eq!(word, if place < Machine::address(3, 0) { 0 } else { 6 });
+        }
+        assert_eq!(free(&m), (6, Some(0)));
+    }
+}
+
 mod validity {
     use super::*;
 
@@ -767,10 +874,6 @@ mod generated {
 
     const ROWS: u64 = 20_000;
 
-    fn whole_suite(seed: u64, rows: u64) -> String {
-        suite(seed, rows).into_iter().map(|(_, script)| script).collect()
-    }
-
     #[test]
     fn the_suite_reaches_everything() {
         for seed in 1..=3 {
@@ -852,9 +955,15 @@ mod samples {
         run(script.as_bytes(), &mut std::io::sink()).expect("memory reads").expect("readable")
     }
 
+    /// The first kind past the last known one.
+    pub const PAST: u8 = OPERATIONS as u8 + 1;
+
+    /// Kinds of a record that aren't known, the least and the largest of them.
+    pub const UNKNOWN: [u16; 3] = [0, PAST as u16, u16::MAX];
+
     /// A row of each kind with arguments of all bytes, and the bytes that
     /// each argument has in the body, told by hand.
-    pub const KINDS: [(&[u64], &[u64]); 26] = [
+    pub const KINDS: [(&[u64], &[u64]); OPERATIONS as usize] = [
         (&[1, 0x0403_0201], &[4]),
         (&[2, 0x1413_1211], &[4]),
         (&[3, 0x0403_0201, 0x0807_0605], &[4, 4]),
@@ -881,6 +990,7 @@ mod samples {
         (&[24, 1, 2, 0xFFFF_FFFF, u64::MAX], &[4, 4, 4, 8]),
         (&[25], &[]),
         (&[26], &[]),
+        (&[27, 0x2423_2221], &[4]),
     ];
 }
 
@@ -912,6 +1022,17 @@ mod records {
     }
 
     #[test]
+    fn retiring_vm_1() {
+        let (bytes, retire) = ([6, 0, 27, 0, 1, 0, 0, 0], row(&[27, 1]));
+        assert_eq!(log::record(&retire), Ok(bytes.to_vec()));
+        assert_eq!(read(&bytes, 0), (Ok(Some(retire)), 8));
+        assert_eq!(log::record(&row(&[27, 1 << 32])), Err(23));
+        refused(&bytes[..7], 20);
+        refused(&[5, 0, 27, 0, 1, 0, 0], 22);
+        refused(&[7, 0, 27, 0, 1, 0, 0, 0, 0], 22);
+    }
+
+    #[test]
     fn a_write_by_hand() {
         let bytes = [22, 0, 23, 0, 7, 0, 0, 0, 0, 1, 0, 0, 255, 1, 0, 0, 1, 2, 3, 4, 5, 6, 7, 8];
         let write = row(&[23, 7, 256, 511, 0x0807_0605_0403_0201]);
@@ -935,7 +1056,7 @@ mod records {
             }
             assert_eq!(record, by_hand, "kind {kind}");
         }
-        for kind in [0, OPERATIONS + 1, 64, 255, 257, 65_535, 65_537, 1 << 32, u64::MAX] {
+        for kind in [0, OPERATIONS + 1, 255, 257, 65_535, 65_537, 1 << 32, u64::MAX] {
             assert_eq!(log::body(kind), None);
         }
     }
@@ -971,19 +1092,25 @@ mod records {
     #[test]
     fn cut_short_comes_before_unknown_kind_and_wrong_length() {
         // Length one too long for what is left, by kinds known and unknown.
-        for kind in [0, 27, 99, 1, 25] {
-            refused(&[3, 0, kind, 0], 20);
-            refused(&[6, 0, kind, 0, 1, 0, 0], 20);
-            refused(&[0, 1, kind, 0, 1, 0, 0, 0], 20);
-            refused(&[255, 255, kind, 0, 1, 0, 0, 0], 20);
+        for kind in UNKNOWN.into_iter().chain([1, 25, 27]) {
+            let [low, high] = kind.to_le_bytes();
+            refused(&[3, 0, low, high], 20);
+            refused(&[6, 0, low, high, 1, 0, 0], 20);
+            refused(&[0, 1, low, high, 1, 0, 0, 0], 20);
+            refused(&[255, 255, low, high, 1, 0, 0, 0], 20);
         }
     }
 
     #[test]
     fn unknown_kind_comes_before_wrong_length() {
-        for kind in [0, 27, 28, 64, 255] {
+        for kind in UNKNOWN {
+            let [low, high] = kind.to_le_bytes();
             for length in 0..=6 {
-                refused(&[length, 0, kind, 0, 1, 0, 0, 0], 21);
+                refused(&[length, 0, low, high, 1, 0, 0, 0], 21);
+            }
+            for length in [0, 1] {
+                refused(&[length, 0, low, high], 21);
+                refused(&[length, 0, low, high, 9], 21);
             }
         }
         // Only the upper byte of the kind is wrong.
@@ -997,9 +1124,7 @@ mod records {
             refused(&[length, 0, 1, 0], 22);
             refused(&[length, 0, 25, 0], 22);
             refused(&[length, 0, 26, 0, 9, 9], 22);
-            refused(&[length, 0, 27, 0], 21);
-            refused(&[length, 0, 0, 0], 21);
-            refused(&[length, 0, 0, 0, 9], 21);
+            refused(&[length, 0, 27, 0, 1, 0, 0, 0], 22);
         }
         for (numbers, bytes) in KINDS {
             let right = 2 + bytes.iter().sum::<u64>() as u16;
@@ -1211,12 +1336,23 @@ mod replays {
     }
 
     #[test]
+    fn a_vm_is_retired_by_a_log() {
+        let rows = [[16, 3, 1], [27, 1, 0], [16, 3, IDLE], [27, 1, 0], [27, 1, 0], [27, 16, 0]];
+        let log = log_of(&rows.map(|numbers| row(&numbers)));
+        let mut machine = with_u1();
+        let replay = log::replay(&mut machine, &mut Reader::new(&log), u64::MAX);
+        let numbers: Vec<u64> = replay.taken.iter().map(|(_, answer)| answer.number).collect();
+        assert_eq!((replay.number, numbers), (0, vec![0, 13, 0, 0, 4, 2]));
+        assert_eq!(machine, eight(&[2]));
+    }
+
+    #[test]
     fn an_unreadable_record_ends_it_unless_enough_were_taken() {
         let rows = [row(&[1, 3]), row(&[1, 3]), row(&[3, 3, 4])];
         let front = log_of(&rows);
         let ends: [(&[u8], u64); 4] = [
             (&[6, 0, 1], 20),
-            (&[6, 0, 99, 0, 1, 0, 0, 0], 21),
+            (&[6, 0, PAST, 0, 1, 0, 0, 0], 21),
             (&[5, 0, 1, 0, 1, 0, 0], 22),
             (&[1, 0, 25, 0], 22),
         ];
@@ -1269,13 +1405,16 @@ mod log_commands {
     fn what_ends_a_log_early() {
         let one = log_of(&[row(&[1, 1])]);
         let unit = "unit 1 0 0 1 1 1";
+        let past = format!("{PAST} {}", u64::MAX);
         let ends = [
             ("x\n1 2", 3, "not understood"),
             (unit, 3, "not understood"),
             ("0 1\nx", 3, "unknown kind"),
-            ("27 18446744073709551615", 3, "unknown kind"),
+            (&past, 3, "unknown kind"),
+            ("18446744073709551615 1", 3, "unknown kind"),
             ("# c\n65537 1", 4, "unknown kind"),
             ("1 4294967296\n0", 3, "does not fit"),
+            ("27 4294967296", 3, "does not fit"),
             ("free\n24 0 0 4294967296 1", 4, "does not fit"),
             ("box 8 7 1\nx", 3, "a second box"),
             ("box 8 7 1", 3, "a second box"),
@@ -1296,12 +1435,14 @@ mod log_commands {
     #[test]
     fn a_replay_prints_the_run_then_the_records() {
         let script = "box 8 7 1\nunit 1 16 0 3 3 3\n1 1\nfree\n15 0 1\n";
-        let rows: [&[u64]; 6] = [
+        let rows: [&[u64]; 8] = [
             &[11, 1, 16, 0, 3, 3],
             &[23, 0, 16, 5, u64::MAX],
             &[21, 0, 16, 5],
+            &[17, 0, 16],
             &[15, 0, IDLE],
             &[1, 1],
+            &[27, 1],
             &[25],
         ];
         let log = log_of(&rows.map(row));
@@ -1310,24 +1451,26 @@ mod log_commands {
             "11 1 16 0 3 3: 0 0 0 0",
             "23 0 16 5 18446744073709551615: 0 0 0 0",
             "21 0 16 5: 0 0 0 18446744073709551615",
+            "17 0 16: 0 0 0 0",
             "15 0 4294967295: 0 0 0 0",
             "1 1: 5 0 0 0",
+            "27 1: 0 0 1 0",
             "25: 0 0 0 0",
         ];
         let joined = |lines: &[&[&str]]| lines.concat().join("\n") + "\n";
-        assert_eq!(replayed(script, &log, u64::MAX), joined(&[&front, &lines, &["taken 6"]]));
+        assert_eq!(replayed(script, &log, u64::MAX), joined(&[&front, &lines, &["taken 8"]]));
         assert_eq!(replayed(script, &log, 2), joined(&[&front, &lines[..2], &["taken 2"]]));
         assert_eq!(replayed(script, &log, 0), joined(&[&front, &["taken 0"]]));
         let ends: [(&[u8], &str); 3] = [
-            (&[9], "byte 88: cut short"),
-            (&[2, 0, 27, 0], "byte 88: unknown kind"),
-            (&[0, 0, 1, 0], "byte 88: wrong length"),
+            (&[9], "byte 108: cut short"),
+            (&[2, 0, PAST, 0], "byte 108: unknown kind"),
+            (&[0, 0, 1, 0], "byte 108: wrong length"),
         ];
         for (end, line) in ends {
             let log = [&log, end].concat();
-            let expected = joined(&[&front, &lines, &[line, "taken 6"]]);
-            assert_eq!(replayed(script, &log, 7), expected);
-            assert_eq!(replayed(script, &log, 6), joined(&[&front, &lines, &["taken 6"]]));
+            let expected = joined(&[&front, &lines, &[line, "taken 8"]]);
+            assert_eq!(replayed(script, &log, 9), expected);
+            assert_eq!(replayed(script, &log, 8), joined(&[&front, &lines, &["taken 8"]]));
         }
     }
 
@@ -1382,11 +1525,15 @@ mod log_commands {
         }
         let record = Coverage::of(scripts.concat().as_bytes()).expect("memory reads");
         for operation in 1..=OPERATIONS {
-            let range = if operation < 25 { &[0, 2][..] } else { &[0] };
+            let ranged = arguments(operation).is_some_and(|kinds| !kinds.is_empty());
+            let range = if ranged { &[0, 2][..] } else { &[0] };
             for &number in range.iter().chain(refusals(operation)) {
                 assert!(record.answers.contains_key(&(operation, number)), "{operation} {number}");
             }
         }
+        let missing = record.missing();
+        let retire = |line: &&String| line.starts_with("operation 27: ") && !line.ends_with("full");
+        assert_eq!(missing.iter().find(retire), None);
         assert_eq!(single(9, 500), single(9, 500));
     }
 }

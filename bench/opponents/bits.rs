@@ -20,6 +20,11 @@ impl<const WORDS: usize> Bits<WORDS> {
         self.0[number / 64] >> (number % 64) & 1 == 1
     }
 
+    /// Without a branch: 1 for a number in the set, 0 for any other below the limit.
+    pub fn bit(&self, number: usize) -> u64 {
+        self.0[number / 64 % WORDS] >> (number % 64) & 1
+    }
+
     pub fn insert(&mut self, number: usize) {
         self.0[number / 64] |= 1 << (number % 64);
     }
@@ -64,9 +69,29 @@ impl<const WORDS: usize> Bits<WORDS> {
         })
     }
 
+    /// Spans of numbers one after the other, none across a word: the first, and how many.
+    pub fn spans(self) -> impl Iterator<Item = (usize, usize)> {
+        (0..WORDS).flat_map(move |at| {
+            // A carry from the lowest bit takes its span.
+            let lowest = |word: u64| word & word.wrapping_neg();
+            let rest = move |&word: &u64| Some(word & word.wrapping_add(lowest(word)));
+            let words = std::iter::successors(Some(self.0[at]), rest);
+            words.take_while(|&word| word != 0).map(move |word| {
+                let first = word.trailing_zeros();
+                (at * 64 + first as usize, (word >> first).trailing_ones() as usize)
+            })
+        })
+    }
+
     /// The bits of 64 numbers, from 64 times `at` on.
     pub fn word(&self, at: usize) -> u64 {
         self.0[at]
+    }
+}
+
+impl From<u64> for Bits<1> {
+    fn from(word: u64) -> Self {
+        Bits([word])
     }
 }
 

@@ -36,9 +36,13 @@ impl Half {
         others.fold(0, |all, (_, pages)| all | pages.word(at))
     }
 
+    fn runs(&self, vm: usize) -> bool {
+        self.ports.contains(&Some(vm))
+    }
+
     fn is_busy(&self, vm: usize) -> bool {
         !self.owned[vm].is_empty()
-            || self.ports.contains(&Some(vm))
+            || self.runs(vm)
             || self.map.any(|word| Pattern::vm(vm).fits(word))
     }
 
@@ -62,6 +66,14 @@ impl Half {
         }
         let dropped = self.cache.drop_where(PORTS, |slot| address.fits(slot));
         Ok(Done { dropped, word: 0 })
+    }
+
+    /// Takes the mappings that pass out of the map and the walker, which has the same ones, and drops
+    /// their slots; how many.
+    fn sweep(&mut self, test: impl Fn(Word) -> bool + Copy) -> usize {
+        let gone = self.map.drop_where(ENTRIES, test);
+        self.walker.drop_where(gone, test);
+        self.cache.drop_where(SLOTS, test)
     }
 }
 
@@ -221,6 +233,27 @@ impl Operations for Bounded {
         refuse_if(busy, Refusal::VmBusy)?;
         self.known &= !(1 << vm);
         Ok(Done::default())
+    }
+
+    fn retire(&mut self, vm: usize) -> Answer {
+        self.check_known(vm)?;
+        refuse_if(self.halves.iter().any(|half| half.runs(vm)), Refusal::VmBusy)?;
+        let [cpu, dma] = &mut *self.halves;
+        let owned = std::mem::replace(&mut cpu.owned[vm], PageSet::NONE);
+        let held = std::mem::replace(&mut dma.owned[vm], PageSet::NONE);
+        let (own, right) = (Pattern::vm(vm), Pattern::right(vm));
+        let onto = |word| owned.bit(page_of(word)) & filled(word) == 1;
+        let of_cpus = cpu.sweep(|word| own.fits(word) | onto(word));
+        let of_devices = dma.sweep(|word| own.fits(word));
+        self.pairs.drop_where(PAIRS, |word| own.fits(word) | right.fits(word));
+        self.pool.insert_all(&owned);
+        self.known &= !(1 << vm);
+        let mut cleared = owned;
+        cleared.insert_all(&held);
+        for (page, count) in cleared.spans() {
+            self.memory[page * PAGE_WORDS..(page + count) * PAGE_WORDS].fill(0);
+        }
+        Ok(Done { dropped: of_cpus + of_devices, word: 0 })
     }
 
     fn assign(&mut self, vm: usize, page: usize) -> Answer {

@@ -76,6 +76,7 @@ struct Vm {
     uses: usize,
 }
 
+type PageSet = Bits<{ PAGES.div_ceil(64) }>;
 type SlotSet = Bits<{ SLOTS.div_ceil(64) }>;
 
 /// The walker's entry, and the slots that hold it.
@@ -92,6 +93,10 @@ struct Slot {
 
 fn key(vm: usize, guest: usize) -> u64 {
     (vm * GUEST_PAGES + guest) as u64
+}
+
+fn vm_of(key: u64) -> usize {
+    key as usize / GUEST_PAGES
 }
 
 /// All that one side has beside pages.
@@ -224,6 +229,62 @@ impl Idiomatic {
         self.pages[page].is_lent_to(borrower).then_some(borrower)
     }
 
+    /// Takes every mapping of a VM, and for CPUs every one onto a page that it owns; how many slots
+    /// that drops. It alone goes over a map: a list for each VM would be kept by every mapping.
+    fn sweep(&mut self, side: Side, vm: usize) -> usize {
+        let half = &mut self.halves[side as usize];
+        let mut map = std::mem::take(&mut half.map);
+        let mut dropped = 0;
+        map.retain(|&key, entry| {
+            let (user, page) = (vm_of(key), &mut self.pages[entry.page as usize]);
+            let goes = (user == vm) | (side == Side::Cpu && page.held_by(side, vm));
+            if goes {
+                page.unmap(side, user);
+                self.vms[user].uses -= 1;
+                dropped += half.forget(key);
+            }
+            !goes
+        });
+        half.map = map;
+        dropped
+    }
+
+    /// Ends all claims and pairs of a VM that has no mapping and no port left: its count is of these,
+    /// and says when the last is found.
+    fn give_all_back(&mut self, vm: usize) {
+        let mut left = std::mem::take(&mut self.vms[vm].uses);
+        let mut cleared = PageSet::NONE;
+        for (page, record) in self.pages.iter_mut().enumerate() {
+            if left == 0 {
+                break;
+            }
+            let [owned, held] = [Side::Cpu, Side::Dma].map(|side| record.held_by(side, vm));
+            let borrowed = record.is_lent_to(vm);
+            if !(owned | held | borrowed) {
+                continue;
+            }
+            left -= owned as usize + held as usize + borrowed as usize;
+            if owned {
+                record.home = Home::Pool;
+                let lent_to = Bits::from(std::mem::take(&mut record.lent_to));
+                self.pairs -= lent_to.len();
+                lent_to.iter().for_each(|borrower| self.vms[borrower].uses -= 1);
+            }
+            if held {
+                record.dma = None;
+            }
+            if borrowed {
+                record.lent_to &= !(1 << vm);
+                self.pairs -= 1;
+            } else {
+                cleared.insert(page);
+            }
+        }
+        for (page, count) in cleared.spans() {
+            self.memory[page * PAGE_WORDS..(page + count) * PAGE_WORDS].fill(0);
+        }
+    }
+
     /// What every region operation asks first.
     fn check_region(&self, side: Side, region: &Region) -> Result<(), Refused> {
         refuse_if(!region.fits(self.pages.len()), Refusal::BadSpan)?;
@@ -295,6 +356,16 @@ impl Operations for Idiomatic {
         refuse_if(self.vms[vm].uses > 0, Refusal::VmBusy)?;
         self.vms[vm].known = false;
         Ok(Done::default())
+    }
+
+    fn retire(&mut self, vm: usize) -> Answer {
+        self.check_known(vm)?;
+        let runs = |half: &Half| half.ports.contains(&Some(vm));
+        refuse_if(self.halves.iter().any(runs), Refusal::VmBusy)?;
+        let dropped = self.sweep(Side::Cpu, vm) + self.sweep(Side::Dma, vm);
+        self.give_all_back(vm);
+        self.vms[vm].known = false;
+        Ok(Done { dropped, word: 0 })
     }
 
     fn assign(&mut self, vm: usize, page: usize) -> Answer {

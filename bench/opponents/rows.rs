@@ -154,6 +154,7 @@ pub trait Operations {
     fn pages(&self) -> usize;
     fn add_vm(&mut self, vm: usize) -> Answer;
     fn remove_vm(&mut self, vm: usize) -> Answer;
+    fn retire(&mut self, vm: usize) -> Answer;
     fn assign(&mut self, vm: usize, page: usize) -> Answer;
     fn reclaim(&mut self, vm: usize, page: usize) -> Answer;
     fn share(&mut self, left: usize, right: usize, page: usize) -> Answer;
@@ -244,6 +245,7 @@ fn operate<M: Operations>(m: &mut M, row: &Row) -> Answer {
             Ok(Done::default())
         }
         25 | 26 => Ok(Done::default()),
+        27 => m.retire(vm(a)?),
         _ => Err(Refusal::OutOfRange.into()),
     }
 }

@@ -50,6 +50,11 @@ pub fn page_of(word: Word) -> usize {
     bits(word, PAGE_AT, FILLED_AT) as usize
 }
 
+/// 1 for a word that is filled, else 0.
+pub fn filled(word: Word) -> u64 {
+    bits(word, FILLED_AT, GUEST_AT)
+}
+
 pub fn access_of(word: Word) -> usize {
     bits(word, ACCESS_AT, PAGE_AT) as usize
 }

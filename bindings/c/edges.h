@@ -14,6 +14,7 @@ enum { SETS = TILIGORMIS_SETS * TILIGORMIS_SET_WORDS, MEMORY = PAGES * TILIGORMI
 enum { ROWS = 2, ROWS_LENGTH = ROWS * TILIGORMIS_ROW_NUMBERS, ANSWERS_LENGTH = ROWS * TILIGORMIS_ANSWER_NUMBERS };
 enum { UNITS_LENGTH = UNIT_COUNT * TILIGORMIS_UNIT_NUMBERS, UNITS_ROOM = (TILIGORMIS_UNITS + 1) * TILIGORMIS_UNIT_NUMBERS };
 enum { LOG_ROOM = 400, ROWS_BYTES = ROWS * 8 }; /* bytes: room for a record of every kind, and the records of the two rows */
+enum { PAST = TILIGORMIS_KINDS + 1 };           /* one past the last operation, which is the last kind of record too */
 
 /* An array is lent from its element GUARD on; the structs of numbers from their second on. */
 enum { GUARD = 8, SECOND = 1 };
@@ -154,6 +155,7 @@ bool all_refuse(const struct parts *lent);
     TEST(sequence_order)                                                                                                       \
     TEST(answers_long)                                                                                                         \
     TEST(no_rows)                                                                                                              \
+    TEST(unknown_operations)                                                                                                   \
     TEST(free_lengths)                                                                                                         \
     TEST(free_held)                                                                                                            \
     TEST(free_none)                                                                                                            \
@@ -197,7 +199,8 @@ bool all_refuse(const struct parts *lent);
     TEST(records_read)                                                                                                         \
     TEST(dma_pages)                                                                                                            \
     TEST(retirement)                                                                                                           \
-    TEST(retirement_by_page)
+    TEST(retirement_by_page)                                                                                                   \
+    TEST(retirement_in_one_call)
 
 #define DECLARED(test) bool test(void);
 TESTS(DECLARED)

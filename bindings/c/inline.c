@@ -34,9 +34,10 @@ bool row_constructors(void) {
         {tiligormis_row_dma_write(31, 32, 33, 34), {{TILIGORMIS_DMA_WRITE, 31, 32, 33, 34}}},
         {tiligormis_row_data_barrier(), {{TILIGORMIS_DATA_BARRIER}}},
         {tiligormis_row_instruction_barrier(), {{TILIGORMIS_INSTRUCTION_BARRIER}}},
+        {tiligormis_row_retire_vm(31), {{TILIGORMIS_RETIRE_VM, 31}}},
     };
     const size_t count = sizeof cases / sizeof *cases;
-    bool good = count == TILIGORMIS_INSTRUCTION_BARRIER;
+    bool good = count == TILIGORMIS_RETIRE_VM;
     for (size_t k = 0; k < count; k++) {
         good &= holds(cases[k].row.numbers[0] == k + 1, "operation", k + 1);
         good &= holds(memcmp(&cases[k].row, &cases[k].numbers, sizeof(tiligormis_row)) == 0, "row of operation", k + 1);
@@ -233,7 +234,7 @@ bool box_answer_counts(void) {
 
 /* A record of a row is written, or not, as one of numbers is: where it fits and where it lacks a byte, and of no kind. */
 bool records_written(void) {
-    static const uint64_t kinds[] = {TILIGORMIS_CPU_WRITE, TILIGORMIS_KINDS + 1};
+    static const uint64_t kinds[] = {TILIGORMIS_CPU_WRITE, PAST};
     bool good = true;
     for (size_t k = 0; k < 4; k++) {
         const size_t bytes = TILIGORMIS_RECORD_BYTES - k % 2;

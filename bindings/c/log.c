@@ -5,7 +5,7 @@
 
 /* How many arguments each operation has, by its number. */
 static const size_t arguments[TILIGORMIS_KINDS + 1] = {0, 1, 1, 2, 2, 3, 3, 5, 5, 2, 2, 5, 5, 5,
-                                                       5, 2, 2, 2, 2, 1, 1, 3, 3, 4, 4, 0, 0};
+                                                       5, 2, 2, 2, 2, 1, 1, 3, 3, 4, 4, 0, 0, 1};
 
 /* Whether number k of a row of this kind is a value, of eight bytes. */
 static bool is_value(uint64_t kind, size_t k) {
@@ -186,7 +186,7 @@ bool log_arguments(void) {
 
 /* A first number that is no kind comes before an argument that is too large, and before too little room. */
 bool log_unknown_kinds(void) {
-    static const uint64_t kinds[] = {0, TILIGORMIS_KINDS + 1, 65536 + 1, ((uint64_t)1 << 32) + 1, UINT64_MAX};
+    static const uint64_t kinds[] = {0, PAST, 65536 + 1, ((uint64_t)1 << 32) + 1, UINT64_MAX};
     bool good = true;
     for (size_t k = 0; k < sizeof kinds / sizeof *kinds; k++) {
         place_row((tiligormis_row){{kinds[k], 1}}, 0);
@@ -224,12 +224,12 @@ bool log_wrong(void) {
     } cases[] = {
         {{7, 0, 1, 0, 1, 0, 0, 0}, TILIGORMIS_CUT_SHORT},          /* a byte more than there is */
         {{6, 1, 1, 0, 1, 0, 0, 0}, TILIGORMIS_CUT_SHORT},          /* 256 more */
-        {{0xff, 0xff, 27, 0, 1, 0, 0, 0}, TILIGORMIS_CUT_SHORT},   /* whatever the kind */
+        {{0xff, 0xff, PAST, 0, 1, 0, 0, 0}, TILIGORMIS_CUT_SHORT}, /* whatever the kind */
         {{6, 0, 0, 0, 1, 0, 0, 0}, TILIGORMIS_UNKNOWN_KIND},       /* 0 */
-        {{6, 0, 27, 0, 1, 0, 0, 0}, TILIGORMIS_UNKNOWN_KIND},      /* one past the last */
+        {{6, 0, PAST, 0, 1, 0, 0, 0}, TILIGORMIS_UNKNOWN_KIND},    /* one past the last */
         {{6, 0, 1, 1, 1, 0, 0, 0}, TILIGORMIS_UNKNOWN_KIND},       /* 257 */
         {{6, 0, 0xff, 0xff, 1, 0, 0, 0}, TILIGORMIS_UNKNOWN_KIND}, /* the largest */
-        {{0, 0, 27, 0, 1, 0, 0, 0}, TILIGORMIS_UNKNOWN_KIND},      /* whatever the length */
+        {{0, 0, PAST, 0, 1, 0, 0, 0}, TILIGORMIS_UNKNOWN_KIND},    /* whatever the length */
         {{1, 0, 0, 0, 1, 0, 0, 0}, TILIGORMIS_UNKNOWN_KIND},       {{0, 0, 1, 0, 1, 0, 0, 0}, TILIGORMIS_WRONG_LENGTH},
         {{1, 0, 1, 0, 1, 0, 0, 0}, TILIGORMIS_WRONG_LENGTH},       {{2, 0, 1, 0, 1, 0, 0, 0}, TILIGORMIS_WRONG_LENGTH},
         {{5, 0, 1, 0, 1, 0, 0, 0}, TILIGORMIS_WRONG_LENGTH},       {{6, 0, 26, 0, 1, 0, 0, 0}, TILIGORMIS_WRONG_LENGTH},

@@ -120,7 +120,7 @@ bool replay_unreadable(void) {
     } cases[] = {
         {{6, 0, 1, 0, 3, 0, 0, 0}, 7, TILIGORMIS_CUT_SHORT},
         {{6}, 1, TILIGORMIS_CUT_SHORT},
-        {{6, 0, 27, 0, 3, 0, 0, 0}, 8, TILIGORMIS_UNKNOWN_KIND},
+        {{6, 0, PAST, 0, 3, 0, 0, 0}, 8, TILIGORMIS_UNKNOWN_KIND},
         {{5, 0, 1, 0, 3, 0, 0, 0}, 8, TILIGORMIS_WRONG_LENGTH},
     };
     static const size_t befores[] = {0, FILLS, COUNT};

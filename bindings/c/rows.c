@@ -1,4 +1,4 @@
-/* Rows, answers and the free query's result of other lengths; what that query gives. */
+/* Rows, answers and the free query's result of other lengths; rows of no operation; what that query gives. */
 #include "edges.h"
 
 #include <string.h>
@@ -68,6 +68,24 @@ bool no_rows(void) {
     expected = room;
     bool good = sequence(&box, 0, 0) == TILIGORMIS_ACCEPTED && as_expected();
     good &= sequence(&box, 0, 3) == TILIGORMIS_ACCEPTED && as_expected();
+    return good;
+}
+
+/* A number that is no operation's is refused with 2, as the row of an operation or of a sequence, and changes nothing. */
+bool unknown_operations(void) {
+    static const uint64_t numbers[] = {0, PAST, ((uint64_t)1 << 32) + TILIGORMIS_RETIRE_VM, UINT64_MAX};
+    static const tiligormis_answer refused = {TILIGORMIS_OUT_OF_RANGE, 0, 0, 0};
+    bool good = true;
+    for (size_t k = 0; k < sizeof numbers / sizeof *numbers; k++) {
+        room = whole;
+        room.rows[GUARD] = room.rows[GUARD + TILIGORMIS_ROW_NUMBERS] = numbers[k];
+        expected = room;
+        expected.answer[SECOND] = expected.answers[SECOND] = expected.answers[SECOND + 1] = refused;
+        uint64_t number = operation(&box, TILIGORMIS_ROW_NUMBERS, TILIGORMIS_ANSWER_NUMBERS);
+        good &= holds(number == TILIGORMIS_OUT_OF_RANGE, "operation", numbers[k]);
+        number = sequence(&box, ROWS_LENGTH, ANSWERS_LENGTH);
+        good &= holds(number == TILIGORMIS_ACCEPTED && as_expected(), "row of a sequence", numbers[k]);
+    }
     return good;
 }
 

@@ -1,8 +1,9 @@
 /*
  * The incident, told to the library from C. A converter was retired, its pages went to the next converter, and the first one's
  * card reader still wrote through a translation that nobody had taken back. Here every step of that is refused or does no harm.
- * Then the stale translation is planted by hand: the library refuses the whole box until it is taken out. Meanwhile every
- * operation is logged, and at the end the log is replayed on a second box, as support would with a customer's log.
+ * Then the stale translation is planted by hand: the library refuses the whole box until it is taken out. The next converter
+ * is retired in one call, with all that it has. Meanwhile every operation is logged, and at the end the log is replayed on a
+ * second box, as support would with a customer's log.
  */
 #include "tiligormis.h"
 
@@ -11,9 +12,11 @@
 #include <string.h>
 
 enum { PAGES = 16, SHARED_PAGE = 15, SHARED_PAGES = 1 };
-enum { A = 1, B = 2 }; /* converters: A is to be retired, B to get its pages */
-enum { CPU_OF_A = 0, CPU_OF_B = 1, READER_OF_A = 0 };
-enum { GUEST_OF_A = 16, GUEST_OF_B = 64, PAGE = 0, COUNT = 4, ACCESS = TILIGORMIS_READ | TILIGORMIS_WRITE };
+enum { A = 1, B = 2, C = A }; /* converters: B gets the pages of A, and C, under A's number, those of B */
+enum { PREVIEW = 3 };         /* a guest that looks at B's page */
+enum { CPU_OF_A = 0, CPU_OF_B = 1, CPU_OF_C = CPU_OF_A, CPU_OF_PREVIEW = 2, READER_OF_A = 0, READER_OF_B = 1 };
+enum { GUEST_OF_A = 16, GUEST_OF_B = 64, GUEST_OF_C = GUEST_OF_A, GUEST_OF_PREVIEW = 8 };
+enum { PAGE = 0, COUNT = 4, ACCESS = TILIGORMIS_READ | TILIGORMIS_WRITE };
 enum { WORD = 0, GENERATION = 0, LINE = 60 };
 
 /* Everything that the library is lent, in one piece, so that a box can be compared with what it was. */
@@ -161,6 +164,42 @@ static void gone(void) {
     step("B reads its lens name", tiligormis_row_cpu_read(CPU_OF_B, GUEST_OF_B, WORD));
 }
 
+static void preview_reads(const char *what) {
+    step(what, tiligormis_row_cpu_read(CPU_OF_PREVIEW, GUEST_OF_PREVIEW, WORD));
+}
+
+static void previewed(void) {
+    printf("B at work, and a preview guest that looks at its page\n");
+    step("B's region goes in for devices too", tiligormis_row_dma_insert_region(B, GUEST_OF_B, PAGE, COUNT, ACCESS));
+    step("its card reader is bound to it", tiligormis_row_bind_device(READER_OF_B, B));
+    step("the reader caches a translation", tiligormis_row_dma_fill(READER_OF_B, GUEST_OF_B));
+    step("the reader writes a lens name, 9999", tiligormis_row_dma_write(READER_OF_B, GUEST_OF_B, WORD, 9999));
+    step("a preview guest is added", tiligormis_row_add_vm(PREVIEW));
+    step("B lends it the page", tiligormis_row_share_page(B, PREVIEW, PAGE));
+    step("the guest maps it, to read",
+         tiligormis_row_cpu_map(PREVIEW, GUEST_OF_PREVIEW, PAGE, TILIGORMIS_READ, GENERATION));
+    step("the guest runs on a CPU", tiligormis_row_switch_cpu(CPU_OF_PREVIEW, PREVIEW));
+    step("the guest caches a translation", tiligormis_row_cpu_fill(CPU_OF_PREVIEW, GUEST_OF_PREVIEW));
+    preview_reads("the guest reads the lens name");
+}
+
+/* One call takes its mappings and the guest's, the loan, both cached translations, its pages and B. */
+static void retired_in_one_call(void) {
+    printf("B retired in one call, and its pages given to C\n");
+    step("B is retired", tiligormis_row_retire_vm(B));
+    step("its CPU becomes idle", tiligormis_row_switch_cpu(CPU_OF_B, TILIGORMIS_IDLE));
+    step("B is retired", tiligormis_row_retire_vm(B));
+    step("its reader is bound to nobody", tiligormis_row_bind_device(READER_OF_B, TILIGORMIS_IDLE));
+    step("B is retired", tiligormis_row_retire_vm(B));
+    free_pages(&box);
+    step("the reader writes 1234", tiligormis_row_dma_write(READER_OF_B, GUEST_OF_B, WORD, 1234));
+    preview_reads("the guest reads the lens name");
+    step("converter C is added, under A's number", tiligormis_row_add_vm(C));
+    step("C asks for the pages", tiligormis_row_insert_region(C, GUEST_OF_C, PAGE, COUNT, ACCESS));
+    step("C runs on a CPU", tiligormis_row_switch_cpu(CPU_OF_C, C));
+    step("C reads the word where B's lens name was", tiligormis_row_cpu_read(CPU_OF_C, GUEST_OF_C, WORD));
+}
+
 /* A second box, started as the first was, takes the log. It ends where the first one is. */
 static void replayed(void) {
     static struct lent other;
@@ -184,6 +223,8 @@ int main(void) {
     retired_properly();
     planted();
     gone();
+    previewed();
+    retired_in_one_call();
     replayed();
     return 0;
 }

@@ -1,8 +1,9 @@
 //! The incident, told to the library from Rust. A converter was retired, its pages went to the next
 //! converter, and the first one's card reader still wrote through a translation that nobody had
 //! taken back. Here every step of that is refused or does no harm. Then the stale translation is
-//! planted by hand: the library refuses the whole box until it is taken out. Meanwhile every operation
-//! is logged, and at the end the log is replayed on a second box, as support would with a customer's.
+//! planted by hand: the library refuses the whole box until it is taken out. The next converter is
+//! retired in one call, with all that it has. Meanwhile every operation is logged, and at the end the
+//! log is replayed on a second box, as support would with a customer's.
 
 use tiligormis::*;
 
@@ -10,15 +11,22 @@ const PAGES_HERE: usize = 16;
 const SHARED_PAGE: u64 = 15;
 const SHARED_PAGES: u64 = 1;
 
-// Converter A is to be retired, converter B to get its pages.
+// Converter B gets the pages of A, and C, under A's number, those of B. A preview guest looks at B's.
 const A: u64 = 1;
 const B: u64 = 2;
+const C: u64 = A;
+const PREVIEW: u64 = 3;
 const CPU_OF_A: u64 = 0;
 const CPU_OF_B: u64 = 1;
+const CPU_OF_C: u64 = CPU_OF_A;
+const CPU_OF_PREVIEW: u64 = 2;
 const READER_OF_A: u64 = 0;
+const READER_OF_B: u64 = 1;
 
 const GUEST_OF_A: u64 = 16;
 const GUEST_OF_B: u64 = 64;
+const GUEST_OF_C: u64 = GUEST_OF_A;
+const GUEST_OF_PREVIEW: u64 = 8;
 const PAGE: u64 = 0;
 const COUNT: u64 = 4;
 const ACCESS: u64 = READ | WRITE;
@@ -210,6 +218,49 @@ fn gone(ingest: &mut Ingest) {
     b_reads(ingest, "B reads its lens name");
 }
 
+fn preview_reads(ingest: &mut Ingest, what: &str) {
+    step(ingest, what, rows::cpu_read(CPU_OF_PREVIEW, GUEST_OF_PREVIEW, WORD));
+}
+
+fn previewed(ingest: &mut Ingest) {
+    println!("B at work, and a preview guest that looks at its page");
+    let inserted = rows::dma_insert_region(B, GUEST_OF_B, PAGE, COUNT, ACCESS);
+    step(ingest, "B's region goes in for devices too", inserted);
+    step(ingest, "its card reader is bound to it", rows::bind_device(READER_OF_B, Some(B)));
+    step(ingest, "the reader caches a translation", rows::dma_fill(READER_OF_B, GUEST_OF_B));
+    let written = rows::dma_write(READER_OF_B, GUEST_OF_B, WORD, 9999);
+    step(ingest, "the reader writes a lens name, 9999", written);
+    step(ingest, "a preview guest is added", rows::add_vm(PREVIEW));
+    step(ingest, "B lends it the page", rows::share_page(B, PREVIEW, PAGE));
+    let mapped = rows::cpu_map(PREVIEW, GUEST_OF_PREVIEW, PAGE, READ, 0);
+    step(ingest, "the guest maps it, to read", mapped);
+    let switched = rows::switch_cpu(CPU_OF_PREVIEW, Some(PREVIEW));
+    step(ingest, "the guest runs on a CPU", switched);
+    let filled = rows::cpu_fill(CPU_OF_PREVIEW, GUEST_OF_PREVIEW);
+    step(ingest, "the guest caches a translation", filled);
+    preview_reads(ingest, "the guest reads the lens name");
+}
+
+/// One call takes its mappings and the guest's, the loan, both cached translations, its pages and B.
+fn retired_in_one_call(ingest: &mut Ingest) {
+    println!("B retired in one call, and its pages given to C");
+    step(ingest, "B is retired", rows::retire_vm(B));
+    step(ingest, "its CPU becomes idle", rows::switch_cpu(CPU_OF_B, None));
+    step(ingest, "B is retired", rows::retire_vm(B));
+    step(ingest, "its reader is bound to nobody", rows::bind_device(READER_OF_B, None));
+    step(ingest, "B is retired", rows::retire_vm(B));
+    free_pages(&ingest.machine);
+    let written = rows::dma_write(READER_OF_B, GUEST_OF_B, WORD, 1234);
+    step(ingest, "the reader writes 1234", written);
+    preview_reads(ingest, "the guest reads the lens name");
+    step(ingest, "converter C is added, under A's number", rows::add_vm(C));
+    let inserted = rows::insert_region(C, GUEST_OF_C, PAGE, COUNT, ACCESS);
+    step(ingest, "C asks for the pages", inserted);
+    step(ingest, "C runs on a CPU", rows::switch_cpu(CPU_OF_C, Some(C)));
+    let read = rows::cpu_read(CPU_OF_C, GUEST_OF_C, WORD);
+    step(ingest, "C reads the word where B's lens name was", read);
+}
+
 /// A second box, started as the first was, takes the log. It ends where the first one is.
 fn replayed(ingest: &Ingest) {
     println!("The log replayed on a second machine");
@@ -232,5 +283,7 @@ fn main() {
     retired_properly(&mut ingest);
     planted(&mut ingest);
     gone(&mut ingest);
+    previewed(&mut ingest);
+    retired_in_one_call(&mut ingest);
     replayed(&ingest);
 }

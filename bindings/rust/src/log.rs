@@ -133,7 +133,7 @@ impl FusedIterator for LogReader<'_> {}
 /// let mut log = LogWriter::new(&mut buffer);
 /// log.write(&rows::add_vm(1))?;
 /// assert_eq!(log.written(), [6, 0, 1, 0, 1, 0, 0, 0]);
-/// assert_eq!(log.write(&row([27])), Err(LogRefusal::UnknownKind));
+/// assert_eq!(log.write(&row([KINDS + 1])), Err(LogRefusal::UnknownKind));
 /// assert_eq!(log.write(&rows::assign_page(1, 1 << 32)), Err(LogRefusal::DoesNotFit));
 /// log.write(&rows::assign_page(1, 5))?;
 /// assert_eq!(log.write(&rows::data_barrier()), Err(LogRefusal::DoesNotFit));

@@ -53,7 +53,7 @@ numbers! {
     MACHINE_NUMBERS: usize = 7 + 2 * PORTS + UNITS * UNIT_NUMBERS;
 
     /// Kinds of a log's records, from 1 on: the operations' numbers.
-    KINDS: u64 = 26;
+    KINDS: u64 = 27;
     /// Bytes of the longest record that a row makes.
     RECORD_BYTES: usize = 24;
 
@@ -131,6 +131,8 @@ numbers! {
     DATA_BARRIER: u64 = 25;
     /// No arguments.
     INSTRUCTION_BARRIER: u64 = 26;
+    /// Arguments: vm.
+    RETIRE_VM: u64 = 27;
 }
 
 /// Declares an enum of refusals and, for the tests, the list of them: of each the constant, the case,
@@ -219,7 +221,7 @@ refusals! {
     STILL_IN_USE: u64 = 11, StillInUse, "a page is still mapped or shared";
     PAIR_WRONG: u64 = 12, PairWrong, "the pair is wrong: a VM with itself, or no such pair";
     VM_BUSY: u64 = 13, VmBusy,
-        "the VM still has something: a page, a mapping, an edge, a CPU or a device";
+        "the VM still has something: a CPU, a device, for remove VM also a page, mapping or edge";
     NO_ROOM: u64 = 14, NoRoom, "there is no room: too few entries are free";
     PORT_IDLE: u64 = 15, PortIdle, "the port is idle";
     ACCESS_LACKING: u64 = 16, AccessLacking, "the mapping's access lacks the needed bit";

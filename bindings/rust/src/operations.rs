@@ -1,4 +1,4 @@
-//! The twenty-six operations, in one table: for each a function that makes its row, and a method of
+//! The twenty-seven operations, in one table: for each a function that makes its row, and a method of
 //! [`Lent`] that carries it out.
 
 use crate::answers::Refused;
@@ -83,7 +83,7 @@ operations! {
     /// - [`Refusal::VmKnown`]: it is known already
     ADD_VM: add_vm(vm) gives nothing: Result<(), Refusal>;
 
-    /// Makes the VM unknown.
+    /// Makes the VM unknown; [`Lent::retire_vm`] does so with one that still has something.
     ///
     /// - [`Refusal::VmUnknown`]: it is not known
     /// - [`Refusal::VmBusy`]: it has a page, a mapping or a pair, or is on a CPU or a device
@@ -253,4 +253,13 @@ operations! {
 
     /// Does nothing. Nothing else refuses it.
     INSTRUCTION_BARRIER: instruction_barrier() gives nothing: Result<(), Refusal>;
+
+    /// Makes the VM unknown, and takes all that it has: its mappings and pairs go, with what other
+    /// VMs map of its CPU pages; these go back to the pool, and its DMA pages are so no more. Every page
+    /// that it held is cleared; one that was lent to it is not. Gives how many slots were dropped, of
+    /// both caches together.
+    ///
+    /// - [`Refusal::VmUnknown`]: it is not known
+    /// - [`Refusal::VmBusy`]: it is on a CPU or a device; nothing else that it has is a reason
+    RETIRE_VM: retire_vm(vm) gives dropped: Result<u64, Refusal>;
 }

@@ -48,6 +48,7 @@ argument-counts (op.UnsharePage left right page) = refl
 argument-counts (op.On side operation) = side-counts side operation
 argument-counts op.DataBarrier = refl
 argument-counts op.InstructionBarrier = refl
+argument-counts (op.RetireVm vm) = refl
 
 -- ---- a row names an operation exactly where its number is a kind, which is then the operation's number
 abbrev named : Option Operation → Option ℕ

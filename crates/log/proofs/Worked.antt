@@ -1,9 +1,9 @@
 -- Records and what each says, by computing it (docs/MACHINE.md, 14): the manual's example, every kind, every refusal and each two that meet.
-use Prim.Native.Nat.{ℕ}
+use Prim.Native.Nat.{ℕ, _+_}
 use mathlib.Core.List.{List, [], _∷_, _++_, map}
 use mathlib.Core.Path.{_≡_, refl}
 use lib.ListN.{take, replicate}
-use Rattle.log.specs.Kinds.{argumentCounts}
+use Rattle.log.specs.Kinds.{KINDS, argumentCounts}
 use Rattle.log.specs.Log.{logRefusalNumber, recordOf, recordAt, writtenAt, written}
 use Rattle.log.specs.Logs.{logOf, Readings, readAll}
 use Rattle.log.specs.declared.LogRefusal.the-variants.{CutShort, UnknownKind, WrongLength, DoesNotFit}
@@ -77,12 +77,14 @@ kinds =
     -- barriers
     ∷ aRecord (padded (25 ∷ [])) 5
     ∷ aRecord (padded (26 ∷ [])) 5
+    -- a VM retired
+    ∷ aRecord (padded (27 ∷ 11 ∷ [])) 9
     ∷ []
 
-abbrev pub upTo26 : List ℕ
-upTo26 = 1 ∷ 2 ∷ 3 ∷ 4 ∷ 5 ∷ 6 ∷ 7 ∷ 8 ∷ 9 ∷ 10 ∷ 11 ∷ 12 ∷ 13 ∷ 14 ∷ 15 ∷ 16 ∷ 17 ∷ 18 ∷ 19 ∷ 20 ∷ 21 ∷ 22 ∷ 23 ∷ 24 ∷ 25 ∷ 26 ∷ []
+abbrev pub everyKind : List ℕ
+everyKind = 1 ∷ 2 ∷ 3 ∷ 4 ∷ 5 ∷ 6 ∷ 7 ∷ 8 ∷ 9 ∷ 10 ∷ 11 ∷ 12 ∷ 13 ∷ 14 ∷ 15 ∷ 16 ∷ 17 ∷ 18 ∷ 19 ∷ 20 ∷ 21 ∷ 22 ∷ 23 ∷ 24 ∷ 25 ∷ 26 ∷ 27 ∷ []
 
-pub kinds-read : map (λ kind. readBack (full kind)) upTo26 ≡ kinds
+pub kinds-read : map (λ kind. readBack (full kind)) everyKind ≡ kinds
 unfolding recordAt written writtenAt recordOf argumentCounts
 kinds-read = refl
 
@@ -111,7 +113,7 @@ readings =
     ∷ reading addOne 5 (Refused CutShort)
     -- 21: before the first kind, past the last one, the highest number of two bytes, and a kind in the high byte
     ∷ reading (2 ∷ 0 ∷ 0 ∷ 0 ∷ []) 0 (Refused UnknownKind)
-    ∷ reading (2 ∷ 0 ∷ 27 ∷ 0 ∷ []) 0 (Refused UnknownKind)
+    ∷ reading (2 ∷ 0 ∷ (KINDS + 1) ∷ 0 ∷ []) 0 (Refused UnknownKind)
     ∷ reading (2 ∷ 0 ∷ 255 ∷ 255 ∷ []) 0 (Refused UnknownKind)
     ∷ reading (2 ∷ 0 ∷ 0 ∷ 25 ∷ []) 0 (Refused UnknownKind)
     -- 22: a byte less and a byte more than the kind has, with other bytes behind them; a length that does not hold the kind
@@ -121,12 +123,12 @@ readings =
     ∷ reading (1 ∷ 0 ∷ 25 ∷ 0 ∷ []) 0 (Refused WrongLength)
     ∷ reading addOne 2 (Refused WrongLength)
     -- two that meet: cut short comes before an unknown kind and before a wrong length, and an unknown kind before a wrong length
-    ∷ reading (3 ∷ 0 ∷ 27 ∷ 0 ∷ []) 0 (Refused CutShort)
+    ∷ reading (3 ∷ 0 ∷ (KINDS + 1) ∷ 0 ∷ []) 0 (Refused CutShort)
     ∷ reading (7 ∷ 0 ∷ 1 ∷ 0 ∷ 1 ∷ 0 ∷ 0 ∷ 0 ∷ []) 0 (Refused CutShort)
-    ∷ reading (0 ∷ 0 ∷ 27 ∷ 0 ∷ []) 0 (Refused UnknownKind)
+    ∷ reading (0 ∷ 0 ∷ (KINDS + 1) ∷ 0 ∷ []) 0 (Refused UnknownKind)
     ∷ reading (1 ∷ 0 ∷ 0 ∷ 0 ∷ []) 0 (Refused UnknownKind)
     -- at a record's place in a log of more
-    ∷ reading (addOne ++ (2 ∷ 0 ∷ 27 ∷ 0 ∷ [])) 8 (Refused UnknownKind)
+    ∷ reading (addOne ++ (2 ∷ 0 ∷ (KINDS + 1) ∷ 0 ∷ [])) 8 (Refused UnknownKind)
     -- the end, and past it
     ∷ reading [] 0 End
     ∷ reading [] 3 End
@@ -160,7 +162,7 @@ abbrev pub writings : List Writing
 writings =
     -- 21: no kind, in bytes or not
     writing [] 100 0 (put.Refused UnknownKind)
-    ∷ writing (27 ∷ []) 100 0 (put.Refused UnknownKind)
+    ∷ writing ((KINDS + 1) ∷ []) 100 0 (put.Refused UnknownKind)
     ∷ writing (65537 ∷ []) 100 0 (put.Refused UnknownKind)
     -- 23: an argument that four bytes cannot hold, first and last; behind the arguments it is no argument
     ∷ writing (1 ∷ over ∷ []) 100 0 (put.Refused DoesNotFit)
@@ -180,8 +182,8 @@ writings =
     ∷ writing (1 ∷ 1 ∷ []) 8 0 (put.Past 8)
     ∷ writing (25 ∷ []) 9 5 (put.Past 9)
     -- two that meet: an unknown kind comes before what does not fit, by its number or by the room
-    ∷ writing (27 ∷ over ∷ []) 100 0 (put.Refused UnknownKind)
-    ∷ writing (27 ∷ []) 0 0 (put.Refused UnknownKind)
+    ∷ writing ((KINDS + 1) ∷ over ∷ []) 100 0 (put.Refused UnknownKind)
+    ∷ writing ((KINDS + 1) ∷ []) 0 0 (put.Refused UnknownKind)
     ∷ writing (0 ∷ over ∷ []) 0 9 (put.Refused UnknownKind)
     ∷ []
 

@@ -30,7 +30,7 @@ each-kind f g all kind h = let b = kind-bounds kind h in each f g KINDS all kind
 
 -- ---- the code's table, from kind 1 on, and its rule
 abbrev pub bodyBytes : List ℕ
-bodyBytes = 4 ∷ 4 ∷ 8 ∷ 8 ∷ 12 ∷ 12 ∷ 20 ∷ 20 ∷ 8 ∷ 8 ∷ 20 ∷ 20 ∷ 20 ∷ 20 ∷ 8 ∷ 8 ∷ 8 ∷ 8 ∷ 4 ∷ 4 ∷ 12 ∷ 12 ∷ 20 ∷ 20 ∷ 0 ∷ 0 ∷ []
+bodyBytes = 4 ∷ 4 ∷ 8 ∷ 8 ∷ 12 ∷ 12 ∷ 20 ∷ 20 ∷ 8 ∷ 8 ∷ 20 ∷ 20 ∷ 20 ∷ 20 ∷ 8 ∷ 8 ∷ 8 ∷ 8 ∷ 4 ∷ 4 ∷ 12 ∷ 12 ∷ 20 ∷ 20 ∷ 0 ∷ 0 ∷ 4 ∷ []
 
 pub bodies : (kind : ℕ) → isKind kind ≡ true → getD bodyBytes (kind - 1) 0 ≡ bodyLength kind
 unfolding argumentCounts
@@ -59,5 +59,5 @@ no-arguments kind h =
     (λ (e : kind ≡ 0). rw e)
     (λ ne.
     let known = decides-and (decides-less 0 kind) (decides-most kind KINDS) .complete in
-    List·getD-eq-default argumentCounts 0 (by-contra 27 kind (λ small. true≢false (sym (known (omega arith, omega arith)) ∙ h))))
+    List·getD-eq-default argumentCounts 0 (by-contra (KINDS + 1) kind (λ small. true≢false (sym (known (omega arith, omega arith)) ∙ h))))
     (equal kind 0)

@@ -8,7 +8,7 @@ use Rattle.numbers.specs.Choice.{if_then_else_}
 
 -- the last kind
 abbrev pub KINDS : ℕ
-KINDS = 26
+KINDS = 27
 
 abbrev pub isKind : ℕ → Bool
 isKind kind = ltb 0 kind && leb kind KINDS
@@ -29,6 +29,8 @@ argumentCounts =
     ∷ 3 ∷ 3 ∷ 4 ∷ 4
     -- 25, 26: barriers
     ∷ 0 ∷ 0
+    -- 27: a VM retired
+    ∷ 1
     ∷ []
 
 abbrev pub argumentCount : ℕ → ℕ

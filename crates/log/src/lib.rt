@@ -11,7 +11,7 @@ use numbers::ROW_NUMBERS;
 // ---- Kinds.
 
 // The last kind: kinds are the operations' numbers.
-pub const KINDS: u64 = 26;
+pub const KINDS: u64 = 27;
 // The bytes of each kind's body, from kind 1 on, beside its number.
 const BODIES: [usize; KINDS as usize] = [
     4, // 1
@@ -40,6 +40,7 @@ const BODIES: [usize; KINDS as usize] = [
     20, // 24
     0, // 25
     0, // 26
+    4, // 27
 ];
 // The kinds whose last argument is a value of 64 bits.
 const CPU_WRITE: u64 = 23;

@@ -27,6 +27,7 @@ use Rattle.model.specs.Maps.{mapMay, mapAnswer, unmapMay, unmapAnswer}
 use Rattle.model.specs.Regions.{clashAt, insertAnswer, removeMay, removeAnswer}
 use Rattle.model.specs.Ports.{portAnswer, fillAnswer, emptyAnswer}
 use Rattle.model.specs.Access.{accessAnswer}
+use Rattle.model.specs.Retire.{retireMay, retireAnswer}
 use Rattle.model.specs.Step.{Stepped, carriedOut, control, step}
 use Rattle.model.specs.Sequence.{operationOf, operationIn, stepKnown, stepRow}
 use Rattle.model.specs.Entries.{valid, not-valid, JudgedRow}
@@ -34,7 +35,7 @@ use Rattle.model.specs.Entries.{valid, not-valid, JudgedRow}
 -- ---- the paper's numbers
 -- the last operation's number
 abbrev pub operations : ℕ
-operations = 26
+operations = 27
 
 -- operations on a region, and the refusals that search one
 abbrev pub regions : List ℕ
@@ -43,9 +44,9 @@ regions = 11 ∷ 12 ∷ 13 ∷ 14 ∷ []
 abbrev pub searches : List ℕ
 searches = 6 ∷ 7 ∷ 9 ∷ 10 ∷ 11 ∷ []
 
--- operations that drop slots: map, unmap, remove a region
+-- operations that drop slots: map, unmap, remove a region, retire
 abbrev pub drops : List ℕ
-drops = 7 ∷ 8 ∷ 9 ∷ 10 ∷ 12 ∷ 14 ∷ []
+drops = 7 ∷ 8 ∷ 9 ∷ 10 ∷ 12 ∷ 14 ∷ 27 ∷ []
 
 -- operations that give a word: read
 abbrev pub gives : List ℕ
@@ -95,6 +96,8 @@ refusalLists =
     -- 25, 26: barriers, which have no argument
     ∷ []
     ∷ []
+    -- 27: a VM retired
+    ∷ (2 ∷ 4 ∷ 13 ∷ [])
     ∷ []
 
 -- one list a number, from 0 to the last
@@ -238,7 +241,7 @@ module _ {n count : ℕ} {s : State} where
 
 -- all of them: every answer is made of the parts above
 every-number : (s : State) (n a b c d e : ℕ) → Known n d s (operationOf n a b c d e)
-unfolding refusalLists control addVmAnswer removeVmAnswer assignAnswer reclaimAnswer shareAnswer unshareAnswer mapMay mapAnswer unmapMay unmapAnswer insertAnswer removeMay removeAnswer portAnswer fillAnswer emptyAnswer accessAnswer
+unfolding refusalLists control addVmAnswer removeVmAnswer assignAnswer reclaimAnswer shareAnswer unshareAnswer mapMay mapAnswer unmapMay unmapAnswer insertAnswer removeMay removeAnswer portAnswer fillAnswer emptyAnswer accessAnswer retireMay retireAnswer
 every-number s n a b c d e = search (numbered, unknown, neither, told, check, early, unsearched, searched, dropping, done, tt {0}) depth 60 fits 5000
 
 -- ---- the four numbers

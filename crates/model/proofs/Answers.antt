@@ -20,7 +20,7 @@ use Rattle.model.specs.Effect.{accepted, refused}
 use Rattle.model.specs.EarlyLaws.{past}
 use Rattle.model.specs.Sequence.{writeAt, Progress, stepRow, rowAt, rowCount, shapeAnswer, turn, after}
 use Rattle.model.specs.WriteLaws.{length-written, written-before, written-behind, written-here}
-use Rattle.model.proofs.Repeats.{repeat-last}
+use Rattle.table.specs.RepeatLaws.{repeat-last}
 
 -- ---- the shape
 -- a shape that is accepted has room for every answer, and nothing is dropped or read

@@ -73,6 +73,7 @@ accepted-inside t (op.UnsharePage left right page) dropped word e = tt
 accepted-inside t (op.On side operation) dropped word e = side-inside side t operation dropped word e
 accepted-inside t op.DataBarrier dropped word e = tt
 accepted-inside t op.InstructionBarrier dropped word e = tt
+accepted-inside t (op.RetireVm vm) dropped word e = tt
 
 pub inside : (t : Tables) (operation : Operation) → Inside (control t operation .effect)
 unfolding control

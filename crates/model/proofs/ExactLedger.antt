@@ -20,7 +20,7 @@ use Rattle.model.proofs.ExactLaws.{unless, where-so, and-then, after-ea
 use Rattle.model.proofs.ExactViews.{claimed-exact, pages-exact, mappings-exact, target-exact, targets-of-exact, edge-on-exact, edge-of-exact, paired-exact, port-exact}
 
 -- ---- early checks
-vm-early : (known vm : ℕ) → Decides (accepts (vmEarly known vm)) ((vm < VMS) × ((knows known vm ≡ true) × Unit {0}))
+pub vm-early : (known vm : ℕ) → Decides (accepts (vmEarly known vm)) ((vm < VMS) × ((knows known vm ≡ true) × Unit {0}))
 vm-early known vm = where-so _ _ _ _ (decides-less vm VMS) (where-so _ _ _ _ (decides-itself (knows known vm)) always)
 
 page-early : (known pages vm page : ℕ) → Decides (accepts (pageEarly known pages vm page)) (((vm < VMS) × (page < pages)) × ((knows known vm ≡ true) × Unit {0}))

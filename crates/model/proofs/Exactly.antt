@@ -29,6 +29,7 @@ use Rattle.model.specs.Conditions.{accepts, Conditions, RowConditions}
 use Rattle.model.proofs.ExactLedger.{add-vm-exact, remove-vm-exact, assign-exact, reclaim-exact, share-exact, unshare-exact}
 use Rattle.model.proofs.ExactMaps.{map-exact, unmap-exact, port-exact, fill-exact, empty-exact, access-exact}
 use Rattle.model.proofs.ExactRegions.{insert-exact, remove-exact}
+use Rattle.model.proofs.ExactRetire.{retire-exact}
 use Rattle.model.proofs.Answers.{roomy, answer-row}
 use Rattle.model.proofs.Kept.{after-valid}
 
@@ -55,6 +56,7 @@ module _ (t : Tables) (v : ValidTables t) where
   answer-exactly (op.On side operation) = side-exactly side operation
   answer-exactly op.DataBarrier = always
   answer-exactly op.InstructionBarrier = always
+  answer-exactly (op.RetireVm vm) = retire-exact t v (vm .0)
 
 pub exactly : (t : Tables) → ValidTables t → (operation : Operation) → Decides (accepts (control t operation .answer)) (Conditions t operation)
 unfolding control decided

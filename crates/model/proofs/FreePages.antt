@@ -1,6 +1,6 @@
--- What the free query says can be used (docs/MACHINE.md, 8): a free page is assigned to every known VM, and inserted.
+-- What the free query says can be used (docs/MACHINE.md, 8): a free page is assigned to every known VM, and no insert is refused for it.
 use Prim.Native.Nat.{ℕ, _<_}
-use mathlib.Core.Bool.{Bool, true, false, not, true≢false}
+use mathlib.Core.Bool.{Bool, true, false, true≢false}
 use mathlib.Core.List.{List, _∷_}
 use mathlib.Core.Logic.{⊎-elim, _↔_}
 use mathlib.Core.Path.{_≡_, refl, sym, _∙_}

@@ -22,13 +22,14 @@ use Rattle.model.specs.ShapeLaws.{step-sizes}
 use Rattle.model.specs.Valid.{ValidTables, Valid}
 use Rattle.model.specs.Good.{Touches, Good}
 use Rattle.model.proofs.StartKept.{start-valid}
-use Rattle.model.proofs.Repeats.{repeat-keeps}
+use Rattle.table.specs.RepeatLaws.{repeat-keeps}
 use Rattle.model.proofs.Refused.{AcceptedGood, good-where-accepted}
 use Rattle.model.proofs.GoodLedger.{add-vm-good, remove-vm-good, assign-good, reclaim-good, share-good, unshare-good}
 use Rattle.model.proofs.GoodMaps.{map-good, unmap-good}
 use Rattle.model.proofs.GoodRegions.{insert-good, remove-good}
 use Rattle.model.proofs.GoodPorts.{port-good, fill-good, empty-good}
 use Rattle.model.proofs.GoodAccess.{read-good, write-good, data-barrier-good, instruction-barrier-good}
+use Rattle.model.proofs.GoodRetire.{retire-good}
 
 -- ---- each operation, where it is accepted
 module _ (t : Tables) (v : ValidTables t) {dropped word : ℕ} where
@@ -53,6 +54,7 @@ module _ (t : Tables) (v : ValidTables t) {dropped word : ℕ} where
   accepted-good (op.On side operation) e = side-good side operation e
   accepted-good op.DataBarrier e = data-barrier-good t v
   accepted-good op.InstructionBarrier e = instruction-barrier-good t v
+  accepted-good (op.RetireVm vm) e = retire-good t v vm e
 
 pub good : (t : Tables) → ValidTables t → (operation : Operation) → Good t operation (control t operation)
 good t v operation = good-where-accepted t v operation (λ dropped word e. accepted-good t v operation e)

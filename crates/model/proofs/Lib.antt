@@ -2,7 +2,6 @@
 pub mod Computes
 pub mod Rows
 pub mod Worked
-pub mod Repeats
 pub mod ViewLaws
 pub mod Refused
 pub mod Carried
@@ -20,13 +19,17 @@ pub mod GoodMaps
 pub mod GoodPorts
 pub mod GoodAccess
 pub mod GoodRegions
+pub mod RetiredSets
+pub mod GoodRetire
 pub mod Kept
+pub mod RetireLeaves
 pub mod FullMaps
 pub mod ExactLaws
 pub mod ExactViews
 pub mod ExactLedger
 pub mod ExactMaps
 pub mod ExactRegions
+pub mod ExactRetire
 pub mod Exactly
 pub mod FreePages
 pub mod Determined
@@ -49,4 +52,5 @@ pub mod UpstreamAccess
 pub mod UpstreamRegionViews
 pub mod UpstreamRegionSets
 pub mod UpstreamRegions
+pub mod UpstreamRetire
 pub mod UpstreamSteps

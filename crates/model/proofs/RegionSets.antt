@@ -15,7 +15,7 @@ use Rattle.model.specs.Views.{claims, claimedElsewhere, inPool, inShared
 use Rattle.model.specs.Regions.{pageIn, notFree, claimed, notHeld, insertPage, removePage, insertSets, removeSets}
 use Rattle.model.specs.EarlyLaws.{RegionPassed}
 use Rattle.model.specs.Valid.{PagesGood}
-use Rattle.model.proofs.Repeats.{repeat-keeps}
+use Rattle.table.specs.RepeatLaws.{repeat-keeps}
 use Rattle.model.proofs.PagesKept.{pages-assigned, pages-reclaimed, pages-added, pages-removed}
 use Rattle.model.proofs.ViewLaws.{neither, not-elsewhere, nowhere-else}
 use Rattle.model.proofs.RegionLaws.{NoneFails}

@@ -27,7 +27,7 @@ use Rattle.model.specs.Step.{insertRoute, removeRoute}
 use Rattle.model.proofs.ViewLaws.{may-own, not-targeted}
 use Rattle.model.proofs.RoutesKept.{MapsGood, entry-key, entry-made, maps-put, maps-wipe, cache-put-new, cache-wipe-both, region-unported}
 use Rattle.model.proofs.OneRoute.{route-of, maps-of, maps-route, route-valid}
-use Rattle.model.proofs.Repeats.{repeat-both}
+use Rattle.table.specs.RepeatLaws.{repeat-both}
 use Rattle.model.proofs.RegionLaws.{NoneFails}
 
 -- a key that is not found looks up as empty

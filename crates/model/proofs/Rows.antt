@@ -42,6 +42,7 @@ RowWritable (op.UnsharePage left right page) = Unit {0}
 RowWritable (op.On side operation) = SideWritable operation
 RowWritable op.DataBarrier = Unit {0}
 RowWritable op.InstructionBarrier = Unit {0}
+RowWritable (op.RetireVm vm) = Unit {0}
 
 target-back : (target : Target) → Writable target → targetOf (targetNumber target) ≡ target
 target-back Idle w = refl
@@ -79,3 +80,4 @@ row-back (op.UnsharePage left right page) w = refl
 row-back (op.On side operation) w = side-back side operation w
 row-back op.DataBarrier w = refl
 row-back op.InstructionBarrier w = refl
+row-back (op.RetireVm vm) w = refl

@@ -64,6 +64,7 @@ module _ (t : Tables) where
   valueless (op.On side operation) = side-valueless side operation
   valueless op.DataBarrier = record { answer = refl; tables = refl }
   valueless op.InstructionBarrier = record { answer = refl; tables = refl }
+  valueless (op.RetireVm vm) = record { answer = refl; tables = refl }
 
   pub blind : (x y : Operation) → withoutValue x ≡ withoutValue y → SameControl (control t x) (control t y)
   blind x y e =

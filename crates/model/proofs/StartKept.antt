@@ -29,7 +29,7 @@ use Rattle.model.specs.EarlyLaws.{both, hold}
 use Rattle.model.specs.Start.{Told, Lent, countTold, numberTold, unitTold, unitsTold, badField, badSpan, startAnswer, inSpan, firstHome, freshSets, freshRoute, setupTold, freshState, emptyState, start}
 use Rattle.model.specs.ToldLaws.{StartPassed, start-passed, length-units, unit-at}
 use Rattle.model.specs.Valid.{RouteLengths, UnitGood, SetupGood, Home, pool, shared, PagesGood, MapGood, SameMap, RouteGood, Valid}
-use Rattle.model.proofs.Repeats.{repeat-keeps}
+use Rattle.table.specs.RepeatLaws.{repeat-keeps}
 
 -- ---- an empty table
 abbrev zeros : ℕ → List ℕ

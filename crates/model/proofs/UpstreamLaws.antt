@@ -1,6 +1,6 @@
 -- What the views show of words, keys and pairs.
 use Prim.Native.Nat.{ℕ, _+_, _*_, _/_, _<_, _%_}
-use mathlib.Core.Bool.{true, false, not, _&&_, _||_, true≢false, or-true}
+use mathlib.Core.Bool.{Bool, true, false, not, _&&_, _||_, true≢false, or-true}
 use mathlib.Core.List.{List}
 use mathlib.Core.Logic.{_⊎_, inl, inr, ⊎-elim}
 use mathlib.Core.Option.{Option, none, some}
@@ -10,12 +10,15 @@ use lib.Dec.{eqb}
 use lib.ListN.{getD}
 use borrow.Author.Tests.{eqb-true, eqb-false, eq-eqb, ne-eqb, not-true}
 use Rattle.numbers.specs.CaseLaws.{cases, equal}
+use Rattle.numbers.specs.Choice.{if_then_else_}
 use Rattle.numbers.specs.Limits.{VMS, GUEST-PAGES, PAGES, ACCESSES, READ, WRITE}
 use Rattle.numbers.specs.Packing.{key, keyOf, slotKey, addressOf, pairKey, portOf, vmOf, guestOf, entryOf, filledOf, pageOf, accessOf, generationOf, VM-FIELD, GUEST-FIELD, PAGE-FIELD}
 use Rattle.numbers.specs.PackingLaws.{pair-either, pair-same, key-same}
-use Rattle.table.specs.ScanLaws.{found-never}
-use Rattle.table.specs.Table.{find, lookup, place, put, erase, isFound, wordAt, Has}
+use Rattle.table.specs.Scan.{cleared, wipe}
+use Rattle.table.specs.ScanLaws.{found-never, cleared-empty}
+use Rattle.table.specs.Table.{find, lookup, place, put, erase, isFound, wordAt, Has, Distinct}
 use Rattle.table.specs.TableLaws.{find-none, lookup-has, lookup-nothing, lookup-put-same, lookup-put-other, lookup-erase-same, lookup-erase-other}
+use Rattle.table.specs.AgreeLaws.{lookup-wipe}
 use Rattle.table.specs.declared.Found.{Found}
 use Rattle.table.specs.declared.Found.the-variants.{At, Nothing}
 use Rattle.model.specs.EarlyLaws.{both}
@@ -76,6 +79,26 @@ module _ (keyOf : ℕ → ℕ) (empty : keyOf 0 ≡ 0) where
       go (At i) q = refl
       go Nothing q = absurd (find-none keyOf ws (keyOf w) q (r .spot) (r .within) (rw (r .holds)))
 
+-- ---- wipes
+wiped-word : (p : ℕ → Bool) (w : ℕ) (gone : Bool) → ((w ≡ 0 → ⊥) → p w ≡ gone) → seen (cleared p w) ≡ (if gone then none else seen w)
+unfolding seen
+wiped-word p w gone same = ⊎-elim empty (λ n. rw (same n) (⊎-elim (λ t. rw t) (λ f. rw f) (cases gone))) (equal w 0)
+  where
+    empty : w ≡ 0 → seen (cleared p w) ≡ (if gone then none else seen w)
+    empty z = rw z (ap seen (cleared-empty p) ∙ ⊎-elim (λ t. rw t) (λ f. rw f) (cases gone))
+
+-- what a key shows is gone where its word goes
+pub wiped-seen : (p : ℕ → Bool) (table : List ℕ) (k : ℕ) (gone : Bool) → 0 < k → Distinct keyOf table →
+    (Has table (lookup keyOf table k) → keyOf (lookup keyOf table k) ≡ k → p (lookup keyOf table k) ≡ gone) →
+    seen (lookup keyOf (wipe p table) k) ≡ (if gone then none else seen (lookup keyOf table k))
+wiped-seen p table k gone o once same =
+    ap seen (lookup-wipe keyOf refl p table k o once) ∙ wiped-word p (lookup keyOf table k) gone (λ n. let (h, e) = lookup-has keyOf table k n in same h e)
+
+pub none-either : {A : Type 0} (a b : Bool) (x : Option A) → (if a || b then none else x) ≡ (if a then none else if b then none else x)
+none-either true b x = refl
+none-either false b x = refl
+
+-- ---- words of a key
 -- a word of a map's key has its VM and guest page, and one of a slot's key its port too
 pub record OfKey (w port vm gpa : ℕ) : Type 0 where
   pub port-is : portOf w ≡ port

@@ -45,7 +45,7 @@ unfolding knows
 knows-plus known vm v =
     ⊎-elim (λ q. rw (eq-eqb v vm q) (rw q (hasBit-with-same known vm))) (λ n. rw (ne-eqb v vm n) (hasBit-with-other known vm v n)) (equal v vm)
 
-knows-minus : (known vm v : ℕ) → knows (withoutBit known vm) v ≡ minus (knows known) vm v
+pub knows-minus : (known vm v : ℕ) → knows (withoutBit known vm) v ≡ minus (knows known) vm v
 unfolding knows
 knows-minus known vm v =
     ⊎-elim (λ q. rw (eq-eqb v vm q) (rw q (hasBit-without-same known vm))) (λ n. rw (ne-eqb v vm n) (hasBit-without-other known vm v n)) (equal v vm)

@@ -19,7 +19,7 @@ use Rattle.model.specs.Regions.{pageIn, insertSets, removeSets, insertPa
 use Rattle.model.specs.Valid.{Home, pool, shared, cpu, PagesGood}
 use Rattle.model.specs.Upstream.{S2Map, pagesOf, mapSeen, withSet, softwareView, SameS2Map, SameSoftware}
 use Rattle.model.specs.UpstreamStep.{setsOf, withSetsOf, withMapOf, withPoolOf, withPages, withoutPages}
-use Rattle.model.proofs.Repeats.{repeat-keeps}
+use Rattle.table.specs.RepeatLaws.{repeat-keeps}
 use Rattle.model.proofs.EditedSets.{Edited, Outside, other-differs}
 use Rattle.model.proofs.ViewLaws.{not-so}
 use Rattle.model.proofs.UpstreamLedger.{set-edited}

@@ -1,9 +1,9 @@
 -- What the views show after a region's edits: of tables and caches, and of the page sets.
 use Prim.Native.Nat.{ℕ, suc, _+_, _-_, _≤_, _<_}
 use mathlib.Core.Bool.{Bool, true, false, _&&_, _||_, true≢false, and-assoc, and-or-distrib-left}
-use mathlib.Core.List.{List, [], _∷_}
+use mathlib.Core.List.{List}
 use mathlib.Core.Logic.{⊎-elim}
-use mathlib.Core.Option.{Option, none}
+use mathlib.Core.Option.{none}
 use mathlib.Core.Path.{_≡_, refl, sym, ap, _∙_}
 use native.Mathlib.Omega.{arith}
 use lib.Dec.{eqb, leb, ltb}
@@ -13,10 +13,9 @@ use Rattle.numbers.specs.Choice.{if_then_else_}
 use Rattle.numbers.specs.Limits.{VMS, GUEST-PAGES, PAGES}
 use Rattle.numbers.specs.Packing.{key, keyOf, slotKey, vmOf, guestOf, filledOf}
 use Rattle.numbers.specs.PackingLaws.{key-same}
-use Rattle.table.specs.Scan.{cleared, wipe}
+use Rattle.table.specs.ScanLaws.{wipe-none}
 use Rattle.table.specs.Table.{freeEntries, lookup, put, Distinct}
-use Rattle.table.specs.TableLaws.{lookup-has, lookup-put-same, lookup-put-other, place-room, free-put}
-use Rattle.table.specs.AgreeLaws.{lookup-wipe}
+use Rattle.table.specs.TableLaws.{lookup-put-same, lookup-put-other, place-room, free-put}
 use Rattle.numbers.specs.declared.Region.{Region}
 use Rattle.model.specs.Views.{isFilled}
 use Rattle.model.specs.EarlyLaws.{both, RegionPassed}
@@ -24,10 +23,10 @@ use Rattle.model.specs.Regions.{guestIn, pageIn, keyIn, regionEntry, inR
 use Rattle.model.specs.Start.{inSpan}
 use Rattle.model.specs.Upstream.{isSome, mapAt, flushed, entriesOf, pagesOf, unionRight, seen, mapSeen, tlbSeen, SameS2Map}
 use Rattle.model.proofs.ViewLaws.{not-so}
-use Rattle.model.proofs.Repeats.{repeat-keeps}
+use Rattle.table.specs.RepeatLaws.{repeat-keeps}
 use Rattle.model.proofs.RoutesKept.{entry-key}
 use Rattle.model.proofs.UpstreamMaps.{entry-shown}
-use Rattle.model.proofs.UpstreamLaws.{OfKey, of-key, of-slot-key}
+use Rattle.model.proofs.UpstreamLaws.{wiped-seen, none-either, OfKey, of-key, of-slot-key}
 
 -- ---- spans
 pub in-span : (base count n : ℕ) → inSpan base count n ≡ true → (base ≤ n) × (n < base + count)
@@ -59,35 +58,18 @@ goes : (region : Region) (w port vm gpa : ℕ) → OfKey w port vm gpa → fille
 goes region w port vm gpa o f =
     rw (eq-eqb (filledOf w) 1 f, o .vm-is, o .guest-is) (and-assoc (eqb vm (region .vm .0)) (leb (region .guest .0) gpa) (ltb gpa (region .guest .0 + region .count)))
 
-wiped-word : (region : Region) (w vm gpa : ℕ) → ((w ≡ 0 → ⊥) → inRegion region w ≡ hasEntry region vm gpa) →
-    seen (cleared (inRegion region) w) ≡ (if hasEntry region vm gpa then none else seen w)
-unfolding seen
-wiped-word region w vm gpa same = ⊎-elim empty filled (equal w 0)
-  where
-    goal : Type 0
-    goal = seen (cleared (inRegion region) w) ≡ (if hasEntry region vm gpa then none else seen w)
-
-    empty : w ≡ 0 → goal
-    empty z = rw z (⊎-elim (λ t. rw t) (λ f. rw f) (cases (hasEntry region vm gpa)))
-
-    filled : (w ≡ 0 → ⊥) → goal
-    filled n = rw (same n) (⊎-elim (λ t. rw t) (λ f. rw f) (cases (hasEntry region vm gpa)))
-
 pub map-wiped : (region : Region) (table : List ℕ) (vm gpa : ℕ) → Distinct keyOf table → vm < VMS → gpa < GUEST-PAGES →
     mapSeen (removeTable table region) vm gpa ≡ (if hasEntry region vm gpa then none else mapSeen table vm gpa)
 unfolding removeTable
 map-wiped region table vm gpa once v g =
-    ap seen (lookup-wipe keyOf refl (inRegion region) table (key vm gpa) (omega arith) once)
-    ∙ wiped-word region (lookup keyOf table (key vm gpa)) vm gpa
-    (λ n. let e = lookup-has keyOf table (key vm gpa) n .1 in goes region _ 0 vm gpa (of-key _ vm gpa v g e) (omega arith))
+    wiped-seen (inRegion region) table (key vm gpa) (hasEntry region vm gpa) (omega arith) once (λ h e. goes region _ 0 vm gpa (of-key _ vm gpa v g e) (omega arith))
 
 pub tlb-wiped : (region : Region) (cache : List ℕ) (port vm gpa : ℕ) → Distinct keyOf cache → vm < VMS → gpa < GUEST-PAGES →
     tlbSeen (removeTable cache region) port vm gpa ≡ (if hasEntry region vm gpa then none else tlbSeen cache port vm gpa)
 unfolding removeTable
 tlb-wiped region cache port vm gpa once v g =
-    ap seen (lookup-wipe keyOf refl (inRegion region) cache (slotKey port vm gpa) (omega arith) once)
-    ∙ wiped-word region (lookup keyOf cache (slotKey port vm gpa)) vm gpa
-    (λ n. let e = lookup-has keyOf cache (slotKey port vm gpa) n .1 in goes region _ port vm gpa (of-slot-key _ port vm gpa v g e) (omega arith))
+    wiped-seen (inRegion region) cache (slotKey port vm gpa) (hasEntry region vm gpa) (omega arith) once
+    (λ h e. goes region _ port vm gpa (of-slot-key _ port vm gpa v g e) (omega arith))
 
 -- ---- a region's entries put one by one
 module _ (known pages : ℕ) (region : Region) (early : RegionPassed known pages region) (most : pages ≤ PAGES) where
@@ -164,10 +146,6 @@ module _ (known pages : ℕ) (region : Region) (early : RegionPassed known pages
 abbrev pub upTo : Region → ℕ → Region
 upTo region k = record { vm = region .vm; guest = region .guest; page = region .page; count = k; access = region .access }
 
-wipe-none : (p : ℕ → Bool) → ((w : ℕ) → p w ≡ false) → (ws : List ℕ) → wipe p ws ≡ ws
-wipe-none p none-passes [] = refl
-wipe-none p none-passes (w ∷ ws) = rw (none-passes w, wipe-none p none-passes ws)
-
 -- no pages, no words
 outside-none : (region : Region) (w : ℕ) → inRegion (upTo region 0) w ≡ false
 outside-none region w =
@@ -198,10 +176,6 @@ span-more base k n = ⊎-elim (λ q. rw (eq-eqb n (base + k) q) (span-in base (s
 entry-more : (region : Region) (k vm gpa : ℕ) →
     hasEntry (upTo region (suc k)) vm gpa ≡ ((eqb vm (region .vm .0) && eqb gpa (guestIn region k)) || hasEntry (upTo region k) vm gpa)
 entry-more region k vm gpa = rw (span-more (region .guest .0) k gpa) (and-or-distrib-left (eqb vm (region .vm .0)) _ _)
-
-none-either : {A : Type 0} (a b : Bool) (x : Option A) → (if a || b then none else x) ≡ (if a then none else if b then none else x)
-none-either true b x = refl
-none-either false b x = refl
 
 -- one page more is one key unmapped, in a walker and in a cache
 module _ (region : Region) (k vm gpa : ℕ) (v : vm < VMS) (g : gpa < GUEST-PAGES) where

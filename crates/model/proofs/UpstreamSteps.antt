@@ -1,4 +1,4 @@
--- Every operation on a valid state is a run of upstream's steps, and of the four that upstream lacks; a refused one is the
+-- Every operation on a valid state is a run of upstream's steps, and of the five that upstream lacks; a refused one is the
 -- run of none. Which steps an operation is stands in UpstreamRun.
 use Prim.Native.Nat.{ℕ}
 use mathlib.Core.List.{List}
@@ -25,6 +25,7 @@ use Rattle.model.proofs.UpstreamMaps.{map-follows, unmap-follows}
 use Rattle.model.proofs.UpstreamRegions.{insert-follows, remove-follows}
 use Rattle.model.proofs.UpstreamPorts.{port-follows, fill-follows, empty-follows, barrier-follows}
 use Rattle.model.proofs.UpstreamAccess.{read-follows, write-follows}
+use Rattle.model.proofs.UpstreamRetire.{retire-follows}
 
 -- ---- an accepted operation of a side, and any accepted operation
 module _ (s : State) (v : Valid s) where
@@ -50,6 +51,7 @@ module _ (s : State) (v : Valid s) where
   accepted-follows (op.On side operation) e = side-follows side operation e
   accepted-follows op.DataBarrier e = barrier-follows s dsb (same-hardware _)
   accepted-follows op.InstructionBarrier e = barrier-follows s isb (same-hardware _)
+  accepted-follows (op.RetireVm vm) e = retire-follows s (v .tables) vm e
 
 -- ---- and a refused one takes no step
 pub follows-upstream : (s : State) → Valid s → (operation : Operation) → FollowsUpstream s operation

@@ -79,14 +79,21 @@ module _ (t : Tables) (valid : ValidTables t) where
   pub known-below : (vm : ℕ) → knows (t .known) vm ≡ true → vm < VMS
   known-below vm e = knows-below (t .known) vm (valid .known) e
 
-  -- an edge is a pair that joins its ends, in one order or the other
+  -- a stored pair's ends and page are those of its key, in one order or the other
+  pub pair-of-key : (w left right page : ℕ) → Has (t .pairs) w → left < VMS → right < VMS → page < PAGES → pairKeyOf w ≡ pairKey left right page →
+      PairGood (t .setup .pages) (t .known) (t .sets) w × SamePair (leftOf w) (rightOf w) (pageOf w) left right page
+  pair-of-key w left right page there l r h e =
+      let g = valid .pairs .each w there in
+      let k : pairKey (leftOf w) (rightOf w) (pageOf w) ≡ pairKey left right page = (rw (g .filled)) ∙ e in
+      (g, pair-ends (leftOf w) (rightOf w) (pageOf w) left right page (omega arith) (omega arith) (omega arith) (omega arith) (omega arith) (omega arith) k)
+
+  -- an edge is a pair that joins its ends
   pub edge-pair : (left right page : ℕ) → left < VMS → right < VMS → page < PAGES → paired (t .pairs) left right page ≡ true →
       (w : ℕ) × Has (t .pairs) w × PairGood (t .setup .pages) (t .known) (t .sets) w × SamePair (leftOf w) (rightOf w) (pageOf w) left right page
   edge-pair left right page l r h e =
       let (w, j) = paired-joins (t .pairs) left right page e in
-      let g = valid .pairs .each w (j .there) in
-      let k : pairKey (leftOf w) (rightOf w) (pageOf w) ≡ pairKey left right page = (rw (g .filled)) ∙ j .key in
-      (w, j .there, g, pair-ends (leftOf w) (rightOf w) (pageOf w) left right page (omega arith) (omega arith) (omega arith) (omega arith) (omega arith) (omega arith) k)
+      let (g, same) = pair-of-key w left right page (j .there) l r h (j .key) in
+      (w, j .there, g, same)
 
   pub edge-either : (left right page : ℕ) → paired (t .pairs) left right page ≡ paired (t .pairs) right left page
   unfolding paired

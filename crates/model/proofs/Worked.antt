@@ -1,6 +1,6 @@
--- The worked table of the paper, C1 to C10, computed at the full table sizes (docs/MACHINE.md, 10).
+-- The worked table, C1 to C10 and K3, computed at the full table sizes (docs/MACHINE.md, 10).
 use Prim.Native.Nat.{ℕ, _*_}
-use Rattle.numbers.specs.Limits.{SETS, SET-WORDS, PAIRS, ENTRIES, SLOTS, PAGE-WORDS}
+use Rattle.numbers.specs.Limits.{SETS, SET-WORDS, PAIRS, ENTRIES, SLOTS, PAGE-WORDS, IDLE}
 use mathlib.Core.List.{List, [], _∷_, map}
 use mathlib.Core.Path.{_≡_, refl}
 use lib.ListN.{replicate}
@@ -170,6 +170,26 @@ cases =
     ∷ (row (21 ∷ 1 ∷ 16 ∷ 0 ∷ []) ⟼ 0 ∷ 0 ∷ 0 ∷ 0 ∷ [])
     ∷ [])
     ∷
+    -- K3: VM 1 is retired once its device is idle, with the borrower's mapping of its page, and both their slots are dropped
+    ((row (1 ∷ 1 ∷ []) ⟼ 0 ∷ 0 ∷ 0 ∷ 0 ∷ [])
+    ∷ (row (1 ∷ 2 ∷ []) ⟼ 0 ∷ 0 ∷ 0 ∷ 0 ∷ [])
+    ∷ (row (11 ∷ 1 ∷ 16 ∷ 0 ∷ 3 ∷ 3 ∷ []) ⟼ 0 ∷ 0 ∷ 0 ∷ 0 ∷ [])
+    ∷ (row (13 ∷ 1 ∷ 16 ∷ 0 ∷ 3 ∷ 3 ∷ []) ⟼ 0 ∷ 0 ∷ 0 ∷ 0 ∷ [])
+    ∷ (row (5 ∷ 1 ∷ 2 ∷ 0 ∷ []) ⟼ 0 ∷ 0 ∷ 0 ∷ 0 ∷ [])
+    ∷ (row (7 ∷ 2 ∷ 40 ∷ 0 ∷ 1 ∷ 0 ∷ []) ⟼ 0 ∷ 0 ∷ 0 ∷ 0 ∷ [])
+    ∷ (row (15 ∷ 0 ∷ 2 ∷ []) ⟼ 0 ∷ 0 ∷ 0 ∷ 0 ∷ [])
+    ∷ (row (16 ∷ 3 ∷ 1 ∷ []) ⟼ 0 ∷ 0 ∷ 0 ∷ 0 ∷ [])
+    ∷ (row (17 ∷ 0 ∷ 40 ∷ []) ⟼ 0 ∷ 0 ∷ 0 ∷ 0 ∷ [])
+    ∷ (row (18 ∷ 3 ∷ 16 ∷ []) ⟼ 0 ∷ 0 ∷ 0 ∷ 0 ∷ [])
+    ∷ (row (27 ∷ 1 ∷ []) ⟼ 13 ∷ 0 ∷ 0 ∷ 0 ∷ [])
+    ∷ (row (16 ∷ 3 ∷ IDLE ∷ []) ⟼ 0 ∷ 0 ∷ 0 ∷ 0 ∷ [])
+    ∷ (row (27 ∷ 1 ∷ []) ⟼ 0 ∷ 0 ∷ 2 ∷ 0 ∷ [])
+    ∷ (query ⟼ 7 ∷ 0 ∷ [])
+    ∷ (row (21 ∷ 0 ∷ 40 ∷ 0 ∷ []) ⟼ 9 ∷ 0 ∷ 0 ∷ 0 ∷ [])
+    ∷ (row (27 ∷ 1 ∷ []) ⟼ 4 ∷ 0 ∷ 0 ∷ 0 ∷ [])
+    ∷ (row (1 ∷ 1 ∷ []) ⟼ 0 ∷ 0 ∷ 0 ∷ 0 ∷ [])
+    ∷ [])
+    ∷
     []
 
 -- the machine answers every line of every case as the table says
@@ -212,6 +232,21 @@ lookalikes =
     ∷ (query ⟼ 6 ∷ 0 ∷ [])
     ∷ (row (9 ∷ 1 ∷ 16 ∷ []) ⟼ 9 ∷ 0 ∷ 0 ∷ 0 ∷ [])
     ∷ (row (9 ∷ 1 ∷ 17 ∷ []) ⟼ 9 ∷ 0 ∷ 0 ∷ 0 ∷ [])
+    ∷ [])
+    ∷
+    -- a retire that goes by CPU pages alone: the word that the device left on a page held for DMA only would reach the next owner
+    ((row (1 ∷ 1 ∷ []) ⟼ 0 ∷ 0 ∷ 0 ∷ 0 ∷ [])
+    ∷ (row (1 ∷ 2 ∷ []) ⟼ 0 ∷ 0 ∷ 0 ∷ 0 ∷ [])
+    ∷ (row (13 ∷ 1 ∷ 16 ∷ 0 ∷ 3 ∷ 3 ∷ []) ⟼ 0 ∷ 0 ∷ 0 ∷ 0 ∷ [])
+    ∷ (row (16 ∷ 0 ∷ 1 ∷ []) ⟼ 0 ∷ 0 ∷ 0 ∷ 0 ∷ [])
+    ∷ (row (24 ∷ 0 ∷ 16 ∷ 0 ∷ 9 ∷ []) ⟼ 0 ∷ 0 ∷ 0 ∷ 0 ∷ [])
+    ∷ (row (16 ∷ 0 ∷ IDLE ∷ []) ⟼ 0 ∷ 0 ∷ 0 ∷ 0 ∷ [])
+    ∷ (row (27 ∷ 1 ∷ []) ⟼ 0 ∷ 0 ∷ 0 ∷ 0 ∷ [])
+    ∷ (query ⟼ 7 ∷ 0 ∷ [])
+    ∷ (row (3 ∷ 2 ∷ 0 ∷ []) ⟼ 0 ∷ 0 ∷ 0 ∷ 0 ∷ [])
+    ∷ (row (7 ∷ 2 ∷ 16 ∷ 0 ∷ 1 ∷ 0 ∷ []) ⟼ 0 ∷ 0 ∷ 0 ∷ 0 ∷ [])
+    ∷ (row (15 ∷ 0 ∷ 2 ∷ []) ⟼ 0 ∷ 0 ∷ 0 ∷ 0 ∷ [])
+    ∷ (row (21 ∷ 0 ∷ 16 ∷ 0 ∷ []) ⟼ 0 ∷ 0 ∷ 0 ∷ 0 ∷ [])
     ∷ [])
     ∷
     []

@@ -240,6 +240,12 @@ pub record Accesses (side : Side) (t : Tables) (bit port guest word : ℕ) : Typ
   pub mapped : Maps (route side t .walker) vm guest page access generation
   pub allowed : access / bit % 2 ≡ 1
 
+-- ---- 27: whatever the VM has, if it is on no CPU and no device is bound to it
+pub record Retires (t : Tables) (vm : ℕ) : Type 0 where
+  pub vm-ok : vm < VMS
+  pub known : Knows t vm
+  pub no-port : (side : Side) (port : ℕ) → port < PORTS → RunsOn side t port vm → ⊥
+
 -- ---- all of them
 abbrev pub SideConditions : Side → Tables → SideOperation → Type 0
 SideConditions side t (sided.MapPage vm guest page access generation) = MapsPage side t (vm .0) (guest .0) (page .0) access generation
@@ -262,6 +268,7 @@ Conditions t (op.UnsharePage left right page) = Unshares t (left .0) (right .0) 
 Conditions t (op.On side operation) = SideConditions side t operation
 Conditions t op.DataBarrier = Anything {0}
 Conditions t op.InstructionBarrier = Anything {0}
+Conditions t (op.RetireVm vm) = Retires t (vm .0)
 
 -- ---- a row: it names an operation, and the operation's conditions hold
 pub record RowConditions (t : Tables) (row : List ℕ) : Type 0 where

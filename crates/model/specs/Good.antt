@@ -107,6 +107,7 @@ sharing (op.UnsharePage left right page) = none
 sharing (op.On side operation) = none
 sharing op.DataBarrier = none
 sharing op.InstructionBarrier = none
+sharing (op.RetireVm vm) = none
 
 -- the pair was made by an accepted share of the page's owner
 pub record Made (t : Tables) (operation : Operation) (answer : Answer) (w : ℕ) : Type 0 where

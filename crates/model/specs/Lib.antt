@@ -9,6 +9,7 @@ pub mod Maps
 pub mod Regions
 pub mod Ports
 pub mod Access
+pub mod Retire
 pub mod KnownLaws
 pub mod EarlyLaws
 pub mod MemoryLaws

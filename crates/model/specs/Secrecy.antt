@@ -70,6 +70,7 @@ withoutValue (op.UnsharePage left right page) = op.UnsharePage left right page
 withoutValue (op.On side operation) = op.On side (sideWithoutValue operation)
 withoutValue op.DataBarrier = op.DataBarrier
 withoutValue op.InstructionBarrier = op.InstructionBarrier
+withoutValue (op.RetireVm vm) = op.RetireVm vm
 
 abbrev pub withoutValueIn : Option Operation → Option Operation
 withoutValueIn none = none

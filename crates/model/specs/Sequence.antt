@@ -70,6 +70,7 @@ operationOf number a b c d e =
     else if eqb number 24 then some (op.On Dma (sided.WriteWord a (guestPage b) c d))
     else if eqb number 25 then some op.DataBarrier
     else if eqb number 26 then some op.InstructionBarrier
+    else if eqb number 27 then some (op.RetireVm (vmId a))
     else none
 
 unfoldable pub operationIn : List ℕ → Option Operation

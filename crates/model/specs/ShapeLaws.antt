@@ -21,17 +21,20 @@ use Rattle.table.specs.Table.{put, erase, setAt, hasKey, lookup}
 use Rattle.table.specs.TableLaws.{length-put}
 use Rattle.table.specs.declared.Found.{Found}
 use Rattle.table.specs.declared.Found.the-variants.{At, Nothing}
+use Rattle.pages.specs.Pour.{pour}
+use Rattle.pages.specs.PourLaws.{length-pour, length-emptied}
 use Rattle.pages.specs.RowLaws.{length-add, length-remove}
 use Rattle.pages.specs.Rows.{remove, poolRow, cpuRow, dmaRow}
 use Rattle.numbers.specs.declared.Region.{Region}
 use Rattle.model.specs.State.{Tables, Route, State, route, withSide, withKnown, withSets, withPairs, withCache, withPorts}
-use Rattle.model.specs.Views.{paired}
+use Rattle.model.specs.Views.{joins, paired}
 use Rattle.model.specs.Effect.{Effect, decided}
 use Rattle.model.specs.MemoryLaws.{length-applied}
 use Rattle.model.specs.Ledger.{assignSets, reclaimSets, sharePairs, unsharePairs}
 use Rattle.model.specs.Maps.{mapTable, unmapTable, withoutSlots}
 use Rattle.model.specs.Regions.{insertPage, insertSets, insertTable, removePage, removeSets, removeTable, inRegion, keyIn, regionEntry, pageIn}
 use Rattle.model.specs.Ports.{portPorts, emptyCache, fillCache, fillPlace, vmOn}
+use Rattle.model.specs.Retire.{goes, retireTable, retirePairs, retireSets, retireRoute}
 use Rattle.model.specs.Step.{mapRoute, unmapRoute, insertRoute, removeRoute, fillRoute, sideRoute, sideSets, answerOf, nextOf, effectOf, control, step}
 
 -- ---- one shape
@@ -111,6 +114,14 @@ unfolding fillCache
 length-fill cache hand ports walker port guest =
     length-setAt cache (fillPlace cache hand (slotKey port (vmOn ports port) guest)) (slotWord port (vmOn ports port) guest (entryOf (lookup keyOf walker (key (vmOn ports port) guest))))
 
+pub length-retire : (sets : List ℕ) (vm : ℕ) → length (retireSets sets vm) ≡ length sets
+unfolding retireSets
+length-retire sets vm = length-emptied (pour sets _ _) _ ∙ length-pour sets _ _
+
+length-retirePairs : (pairs : List ℕ) (vm : ℕ) → length (retirePairs pairs vm) ≡ length pairs
+unfolding retirePairs
+length-retirePairs pairs vm = length-wipe (joins vm) pairs
+
 -- ---- the routes that operations leave
 module _ (r : Route) where
   pub same-mapped : (vm guest page access generation : ℕ) → SameRoute r (mapRoute r vm guest page access generation)
@@ -142,6 +153,12 @@ module _ (r : Route) where
 
   pub same-emptied : (slot : ℕ) → SameRoute r (withCache r (emptyCache (r .cache) slot) (r .hand))
   same-emptied slot = record { map = refl; walker = refl; cache = length-set (r .cache) slot 0; ports = refl }
+
+  pub same-retired : (side : Side) (sets : List ℕ) (vm : ℕ) → SameRoute r (retireRoute side sets vm r)
+  unfolding retireTable
+  same-retired side sets vm =
+      let p = goes side sets vm in
+      record { map = length-wipe p (r .map); walker = length-wipe p (r .walker); cache = length-wipe p (r .cache); ports = refl }
 
   pub side-route : (operation : SideOperation) → SameRoute r (sideRoute r operation)
   side-route (sided.MapPage vm guest page access generation) = same-mapped (vm .0) (guest .0) (page .0) access generation
@@ -179,6 +196,14 @@ module _ (t : Tables) where
   next-shape (op.On side operation) = side-shape side t _ _ (side-route (route side t) operation) (length-sideSets side (t .sets) operation)
   next-shape op.DataBarrier = same-shape t
   next-shape op.InstructionBarrier = same-shape t
+  next-shape (op.RetireVm vm) =
+      record {
+        setup = refl;
+        sets = length-retire (t .sets) (vm .0);
+        pairs = length-retirePairs (t .pairs) (vm .0);
+        cpu = same-retired (t .cpu) Cpu (t .sets) (vm .0);
+        dma = same-retired (t .dma) Dma (t .sets) (vm .0);
+      }
 
   pub control-shape : (operation : Operation) → SameShape t (control t operation .tables)
   unfolding control

@@ -34,6 +34,7 @@ use Rattle.model.specs.Maps.{mapAnswer, mapTable, unmapAnswer, unmapTabl
 use Rattle.model.specs.Regions.{insertAnswer, insertSets, insertTable, removeAnswer, removeSets, removeTable, removeClears}
 use Rattle.model.specs.Ports.{portAnswer, portPorts, vmOn, fillAnswer, fillCache, fillHand, emptyAnswer, emptyCache}
 use Rattle.model.specs.Access.{accessAnswer, accessPlace}
+use Rattle.model.specs.Retire.{retireAnswer, retireClears, retired}
 
 -- ---- 7 to 24, an operation of one side: it looks at the side's route and at what both sides have, and never at the other route
 -- whether the region that an operation names is a unit's for this side (refusal 8); no other operation asks
@@ -125,6 +126,7 @@ answerOf t (op.On side operation) =
     sideAnswer side (t .setup .pages) (unitFor side (t .setup) operation) (t .known) (t .sets) (t .pairs) (route side t) operation
 answerOf t op.DataBarrier = accepted
 answerOf t op.InstructionBarrier = accepted
+answerOf t (op.RetireVm vm) = retireAnswer (t .known) (t .sets) (t .cpu .cache) (t .dma .cache) (t .cpu .ports) (t .dma .ports) (vm .0)
 
 -- the tables that an accepted one leaves
 abbrev pub nextOf : Tables → Operation → Tables
@@ -137,6 +139,7 @@ nextOf t (op.UnsharePage left right page) = withPairs t (unsharePairs (t .pairs)
 nextOf t (op.On side operation) = withSide side t (sideRoute (route side t) operation) (sideSets side (t .sets) operation)
 nextOf t op.DataBarrier = t
 nextOf t op.InstructionBarrier = t
+nextOf t (op.RetireVm vm) = retired t (vm .0)
 
 -- its effect on memory
 abbrev pub effectOf : Tables → Operation → Effect
@@ -149,6 +152,7 @@ effectOf t (op.UnsharePage left right page) = quiet
 effectOf t (op.On side operation) = sideEffect side (t .sets) (route side t) operation
 effectOf t op.DataBarrier = quiet
 effectOf t op.InstructionBarrier = quiet
+effectOf t (op.RetireVm vm) = clears (retireClears (t .sets) (t .setup .pages) (vm .0))
 
 -- ---- what is decided: all three where the answer accepts, and nothing where it refuses
 unfoldable pub control : Tables → Operation → Control

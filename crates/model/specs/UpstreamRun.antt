@@ -1,7 +1,7 @@
 -- Which steps of upstream's an accepted operation is, and what it is to be a run of them. The numbers of an accepted operation
 -- are in range (EarlyLaws), so that nothing it does falls outside of what views are compared at.
 use Prim.Native.Nat.{ℕ, zero, suc, _/_}
-use mathlib.Core.Bool.{true}
+use mathlib.Core.Bool.{Bool, true, false, not, _&&_, _||_}
 use mathlib.Core.List.{List, [], _∷_, _++_}
 use mathlib.Core.Option.{Option, none, some}
 use mathlib.Core.Path.{_≡_}
@@ -27,9 +27,13 @@ use Rattle.model.specs.Ledger.{reclaimClears}
 use Rattle.model.specs.Regions.{guestIn, pageIn, removeClears}
 use Rattle.model.specs.Ports.{vmOn}
 use Rattle.model.specs.Access.{accessPlace}
+use Rattle.model.specs.Retire.{goes, retireClears}
 use Rattle.model.specs.Step.{control, carriedOut, step}
-use Rattle.model.specs.Upstream.{S2Entry, permsOf, isSome, tlbAt, SoftwareView, HardwareView, softwareView, hardwareView, SameSoftware, SameHardware}
+use Rattle.model.specs.Upstream.{S2Entry, permsOf, isSome, S2Map, withSet, tlbAt, SoftwareView, HardwareView, softwareView, hardwareView, SameSoftware, SameHardware}
 use Rattle.model.specs.UpstreamStep.{
+  software,
+  mapOf,
+  noPages,
   MapStep,
   UnmapStep,
   AssignPageStep,
@@ -80,6 +84,32 @@ clearedAt memory page address = if eqb (address / PAGE-WORDS) page then zeroAt (
 abbrev pub ClearStep : ℕ → HardwareView → HardwareView → Type 0
 ClearStep page h h′ = SameHardware h′ (withMemory h (clearedAt (h .memory) page))
 
+-- a VM gives up all that it has but its id (N-18). Mappings go: its own, and for CPU those onto its pages
+abbrev pub ontoPagesOf : Side → SoftwareView → ℕ → S2Entry → Bool
+ontoPagesOf Cpu s vm e = s .vm-owned .pages vm (e .page)
+ontoPagesOf Dma s vm e = false
+
+abbrev pub unlessOnto : Side → SoftwareView → ℕ → Option S2Entry → Option S2Entry
+unlessOnto side s vm none = none
+unlessOnto side s vm (some e) = if ontoPagesOf side s vm e then none else some e
+
+abbrev pub mapLeft : Side → SoftwareView → ℕ → S2Map
+mapLeft side s vm v g = if eqb v vm then none else unlessOnto side s vm (mapOf side s v g)
+
+-- and every edge with the VM at an end
+abbrev pub edgesLeft : SoftwareView → ℕ → ℕ → ℕ → ℕ → Bool
+edgesLeft s vm l r page = not (eqb l vm || eqb r vm) && s .shared-pages l r page
+
+-- its CPU pages go to the pool, its DMA pages are its no longer
+abbrev pub givenUp : ℕ → SoftwareView → SoftwareView
+givenUp vm s =
+    software (s .all-vms) (λ page. s .vm-owned .pages vm page || s .hypervisor-owned page) (withSet (s .vm-owned) vm noPages) (edgesLeft s vm) (mapLeft Cpu s vm) (mapLeft Dma s vm)
+    (withSet (s .iommu-owned) vm noPages) (s .iommu-shared)
+
+pub record GiveUpStep (vm : ℕ) (s s′ : SoftwareView) : Type 0 where
+  pub known : s .all-vms vm ≡ true
+  pub next : SameSoftware s′ (givenUp vm s)
+
 -- ---- what a step is called
 pub data SoftwareCall : Type 0 where
   map : Side → ℕ → ℕ → S2Entry → SoftwareCall
@@ -92,6 +122,8 @@ pub data SoftwareCall : Type 0 where
   remove-vm : ℕ → SoftwareCall
   insert-region : Side → Region → SoftwareCall
   remove-region : Side → Region → SoftwareCall
+  -- ours
+  give-up : ℕ → SoftwareCall
 
 pub data HardwareCall : Type 0 where
   tlb-fill : ℕ → ℕ → ℕ → HardwareCall
@@ -120,6 +152,7 @@ SoftwareStep setup (add-vm vm) s s′ = AddVmStep vm s s′
 SoftwareStep setup (remove-vm vm) s s′ = RemoveVmStep vm s s′
 SoftwareStep setup (insert-region side region) s s′ = InsertRegionStep (assignable (setup .units) (setup .unitCount) side) side region s s′
 SoftwareStep setup (remove-region side region) s s′ = RemoveRegionStep (assignable (setup .units) (setup .unitCount) side) side region s s′
+SoftwareStep setup (give-up vm) s s′ = GiveUpStep vm s s′
 
 abbrev pub HardwareStep : HardwareCall → HardwareView → HardwareView → Type 0
 HardwareStep (tlb-fill cpu vm gpa) h h′ = TlbFillStep cpu vm gpa h h′
@@ -171,6 +204,7 @@ softwareCalls t (op.UnsharePage left right page) = unshare-page (left .0) (right
 softwareCalls t (op.On side operation) = sideSoftwareCalls side t operation
 softwareCalls t op.DataBarrier = []
 softwareCalls t op.InstructionBarrier = []
+softwareCalls t (op.RetireVm vm) = give-up (vm .0) ∷ remove-vm (vm .0) ∷ []
 
 -- a present key is unmapped and invalidated first
 abbrev pub mapCalls : Side → Route → ℕ → ℕ → S2Entry → List HardwareCall
@@ -190,6 +224,11 @@ removeCalls side region k (suc n) = unmap-invalidate side (region .vm .0) (guest
 abbrev pub clearCalls : List ℕ → List HardwareCall
 clearCalls [] = []
 clearCalls (page ∷ pages) = clear page ∷ clearCalls pages
+
+-- one step for each entry of the walker that goes, in the order of the table
+abbrev pub retireCalls : Side → List ℕ → ℕ → List ℕ → List HardwareCall
+retireCalls side sets vm [] = []
+retireCalls side sets vm (w ∷ ws) = if goes side sets vm w then unmap-invalidate side (vmOf w) (guestOf w) ∷ retireCalls side sets vm ws else retireCalls side sets vm ws
 
 -- HardwareView knows no device's VM
 abbrev pub portCalls : Side → ℕ → Target → List HardwareCall
@@ -239,6 +278,8 @@ hardwareCalls t (op.UnsharePage left right page) = []
 hardwareCalls t (op.On side operation) = sideHardwareCalls side t operation
 hardwareCalls t op.DataBarrier = dsb ∷ []
 hardwareCalls t op.InstructionBarrier = isb ∷ []
+hardwareCalls t (op.RetireVm vm) =
+    retireCalls Cpu (t .sets) (vm .0) (t .cpu .walker) ++ retireCalls Dma (t .sets) (vm .0) (t .dma .walker) ++ clearCalls (retireClears (t .sets) (t .setup .pages) (vm .0))
 
 -- ---- the operation is a run of its steps, and of none where it is refused
 pub record Follows (s s′ : State) (calls : List SoftwareCall) (calls′ : List HardwareCall) : Type 0 where

@@ -101,6 +101,7 @@ operationNumber (op.UnsharePage left right page) = 6
 operationNumber (op.On side operation) = sideNumber side operation
 operationNumber op.DataBarrier = 25
 operationNumber op.InstructionBarrier = 26
+operationNumber (op.RetireVm vm) = 27
 
 -- the arguments, in the paper's order
 abbrev pub regionNumbers : Region → List ℕ
@@ -127,3 +128,4 @@ operationArguments (op.UnsharePage left right page) = left .0 ∷ right .0 ∷ p
 operationArguments (op.On side operation) = sideArguments operation
 operationArguments op.DataBarrier = []
 operationArguments op.InstructionBarrier = []
+operationArguments (op.RetireVm vm) = vm .0 ∷ []

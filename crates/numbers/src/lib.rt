@@ -161,7 +161,7 @@ pub enum SideOperation {
     },
 }
 
-// ---- The operations, seventeen for the twenty-six numbers: an operation of a side names the side once.
+// ---- The operations, eighteen for the twenty-seven numbers: an operation of a side names the side once.
 pub enum Operation {
     AddVm(VmId),
     RemoveVm(VmId),
@@ -172,6 +172,7 @@ pub enum Operation {
     On(Side, SideOperation),
     DataBarrier,
     InstructionBarrier,
+    RetireVm(VmId),
 }
 
 // ---- Answers, made.

@@ -10,17 +10,19 @@ use Rattle.numbers.specs.declared.Side.the-variants.{Cpu, Dma}
 use Rattle.numbers.specs.declared.SideOperation.{SideOperation}
 use Rattle.numbers.specs.declared.VmId.{VmId}
 use Rattle.numbers.specs.declared.PhysPage.{PhysPage}
-use Rattle.numbers.specs.declared.Operation.the-variants.{AddVm, RemoveVm, AssignPage, ReclaimPage, SharePage, UnsharePage, On, DataBarrier, InstructionBarrier}
+use Rattle.numbers.specs.declared.Operation.the-variants.{AddVm, RemoveVm, AssignPage, ReclaimPage, SharePage, UnsharePage, On, DataBarrier, InstructionBarrier, RetireVm}
 use Rattle.model.specs.Header.{headerOf, setupOf, tablesOf, stateOf}
 use Rattle.model.specs.declared.Fixed.{Fixed}
 use Rattle.model.specs.declared.SideRegisters.{SideRegisters}
 use Rattle.model.specs.declared.Registers.{Registers}
 use Rattle.model.specs.declared.Machine.{Machine}
-use Rattle.model.specs.State.{Tables, Route, State, route, withSide, withKnown, withSets, withPairs}
+use Rattle.model.specs.State.{Tables, Route, State, route, replaced, withSide, withKnown, withSets, withPairs, withMaps}
 use Rattle.model.specs.Effect.{Effect, clears, quiet, kept, decided, accepted, apply, clearedPages}
 use Rattle.model.specs.Ledger.{addVmAnswer, addVmKnown, removeVmAnswer, removeVmKnown, assignAnswer, assignSets, reclaimAnswer, reclaimSets, reclaimClears, shareAnswer, sharePairs, unshareAnswer, unsharePairs}
+use Rattle.model.specs.Retire.{retireAnswer, retired}
 use Rattle.model.specs.Step.{Stepped, unitFor, carriedOut, control, step}
 use Rattle.sides.specs.Sides.{Sight, SideStepped, sight, sideStepped, sideDecided, sideStep}
+use Rattle.retire.specs.Parts.{Left}
 use Rattle.operate.specs.Outcome.{outcome}
 
 abbrev pub stepped : Answer → Tables → List ℕ → Stepped
@@ -48,6 +50,19 @@ module _ (t : Tables) (memory : List ℕ) where
   unfolding decided
   sets-arm (Accepted dropped word) sets pages = refl
   sets-arm (Refused refusal index) sets pages = refl
+
+  -- every list, with pages cleared
+  abbrev keptMaps : Answer → Route → Route → Route
+  keptMaps a old new = withMaps old (kept a (old .map) (new .map)) (kept a (old .walker) (new .walker)) (kept a (old .cache) (new .cache))
+
+  retire-arm : (a : Answer) (vm : ℕ) (pages : List ℕ) →
+      let new = retired t vm in carriedOut (decided t a new (clears pages)) memory
+      ≡ stepped a
+      (replaced t (kept a (t .known) (new .known)) (kept a (t .sets) (new .sets)) (kept a (t .pairs) (new .pairs)) (keptMaps a (t .cpu) (new .cpu)) (keptMaps a (t .dma) (new .dma)))
+      (apply (kept a quiet (clears pages)) memory)
+  unfolding decided
+  retire-arm (Accepted dropped word) vm pages = refl
+  retire-arm (Refused refusal index) vm pages = refl
 
   -- one side's route and the page sets, by what a step over that side leaves
   abbrev sightOf : Side → Sight
@@ -125,6 +140,18 @@ module _ (fixed : Fixed) (r : Registers) (sets pairs cpuMap cpuWalker cpuCache d
   pub instruction-barrier-step : outcome accepted header sets pairs cpuMap cpuWalker cpuCache dmaMap dmaWalker dmaCache memory ≡ step now InstructionBarrier
   unfolding step control decided apply clearedPages
   instruction-barrier-step = refl
+
+  -- ---- a VM retired, where the code left what is given
+  pub retire-step :
+      (vm : VmId) {told : Answer} {known′ : ℕ} {sets′ pairs′ cpuMap′ cpuWalker′ cpuCache′ dmaMap′ dmaWalker′ dmaCache′ memory′ : List ℕ} →
+      Left (retireAnswer (r .known) sets cpuCache dmaCache (r .cpu .ports) (r .dma .ports) (vm .0)) (fixed .pages) (vm .0)
+      (r .known) sets pairs cpuMap cpuWalker cpuCache dmaMap dmaWalker dmaCache memory
+      told known′ sets′ pairs′ cpuMap′ cpuWalker′ cpuCache′ dmaMap′ dmaWalker′ dmaCache′ memory′ →
+      outcome told (known known′) sets′ pairs′ cpuMap′ cpuWalker′ cpuCache′ dmaMap′ dmaWalker′ dmaCache′ memory′ ≡ step now (RetireVm vm)
+  unfolding step control
+  retire-step vm l =
+      rw (l .answer, l .known, l .sets, l .pairs, l .cpu-map, l .cpu-walker, l .cpu-cache, l .dma-map, l .dma-walker, l .dma-cache, l .memory)
+      (sym (retire-arm here memory _ (vm .0) _))
 
   -- ---- an operation of a side, where a step over the side's tables left what is given
   pub cpu-step :

@@ -1,4 +1,4 @@
-// The joined operation: one of the twenty-six, on a header and its lent slices.
+// The joined operation: one of the twenty-seven, on a header and its lent slices.
 ghost use mathlib.Core.Path.{_≡_};
 ghost use Prim.Native.Nat.{_≤_};
 ghost use Rattle.numbers.specs.Limits.{UNITS};
@@ -237,6 +237,33 @@ pub fn step(
             },
             registers: registers,
         },
+        Operation::RetireVm(vm) => {
+            let cpus = registers.cpu.ports;
+            let devices = registers.dma.ports;
+            let retired = retire::retire_vm(
+                registers.known,
+                fixed.pages,
+                cpus,
+                devices,
+                sets,
+                pairs,
+                cpu_map,
+                cpu_walker,
+                cpu_cache,
+                dma_map,
+                dma_walker,
+                dma_cache,
+                memory,
+                vm,
+            );
+            let answer = retired.answer;
+            let mut next = registers;
+            next.known = retired.known;
+            Stepped {
+                answer: answer,
+                registers: next,
+            }
+        }
     }
 }
 

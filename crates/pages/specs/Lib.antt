@@ -2,7 +2,9 @@
 pub mod Bits
 pub mod Rows
 pub mod Columns
+pub mod Pour
 pub mod BitLaws
 pub mod RowLaws
 pub mod WordLaws
 pub mod ColumnLaws
+pub mod PourLaws

@@ -1,5 +1,5 @@
 -- Laws of the page sets: what adding and removing a page changes, when a page is free, and what the free count and the lowest free page say.
-use Prim.Native.Nat.{ℕ, zero, suc, _+_, _*_, _%_, _≤_, _<_}
+use Prim.Native.Nat.{ℕ, zero, suc, _+_, _*_, _/_, _%_, _≤_, _<_}
 use mathlib.Core.Bool.{Bool, true, false, true≢false, and-true, and-false}
 use mathlib.Core.List.{List}
 use mathlib.Core.Logic.{⊎-elim}
@@ -33,6 +33,10 @@ use Rattle.pages.specs.Rows.{poolRow, dmaRow, holds, add, remove, heldFo
 -- a row begins with a word of its own, so a page's bit is the same in every row
 pub place-bit : (row page : ℕ) → (row * PAGES + page) % 64 ≡ page % 64
 place-bit row page = omega arith
+
+-- that word is the one that has page 0
+pub place-first : (row : ℕ) → (row * PAGES + 0) / 64 ≡ row * SET-WORDS
+place-first row = omega arith
 
 module _ (sets : List ℕ) (row page : ℕ) where
   pub holds-add-same : page < PAGES → (row + 1) * SET-WORDS ≤ length sets → holds (add sets row page) row page ≡ true

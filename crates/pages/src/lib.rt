@@ -1,11 +1,14 @@
 // Sets of pages, one bit a page in lent 64-bit words.
 ghost use mathlib.Core.Path.{_≡_};
 ghost use Prim.Native.Nat.{_+_, _*_, _/_, _<_, _≤_};
+ghost use lib.Dec.{eqb};
 ghost use lib.ListN.{length};
 ghost use Rattle.numbers.specs.Limits.{PAGES, SETS, SET-WORDS};
 ghost use Rattle.numbers.specs.Packing.{VM-FIELD};
 ghost use Rattle.table.specs.Scan.{anyBelow};
 ghost use Rattle.pages.specs.Bits.{hasBit, withBit, withoutBit};
+ghost use Rattle.pages.specs.Columns.{columnWord};
+ghost use Rattle.pages.specs.Pour.{pour, emptied};
 ghost use Rattle.pages.specs.Rows.{cpuRow, dmaRow, holds, add, remove, heldForDma, isFree, freeCount, lowestFree};
 use numbers::Lowest;
 use numbers::PhysPage;
@@ -104,6 +107,45 @@ pub fn holds_any(sets: &[u64], row: u64) -> bool
         k += 1;
     }
     false
+}
+
+// Whether a set has none of the 64 pages that share this page's word.
+pub fn none_beside(sets: &[u64], row: u64, page: PhysPage) -> bool
+    requires { ⌜ (page .0 < PAGES) × ((row + 1) * SET-WORDS ≤ length (now sets)) ⌝ }
+    ensures { λ r. ⌜ r ≡ eqb (columnWord (now (sets .entry)) row (page .0 / 64)) 0 ⌝ }
+{
+    let at = word_of(row, page);
+    sets[at] == 0
+}
+
+// ---- All pages of a set at once, by whole words.
+
+// What the one row has goes to the other, which keeps what it has.
+pub fn pour(sets: &mut [u64], from: u64, to: u64)
+    requires { ⌜ ((from + 1) * SET-WORDS ≤ length (now sets)) × ((to + 1) * SET-WORDS ≤ length (now sets)) ⌝ }
+    ensures { λ _. ⌜ now (sets .exit) ≡ pour (now (sets .entry)) from to ⌝ }
+{
+    let source = word_of(from, PhysPage(0));
+    let target = word_of(to, PhysPage(0));
+    let mut k = 0;
+    while k < SET_WORDS {
+        sets[target + k] = sets[target + k] | sets[source + k];
+        sets[source + k] = 0;
+        k += 1;
+    }
+}
+
+// The row has no page any more.
+pub fn empty(sets: &mut [u64], row: u64)
+    requires { ⌜ (row + 1) * SET-WORDS ≤ length (now sets) ⌝ }
+    ensures { λ _. ⌜ now (sets .exit) ≡ emptied (now (sets .entry)) row ⌝ }
+{
+    let start = word_of(row, PhysPage(0));
+    let mut k = 0;
+    while k < SET_WORDS {
+        sets[start + k] = 0;
+        k += 1;
+    }
 }
 
 // ---- The free pages of a machine of so many pages: those in the pool that no VM holds for DMA. Each search visits every page.

@@ -20,7 +20,7 @@ use Rattle.model.specs.State.{State}
 use Rattle.model.specs.Sequence.{Progress, beginning, writeAt, rowAt, stepRow, turn, after}
 use Rattle.model.specs.WriteLaws.{length-written, written-before, written-behind, written-here}
 use Rattle.model.proofs.Answers.{four}
-use Rattle.model.proofs.Repeats.{repeat-last}
+use Rattle.table.specs.RepeatLaws.{repeat-last}
 use Rattle.log.specs.Log.{recordAt}
 use Rattle.log.specs.LogLaws.{row-numbers}
 use Rattle.log.specs.Logs.{Readings, readAll}

@@ -140,6 +140,7 @@ pub fn operation_of(number: u64, a: u64, b: u64, c: u64, d: u64, e: u64) -> Deco
         )),
         25 => Decoded::Known(Operation::DataBarrier),
         26 => Decoded::Known(Operation::InstructionBarrier),
+        27 => Decoded::Known(Operation::RetireVm(VmId(a))),
         _ => Decoded::Unknown,
     }
 }

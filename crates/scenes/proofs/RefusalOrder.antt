@@ -50,13 +50,13 @@ expectedBoth order = expected (order .way ▸ order .both ∷ []) ++ expected (o
 
 -- ---- 1: add VM. Not 2 and 5: no id from 16 on is known (`knows-none`, KnownLaws)
 
--- ---- 2: remove VM. Not 4 and 13: a VM that is not known has nothing (`named-known`, below)
-abbrev pub removeVm : List Order
-removeVm =
+-- ---- 2 and 27: remove VM, retire VM. Not 4 and 13: a VM that is not known has nothing and is on no port (`named-known`, below)
+abbrev pub removeVm : ℕ → List Order
+removeVm operation =
     -- 2, 4: no id from 16 on is known
     (inRow two
-    (row (2 ∷ 16 ∷ []) ⟼ 2 ∷ 0 ∷ 0 ∷ 0 ∷ [])
-    (row (2 ∷ 3 ∷ []) ⟼ 4 ∷ 0 ∷ 0 ∷ 0 ∷ []))
+    (row (operation ∷ VMS ∷ []) ⟼ 2 ∷ 0 ∷ 0 ∷ 0 ∷ [])
+    (row (operation ∷ 3 ∷ []) ⟼ 4 ∷ 0 ∷ 0 ∷ 0 ∷ []))
     ∷ []
 
 -- ---- 3: assign page
@@ -293,7 +293,7 @@ access way switch lacking operation =
 -- ---- all of them
 abbrev pub orders : List Order
 orders =
-    removeVm
+    removeVm 2
     ++ assignPage
     ++ reclaimPage
     ++ sharePage
@@ -318,6 +318,7 @@ orders =
     ++ access bound 16 41 22
     ++ access running 15 42 23
     ++ access bound 16 42 24
+    ++ removeVm 27
 
 -- both causes hold in every state, and the earlier is answered
 pub in-order : map (playedBoth sixteen) orders ≡ map expectedBoth orders
@@ -385,7 +386,7 @@ abbrev pub without : List ℕ → List ℕ → List ℕ
 without shown [] = []
 without shown (l ∷ ls) = if isIn shown l then without shown ls else l ∷ without shown ls
 
-pub neighbours-shown : without (map linkOf (orders ++ packedOrders)) (linksOf 1 operations) ≡ link 1 2 5 ∷ link 2 4 13 ∷ link 21 9 16 ∷ link 22 9 16 ∷ link 23 9 16 ∷ link 24 9 16 ∷ []
+pub neighbours-shown : without (map linkOf (orders ++ packedOrders)) (linksOf 1 operations) ≡ link 1 2 5 ∷ link 2 4 13 ∷ link 21 9 16 ∷ link 22 9 16 ∷ link 23 9 16 ∷ link 24 9 16 ∷ link 27 4 13 ∷ []
 unfolding refusalLists
 neighbours-shown = refl
 

@@ -523,6 +523,48 @@ barriers =
     ∷ [])
     ∷ []
 
+-- ---- 27: retire VM
+-- VM 2 borrows page 0 and maps it
+abbrev pub borrowed : List (List ℕ)
+borrowed = shared ++ ((7 ∷ 2 ∷ 40 ∷ 0 ∷ 1 ∷ 0 ∷ []) ∷ [])
+
+abbrev pub retireVm : List Scene
+retireVm =
+    -- accepted of a VM that has nothing; 2 by VM; 4
+    (two ▸
+    (row (27 ∷ 1 ∷ []) ⟼ 0 ∷ 0 ∷ 0 ∷ 0 ∷ [])
+    ∷ (row (27 ∷ VMS ∷ []) ⟼ 2 ∷ 0 ∷ 0 ∷ 0 ∷ [])
+    ∷ (row (27 ∷ 3 ∷ []) ⟼ 4 ∷ 0 ∷ 0 ∷ 0 ∷ [])
+    ∷ [])
+    -- accepted though it has DMA pages and mappings; though it owns, lends and borrows a page that is mapped
+    ∷ (otherDmaIn ▸ (row (27 ∷ 2 ∷ []) ⟼ 0 ∷ 0 ∷ 0 ∷ 0 ∷ []) ∷ [])
+    ∷ (borrowed ▸ (row (27 ∷ 1 ∷ []) ⟼ 0 ∷ 0 ∷ 0 ∷ 0 ∷ []) ∷ (row (27 ∷ 2 ∷ []) ⟼ 0 ∷ 0 ∷ 0 ∷ 0 ∷ []) ∷ [])
+    -- its own slot is dropped, of the CPU cache, of the DMA cache, and one of each
+    ∷ (running ++ ((17 ∷ 0 ∷ 40 ∷ []) ∷ (15 ∷ 0 ∷ IDLE ∷ []) ∷ []) ▸ (row (27 ∷ 1 ∷ []) ⟼ 0 ∷ 0 ∷ 1 ∷ 0 ∷ []) ∷ [])
+    ∷ (bound ++ ((18 ∷ 0 ∷ 40 ∷ []) ∷ (16 ∷ 0 ∷ IDLE ∷ []) ∷ []) ▸ (row (27 ∷ 1 ∷ []) ⟼ 0 ∷ 0 ∷ 1 ∷ 0 ∷ []) ∷ [])
+    ∷ (running ++ ((8 ∷ 1 ∷ 40 ∷ 15 ∷ 3 ∷ 0 ∷ []) ∷ (16 ∷ 0 ∷ 1 ∷ []) ∷ (17 ∷ 0 ∷ 40 ∷ []) ∷ (18 ∷ 0 ∷ 40 ∷ []) ∷ (15 ∷ 0 ∷ IDLE ∷ []) ∷ (16 ∷ 0 ∷ IDLE ∷ []) ∷ []) ▸
+    (row (27 ∷ 1 ∷ []) ⟼ 0 ∷ 0 ∷ 2 ∷ 0 ∷ [])
+    ∷ [])
+    -- a borrower's slot onto its page is dropped, on whichever CPU
+    ∷ (borrowed ++ ((15 ∷ 7 ∷ 2 ∷ []) ∷ (17 ∷ 7 ∷ 40 ∷ []) ∷ []) ▸ (row (27 ∷ 1 ∷ []) ⟼ 0 ∷ 0 ∷ 1 ∷ 0 ∷ []) ∷ [])
+    -- afterwards: the id and the page are there to be taken, the borrower's mapping and the edge are gone
+    ∷ (borrowed ++ ((27 ∷ 1 ∷ []) ∷ []) ▸
+    (row (27 ∷ 1 ∷ []) ⟼ 4 ∷ 0 ∷ 0 ∷ 0 ∷ [])
+    ∷ (row (1 ∷ 1 ∷ []) ⟼ 0 ∷ 0 ∷ 0 ∷ 0 ∷ [])
+    ∷ (row (3 ∷ 2 ∷ 0 ∷ []) ⟼ 0 ∷ 0 ∷ 0 ∷ 0 ∷ [])
+    ∷ (row (9 ∷ 2 ∷ 40 ∷ []) ⟼ 9 ∷ 0 ∷ 0 ∷ 0 ∷ [])
+    ∷ (row (7 ∷ 2 ∷ 40 ∷ 0 ∷ 1 ∷ 0 ∷ []) ⟼ 6 ∷ 0 ∷ 0 ∷ 0 ∷ [])
+    ∷ [])
+    -- the lender keeps what it lent, to read and to lend again
+    ∷ (running ++ ((5 ∷ 1 ∷ 2 ∷ 0 ∷ []) ∷ (7 ∷ 2 ∷ 40 ∷ 0 ∷ 1 ∷ 0 ∷ []) ∷ (27 ∷ 2 ∷ []) ∷ []) ▸
+    (row (21 ∷ 0 ∷ 40 ∷ (PAGE-WORDS - 1) ∷ []) ⟼ 0 ∷ 0 ∷ 0 ∷ 9 ∷ [])
+    ∷ (row (4 ∷ 1 ∷ 0 ∷ []) ⟼ 11 ∷ 0 ∷ 0 ∷ 0 ∷ [])
+    ∷ [])
+    -- 13 by a CPU; 13 by a device
+    ∷ (two ++ ((15 ∷ 0 ∷ 1 ∷ []) ∷ []) ▸ (row (27 ∷ 1 ∷ []) ⟼ 13 ∷ 0 ∷ 0 ∷ 0 ∷ []) ∷ [])
+    ∷ (two ++ ((16 ∷ 7 ∷ 1 ∷ []) ∷ []) ▸ (row (27 ∷ 1 ∷ []) ⟼ 13 ∷ 0 ∷ 0 ∷ 0 ∷ []) ∷ [])
+    ∷ []
+
 -- ---- all of them
 abbrev pub scenes : List Scene
 scenes =
@@ -541,6 +583,7 @@ scenes =
     ++ dmaRemoveRegion
     ++ ports
     ++ barriers
+    ++ retireVm
 
 -- the machine accepts every row of every way, and answers every line as its scene says
 pub answered : map (played sixteen) scenes ≡ map expected scenes

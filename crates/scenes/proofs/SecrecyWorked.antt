@@ -10,7 +10,7 @@ use lib.Dec.{eqb, ltb, lit<}
 use lib.ListN.{getD, set, replicate}
 use borrow.Author.Tests.{ltb-true}
 use Rattle.numbers.specs.CaseLaws.{none-some}
-use Rattle.numbers.specs.Limits.{VMS, PAGE-WORDS, WRITE}
+use Rattle.numbers.specs.Limits.{VMS, PAGE-WORDS, WRITE, IDLE}
 use Rattle.numbers.specs.Packing.{entry, slotWord, mapWord, filledOf}
 use Rattle.numbers.specs.declared.Answer.{Answer}
 use Rattle.numbers.specs.declared.Answer.the-variants.{Refused}
@@ -97,6 +97,38 @@ keptByDevices = keptByDevice 5 ∷ keptByDevice 6 ∷ []
 pub kept-secret-dma : map (answers started) keptByDevices ≡ map (map heardIn) keptByDevices
 unfolding computes
 kept-secret-dma = refl
+
+-- ---- VM 1 is retired: the value is on page 3, which it owns, and on page 0, which it holds for DMA alone
+abbrev pub keptByRetire : ℕ → List Line
+keptByRetire value =
+    (row (1 ∷ 1 ∷ []) ⟼ 0 ∷ 0 ∷ 0 ∷ 0 ∷ [])
+    ∷ (row (1 ∷ 2 ∷ []) ⟼ 0 ∷ 0 ∷ 0 ∷ 0 ∷ [])
+    ∷ (row (3 ∷ 1 ∷ 3 ∷ []) ⟼ 0 ∷ 0 ∷ 0 ∷ 0 ∷ [])
+    ∷ (row (7 ∷ 1 ∷ 40 ∷ 3 ∷ 3 ∷ 0 ∷ []) ⟼ 0 ∷ 0 ∷ 0 ∷ 0 ∷ [])
+    ∷ (row (13 ∷ 1 ∷ 16 ∷ 0 ∷ 3 ∷ 3 ∷ []) ⟼ 0 ∷ 0 ∷ 0 ∷ 0 ∷ [])
+    ∷ (row (15 ∷ 0 ∷ 1 ∷ []) ⟼ 0 ∷ 0 ∷ 0 ∷ 0 ∷ [])
+    ∷ (row (15 ∷ 1 ∷ 2 ∷ []) ⟼ 0 ∷ 0 ∷ 0 ∷ 0 ∷ [])
+    ∷ (row (16 ∷ 0 ∷ 1 ∷ []) ⟼ 0 ∷ 0 ∷ 0 ∷ 0 ∷ [])
+    ∷ (row (23 ∷ 0 ∷ 40 ∷ 0 ∷ value ∷ []) ⟼ 0 ∷ 0 ∷ 0 ∷ 0 ∷ [])
+    ∷ (row (24 ∷ 0 ∷ 16 ∷ 0 ∷ value ∷ []) ⟼ 0 ∷ 0 ∷ 0 ∷ 0 ∷ [])
+    ∷ (row (15 ∷ 0 ∷ IDLE ∷ []) ⟼ 0 ∷ 0 ∷ 0 ∷ 0 ∷ [])
+    ∷ (row (16 ∷ 0 ∷ IDLE ∷ []) ⟼ 0 ∷ 0 ∷ 0 ∷ 0 ∷ [])
+    ∷ (row (27 ∷ 1 ∷ []) ⟼ 0 ∷ 0 ∷ 0 ∷ 0 ∷ [])
+    -- both pages go on to VM 2, which reads zero
+    ∷ (row (3 ∷ 2 ∷ 3 ∷ []) ⟼ 0 ∷ 0 ∷ 0 ∷ 0 ∷ [])
+    ∷ (row (3 ∷ 2 ∷ 0 ∷ []) ⟼ 0 ∷ 0 ∷ 0 ∷ 0 ∷ [])
+    ∷ (row (7 ∷ 2 ∷ 41 ∷ 3 ∷ 1 ∷ 0 ∷ []) ⟼ 0 ∷ 0 ∷ 0 ∷ 0 ∷ [])
+    ∷ (row (7 ∷ 2 ∷ 42 ∷ 0 ∷ 1 ∷ 0 ∷ []) ⟼ 0 ∷ 0 ∷ 0 ∷ 0 ∷ [])
+    ∷ (row (21 ∷ 1 ∷ 41 ∷ 0 ∷ []) ⟼ 0 ∷ 0 ∷ 0 ∷ 0 ∷ [])
+    ∷ (row (21 ∷ 1 ∷ 42 ∷ 0 ∷ []) ⟼ 0 ∷ 0 ∷ 0 ∷ 0 ∷ [])
+    ∷ []
+
+abbrev pub keptByRetires : List (List Line)
+keptByRetires = keptByRetire 5 ∷ keptByRetire 6 ∷ []
+
+pub kept-secret-retire : map (answers started) keptByRetires ≡ map (map heardIn) keptByRetires
+unfolding computes
+kept-secret-retire = refl
 
 -- ---- without a premise on the rows
 -- `shares-equal` is broken: page 0 is shared though its words are not equal in the two runs, and its borrower reads the value

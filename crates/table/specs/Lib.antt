@@ -4,5 +4,6 @@ pub mod Table
 pub mod Loops
 pub mod BlockLaws
 pub mod ScanLaws
+pub mod RepeatLaws
 pub mod TableLaws
 pub mod AgreeLaws

@@ -6,6 +6,7 @@ use mathlib.Core.Path.{_≡_, refl, sym, ap, _∙_}
 use mathlib.Core.Logic.{⊎-elim}
 use native.Mathlib.Omega.{arith}
 use lib.ListN.{length, getD, set, length-map, List·getD-map}
+use lib.Seq.{ext-getD}
 use Rattle.numbers.specs.CaseLaws.{cases, equal}
 use Rattle.numbers.specs.Choice.{if_then_else_}
 use Rattle.numbers.specs.Decides.{Decides}
@@ -161,13 +162,15 @@ some-below p P n d =
 
 -- ---- the words that pass, emptied
 module _ (p : ℕ → Bool) where
+  -- the empty word stays empty, whether it passes or not
+  pub cleared-empty : cleared p 0 ≡ 0
+  cleared-empty = ⊎-elim (λ t. rw t) (λ f. rw f) (cases (p 0))
+
   pub length-wipe : (ws : List ℕ) → length (wipe p ws) ≡ length ws
   length-wipe ws = length-map ws (cleared p)
 
   pub wipe-at : (ws : List ℕ) (i : ℕ) → getD (wipe p ws) i 0 ≡ cleared p (getD ws i 0)
-  wipe-at ws i =
-      let z : cleared p 0 ≡ 0 = ⊎-elim (λ t. rw t) (λ f. rw f) (cases (p 0)) in
-      ap (getD (wipe p ws) i) (sym z) ∙ List·getD-map (cleared p) ws i 0
+  wipe-at ws i = ap (getD (wipe p ws) i) (sym cleared-empty) ∙ List·getD-map (cleared p) ws i 0
 
   pub has-wipe-inv : (ws : List ℕ) (w : ℕ) → Has (wipe p ws) w → Has ws w × (p w ≡ false)
   has-wipe-inv ws w r = ⊎-elim gone stays (cases (p (getD ws (r .spot) 0)))
@@ -186,6 +189,30 @@ module _ (p : ℕ → Bool) where
   pub has-wipe-keep : (ws : List ℕ) (w : ℕ) → Has ws w → p w ≡ false → Has (wipe p ws) w
   has-wipe-keep ws w r f =
       record { spot = r .spot; within = rw length-wipe (r .within); holds = wipe-at ws (r .spot) ∙ rw (r .holds, f); filled = r .filled }
+
+  pub wipe-none : ((w : ℕ) → p w ≡ false) → (ws : List ℕ) → wipe p ws ≡ ws
+  wipe-none none-passes [] = refl
+  wipe-none none-passes (w ∷ ws) = rw (none-passes w, wipe-none none-passes ws)
+
+module _ (p q : ℕ → Bool) where
+  -- two tests that say the same of every word that stands in the list
+  pub wipe-same : (ws : List ℕ) → ((w : ℕ) → Has ws w → p w ≡ q w) → wipe p ws ≡ wipe q ws
+  wipe-same ws same =
+      ext-getD 0 (wipe p ws) (wipe q ws) (length-wipe p ws ∙ sym (length-wipe q ws))
+      (λ i h. wipe-at p ws i ∙ at i (omega (arith, length-wipe p ws)) ∙ sym (wipe-at q ws i))
+    where
+      at : (i : ℕ) → i < length ws → cleared p (getD ws i 0) ≡ cleared q (getD ws i 0)
+      at i h =
+          ⊎-elim (λ z. rw z (cleared-empty p ∙ sym (cleared-empty q))) (λ n. rw (same (getD ws i 0) (record { spot = i; within = h; holds = refl; filled = n })))
+          (equal (getD ws i 0) 0)
+
+  -- one test after the other
+  cleared-twice : (w : ℕ) → cleared q (cleared p w) ≡ cleared (λ u. if p u then true else q u) w
+  cleared-twice w = ⊎-elim (λ t. rw t (cleared-empty q)) (λ f. rw f) (cases (p w))
+
+  pub wipe-twice : (ws : List ℕ) → wipe q (wipe p ws) ≡ wipe (λ w. if p w then true else q w) ws
+  wipe-twice [] = refl
+  wipe-twice (w ∷ ws) = rw (cleared-twice w, wipe-twice ws)
 
 -- ---- how many words pass
 pub at-most-one : (t : Bool) → (if t then 1 else 0) ≤ 1

@@ -86,7 +86,8 @@ fn of_vm(w: u64, vm: VmId) -> bool
     (numbers::filled_of(w) == 1) & (numbers::vm_of(w).0 == vm.0)
 }
 
-fn joins(w: u64, vm: VmId) -> bool
+// A pair that has the VM at an end.
+pub fn joins(w: u64, vm: VmId) -> bool
     ensures { λ r. ⌜ r ≡ passes (Test.Joins vm) w ⌝ }
 {
     (numbers::filled_of(w) == 1)

@@ -38,6 +38,7 @@ fn every_kind() -> [Row; KINDS as usize] {
         rows::dma_write(A, B, C, VALUE),
         rows::data_barrier(),
         rows::instruction_barrier(),
+        rows::retire_vm(A),
     ]
 }
 
@@ -168,13 +169,13 @@ fn records_cut_short_are_refused() {
         }
     }
     // before the kind is looked at, and whatever it is
-    unreadable(&[3, 0, 27, 0], 0, LogRefusal::CutShort);
+    unreadable(&[3, 0, PAST, 0], 0, LogRefusal::CutShort);
     unreadable(&[255, 255, 1, 0, 1, 0, 0, 0], 0, LogRefusal::CutShort);
 }
 
 #[test]
 fn other_kinds_and_lengths_are_refused() {
-    for kind in [[0, 0], [27, 0], [1, 1], [255, 255]] {
+    for kind in [[0, 0], [PAST, 0], [1, 1], [255, 255]] {
         for length in [0, 1, 2, 6] {
             let log = [length, 0, kind[0], kind[1], 1, 0, 0, 0];
             unreadable(&log, 0, LogRefusal::UnknownKind);

@@ -22,6 +22,9 @@ const UNITS_TOLD: [Unit; 2] = [
     Unit { vm: 2, guest: 16, page: 2, count: 2, access: READ | WRITE, mark: MARK_CPU },
 ];
 
+/// One past the last kind of a record.
+const PAST: u8 = KINDS as u8 + 1;
+
 /// A machine of eight pages at work, with something in every table.
 fn whole() -> Owned {
     let mut owned = Owned::new(8);

@@ -48,6 +48,9 @@ macro_rules! same {
 
 const DONE: [u64; ANSWER_NUMBERS] = [0; ANSWER_NUMBERS];
 
+/// The last operation.
+const LAST: u64 = RETIRE_VM;
+
 fn ledger(tried: &mut Tried) {
     let known = (Err(Refusal::VmKnown), [5, 0, 0, 0]);
     let busy = (Err(Refusal::VmBusy), [13, 0, 0, 0]);
@@ -66,6 +69,21 @@ fn ledger(tried: &mut Tried) {
     same!(tried, [], share_page(1, 1, 0) = [5, 1, 1, 0], wrong);
     same!(tried, [], unshare_page(2, 1, 1) = [6, 2, 1, 1], (Ok(()), DONE));
     same!(tried, [], unshare_page(1, 2, 0) = [6, 1, 2, 0], wrong);
+}
+
+/// VM 1 has two slots of the CPU cache and one of the DMA cache, VM 2 a pair and nothing else.
+fn retirement(tried: &mut Tried) {
+    let unknown = (Err(Refusal::VmUnknown), [4, 0, 0, 0]);
+    let busy = (Err(Refusal::VmBusy), [13, 0, 0, 0]);
+    let out = (Err(Refusal::OutOfRange), [2, 0, 0, 0]);
+    let (no_cpu, no_device) = (rows::switch_cpu(0, None), rows::bind_device(0, None));
+    same!(tried, [no_cpu, no_device], retire_vm(1) = [27, 1], (Ok(3), [0, 0, 3, 0]));
+    same!(tried, [no_cpu], retire_vm(1) = [27, 1], busy);
+    same!(tried, [no_device], retire_vm(1) = [27, 1], busy);
+    same!(tried, [], retire_vm(2) = [27, 2], (Ok(0), DONE));
+    same!(tried, [rows::add_vm(3)], retire_vm(3) = [27, 3], (Ok(0), DONE));
+    same!(tried, [], retire_vm(3) = [27, 3], unknown);
+    same!(tried, [], retire_vm(VMS) = [27, VMS], out);
 }
 
 fn maps(tried: &mut Tried) {
@@ -159,11 +177,13 @@ fn accesses(tried: &mut Tried) {
 #[test]
 fn every_method_is_its_row() {
     let mut tried = Tried::default();
-    for group in [ledger, maps, regions, ports, accesses] {
+    for group in [ledger, retirement, maps, regions, ports, accesses] {
         group(&mut tried);
     }
-    assert!(tried.accepted.into_iter().eq(ADD_VM..=INSTRUCTION_BARRIER));
-    assert!(tried.refused.into_iter().eq(ADD_VM..DATA_BARRIER));
+    assert!(tried.accepted.into_iter().eq(ADD_VM..=LAST));
+    let barriers = DATA_BARRIER..=INSTRUCTION_BARRIER;
+    let refusable = (ADD_VM..=LAST).filter(|number| !barriers.contains(number));
+    assert!(tried.refused.into_iter().eq(refusable));
 }
 
 #[test]
@@ -171,5 +191,36 @@ fn every_operation_has_its_method() {
     let named = crate::numbers::NAMED.iter().skip_while(|(name, _)| *name != "ADD_VM");
     let methods = METHODS.iter().map(|(name, number)| (name.to_uppercase(), *number));
     assert!(methods.eq(named.map(|&(name, number)| (name.into(), number))));
-    assert_eq!(METHODS.len() as u64, INSTRUCTION_BARRIER);
+    assert_eq!(METHODS.len() as u64, LAST);
+}
+
+#[test]
+fn unknown_operations_are_refused() {
+    for number in [0, LAST + 1, 1 << 32 | LAST, u64::MAX] {
+        let mut owned = whole();
+        let refused = Refused { refusal: Refusal::OutOfRange, index: 0 };
+        assert_eq!(owned.lent().operation(row([number, 3])).accepted(), Err(refused), "{number}");
+        assert!(owned == whole());
+    }
+}
+
+/// Every word of its pages is 0, a borrower reads them no more, and its id may be had again.
+#[test]
+fn a_retired_vm_leaves_nothing() {
+    let mut owned = whole();
+    let mut lent = owned.lent();
+    lent.cpu_map(2, 40, 1, READ, 0).unwrap();
+    lent.switch_cpu(1, Some(2)).unwrap();
+    lent.cpu_fill(1, 40).unwrap();
+    lent.dma_write(0, 17, 511, 2222).unwrap();
+    assert_eq!(lent.cpu_read(1, 40, 511), Ok(2222));
+    lent.switch_cpu(0, None).unwrap();
+    lent.bind_device(0, None).unwrap();
+    assert_eq!(lent.retire_vm(1), Ok(4));
+    assert!(lent.valid());
+    assert_eq!(lent.cpu_read(1, 40, 511), Err(Refusal::MappingDiffers));
+    assert_eq!(lent.free().map(|pages| (pages.count, pages.lowest())), Ok((7, Some(0))));
+    assert!(lent.memory.iter().all(|word| *word == 0));
+    assert_eq!(lent.add_vm(1), Ok(()));
+    assert_eq!(lent.remove_vm(1), Ok(()));
 }

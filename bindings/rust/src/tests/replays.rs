@@ -89,7 +89,7 @@ fn an_unreadable_record_ends_it() {
     let (expected, answered) = sequenced(&ROWS);
     for (bytes, refusal) in [
         (&[6, 0, 1, 0, 1, 0, 0][..], LogRefusal::CutShort),
-        (&[6, 0, 27, 0, 1, 0, 0, 0][..], LogRefusal::UnknownKind),
+        (&[6, 0, PAST, 0, 1, 0, 0, 0][..], LogRefusal::UnknownKind),
         (&[5, 0, 1, 0, 1, 0, 0, 0][..], LogRefusal::WrongLength),
     ] {
         let log = [&before, bytes, &before].concat();

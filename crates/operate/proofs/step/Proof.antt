@@ -1,5 +1,5 @@
 use borrow.Author.Needs.{needs}
-use Rattle.operate.specs.ArmLaws.{add-vm-step, remove-vm-step, assign-step, reclaim-step, share-step, unshare-step, cpu-step, dma-step, data-barrier-step, instruction-barrier-step}
+use Rattle.operate.specs.ArmLaws.{add-vm-step, remove-vm-step, assign-step, reclaim-step, share-step, unshare-step, cpu-step, dma-step, data-barrier-step, instruction-barrier-step, retire-step}
 use Rattle.operate.proofs.step.Statement.{statement}
 use Rattle.operate.proofs.step.Tie as tie
 
@@ -71,6 +71,41 @@ returns-10 c =
     let c11 = c .before .before .before .before .before .before .before .before .before .before .before in
     rw (c .enum-told4 .given .1) (instruction-barrier-step (c11 .args .fixed) (c11 .args .registers) _ _ _ _ _ _ _ _ _)
 
+returns-11 : tie.Need-returns-11
+returns-11 c =
+    let c18 = c .before .before .before .before .before .before .before .before .before .before .before .before .before .before .before .before .before .before in
+    let c31 = c18 .before .before .before .before .before .before .before .before .before .before .before .before .before in
+    let c42 = c31 .before .before .before .before .before .before .before .before .before .before .before in
+    rw (c31 .operation8 .given .1) (retire-step (c42 .args .fixed) (c42 .args .registers) _ _ _ _ _ _ _ _ _ _ (c18 .retire-vm .ensures))
+
+-- the nine lists that come back: each in a declaration of its own, since together they need more steps than one may take
+same-length-27 : tie.Need-same-length-27
+same-length-27 c = search needs
+
+same-length-28 : tie.Need-same-length-28
+same-length-28 c = search needs
+
+same-length-29 : tie.Need-same-length-29
+same-length-29 c = search needs
+
+same-length-30 : tie.Need-same-length-30
+same-length-30 c = search needs
+
+same-length-31 : tie.Need-same-length-31
+same-length-31 c = search needs
+
+same-length-32 : tie.Need-same-length-32
+same-length-32 c = search needs
+
+same-length-33 : tie.Need-same-length-33
+same-length-33 c = search needs
+
+same-length-34 : tie.Need-same-length-34
+same-length-34 c = search needs
+
+same-length-35 : tie.Need-same-length-35
+same-length-35 c = search needs
+
 pub step-spec : {M : Type 1} → statement M
 step-spec =
     tie.close
@@ -95,6 +130,8 @@ step-spec =
     (λ c κs. search needs)
     (λ c. search needs)
     (λ c. search needs)
+    (λ c. search needs)
+    (λ c κs. search needs)
     returns
     (λ c. search needs)
     (λ c. search needs)
@@ -130,4 +167,14 @@ step-spec =
     (λ c. search needs)
     returns-8
     returns-9
-    returns-10)
+    returns-10
+    same-length-27
+    same-length-28
+    same-length-29
+    same-length-30
+    same-length-31
+    same-length-32
+    same-length-33
+    same-length-34
+    same-length-35
+    returns-11)

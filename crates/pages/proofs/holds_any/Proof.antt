@@ -1,6 +1,6 @@
 -- `pages::holds_any` meets its contract: the loop looks for a word of the row that is not 0.
-use Prim.Native.Nat.{ℕ, _-_, _*_, _^_, _<_}
-use mathlib.Core.Path.{_≡_, _∙_}
+use Prim.Native.Nat.{ℕ, _-_, _^_, _<_}
+use mathlib.Core.Path.{_∙_}
 use native.Mathlib.Omega.{arith}
 use borrow.Author.Needs.{needs}
 use borrow.Author.Tests.{ne-eqb, eq-eqb}
@@ -9,6 +9,7 @@ use Rattle.numbers.specs.Limits.{SET-WORDS}
 use Rattle.table.specs.Loops.{Trying, try-start, try-next, try-yes, try-no}
 use Rattle.pages.specs.Columns.{notEmpty}
 use Rattle.pages.specs.ColumnLaws.{holds-any}
+use Rattle.pages.specs.RowLaws.{place-first}
 use Rattle.pages.proofs.holds_any.Statement.{statement}
 use Rattle.pages.proofs.holds_any.Tie as tie
 
@@ -22,24 +23,20 @@ abbrev μ-loop : tie.MeasureT-loop
 fit : (c : tie.After-shared-slice-known Inv-loop μ-loop) → (i : ℕ) → getD (c .before .args .sets .now) i 0 < 2 ^ 64
 fit c i = omega (arith, c .shared-slice-known .given i)
 
--- the row's words begin where page 0 has its own
-begin : (c : tie.After-word-of Inv-loop μ-loop) → c .word-of .result ≡ c .before .before .args .row * SET-WORDS
-begin c = omega (arith, c .word-of .ensures)
-
 loop-holds : tie.Need-loop-holds Inv-loop μ-loop
 loop-holds c = try-start _ _
 
 returns : tie.Need-returns Inv-loop μ-loop
 returns c =
     let turn = c .before .before in
-    let word = rw (begin (turn .before .before)) at (c .if1 .taken) in
+    let word = rw (turn .before .before .word-of .ensures, place-first) at (c .if1 .taken) in
     try-yes _ _ _ (turn .before .loop .inv) (turn .loop-test .taken) (rw (ne-eqb _ 0 word))
     ∙ holds-any _ _ (fit (turn .before .before .before))
 
 loop-again : tie.Need-loop-again Inv-loop μ-loop
 loop-again c =
     let turn = c .before .before in
-    let word = rw (begin (turn .before .before)) at (c .if1 .left) in
+    let word = rw (turn .before .before .word-of .ensures, place-first) at (c .if1 .left) in
     try-next _ _ _ (turn .before .loop .inv) (turn .loop-test .taken) (rw (eq-eqb _ 0 word))
 
 returns-2 : tie.Need-returns-2 Inv-loop μ-loop
