@@ -1,5 +1,7 @@
 // Memory: clearing a page, and what a port reads and writes of it. CPUs and devices go the same way, each over the ports,
 // the cache and the walker of its side.
+#![tactic(auto)]
+
 ghost use Rattle.std.specs.Prelude.{◌≡◌, ◌+◌, ◌*◌, ◌<◌, ◌≤◌, length};
 ghost use Rattle.numbers.specs.Limits.{PAGE_WORDS, WRITE};
 ghost use Rattle.numbers.specs.Packing.{PORT_FIELD, VM_FIELD, GUEST_FIELD};
@@ -61,7 +63,7 @@ fn allows(bit: u64, entry: u64) -> bool
 }
 
 // Where an access ends: at a place in memory, or refused.
-#[derive(Drop)]
+#[derive(Clone, Copy)]
 enum Reached {
     Word(usize),
     Refused(Refusal),

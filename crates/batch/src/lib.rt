@@ -1,4 +1,6 @@
 // A box that a script tells: what waits of it, and how far it has come. What waits is carried out together and printed.
+#![tactic(auto)]
+
 ghost use Rattle.std.specs.Prelude.{◌≡◌};
 ghost use Rattle.batch.specs.Room.{Orderly};
 
@@ -25,7 +27,7 @@ pub const UNITS_KEPT: usize = UNITS + 1;
 pub const UNITS_ROOM: usize = UNITS_KEPT * UNIT_NUMBERS;
 
 // ---- How far the box has come.
-#[derive(Drop)]
+#[derive(Clone, Copy)]
 pub enum Phase {
     // There was no box line yet.
     NoBox,
@@ -38,14 +40,14 @@ pub enum Phase {
 }
 
 // What ended the reading before the script did.
-#[derive(Drop)]
+#[derive(Clone, Copy)]
 pub enum End {
     NotUnderstood,
     CannotRead,
     CannotWrite,
 }
 
-#[derive(Drop)]
+#[derive(Clone, Copy)]
 pub struct Work {
     pub phase: Phase,
     pub machine: Machine,

@@ -1,5 +1,7 @@
 // One cache by itself: a slot searched, filled and emptied. Each function loads the slots, calls a core over their words, and
 // stores them again where it may change them.
+#![tactic(auto)]
+
 ghost use Rattle.std.specs.Prelude.{◌≡◌};
 ghost use Rattle.slots.specs.Calls.{find_slot, change, fill_slot, empty_slot};
 

@@ -1,5 +1,7 @@
 // The entries over numbers alone that may change a box: a header as numbers, tables, and the 64 words of each cache by value, beside
 // how many slots were lent. Each says what it gives for any box at all (docs/MACHINE.md, 13). What only reads is crate `box_reads`.
+#![tactic(auto)]
+
 ghost use Rattle.std.specs.Prelude.{◌≡◌, length};
 ghost use Rattle.numbers.specs.Decides.{Decides};
 ghost use Rattle.numbers.specs.Limits.{ROW_NUMBERS, ANSWER_NUMBERS};
@@ -12,7 +14,7 @@ use box_header::MACHINE_NUMBERS;
 use numbers::{ANSWER_NUMBERS, ROW_NUMBERS, Refusal, SLOTS};
 
 // What a core hands back: the words of both caches, and the number that it answers.
-#[derive(Drop)]
+#[derive(Clone, Copy)]
 pub struct Finished {
     pub cpu: [u64; SLOTS as usize],
     pub dma: [u64; SLOTS as usize],

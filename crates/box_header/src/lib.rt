@@ -1,4 +1,6 @@
 // The header of a machine as numbers alone, as it crosses to C: read into a machine, and written back.
+#![tactic(auto)]
+
 ghost use Rattle.std.specs.Prelude.{◌≡◌, ◌+◌, ◌*◌, ◌≤◌, length};
 ghost use Rattle.numbers.specs.Decides.{Decides};
 ghost use Rattle.numbers.specs.Limits.{PORTS, UNITS};

@@ -1,5 +1,7 @@
 // The entries over numbers alone that only read a box: whether it is valid, and the free query. Like those of `box_cores` they have
 // the 64 words of each cache by value, beside how many slots were lent, and say what they give for any box at all (docs/MACHINE.md, 13).
+#![tactic(auto)]
+
 ghost use Rattle.std.specs.Prelude.{◌≡◌, length};
 ghost use Rattle.numbers.specs.Decides.{Decides};
 ghost use Rattle.model.specs.Start.{free_refused};

@@ -9,9 +9,9 @@ use Rattle.model.specs.Header.{state_of}
 use Rattle.model.specs.State.{State}
 use Rattle.model.specs.Entries.{valid, not_valid}
 use Rattle.model.specs.declared.Machine.{Machine}
-use Rattle.log.specs.Log.{record_at}
-use Rattle.log.specs.declared.Found.{Found}
-use Rattle.log.specs.declared.Found.TheVariants.{Record, End, Refused}
+use Rattle.operation_log.specs.Log.{record_at}
+use Rattle.operation_log.specs.declared.Found.{Found}
+use Rattle.operation_log.specs.declared.Found.TheVariants.{Record, End, Refused}
 use Rattle.replay.specs.Replay.{Course, Replayed, stop_number, onward, goes_on, replay_from, replay_refused, JudgedReplay}
 use Rattle.box_header.specs.Numbers.{HeaderGood, machine_of, changed}
 use Rattle.box_cores.specs.Boxes.{Box, box, state_in, box_of, left_in}

@@ -1,5 +1,7 @@
 // Replay over numbers alone: a header as numbers, tables, and the 64 words of each cache by value, beside how many slots were lent
 // (docs/MACHINE.md, 14). It says what it gives for any box at all.
+#![tactic(auto)]
+
 ghost use Rattle.std.specs.Prelude.{◌≡◌, length};
 ghost use Rattle.numbers.specs.Decides.{Decides};
 ghost use Rattle.numbers.specs.Meaning.{number_of};
@@ -11,7 +13,7 @@ use numbers::{Refusal, SLOTS};
 use replay::Stop;
 
 // What the core hands back: the words of both caches, whether they are to be stored, and the number that it answers.
-#[derive(Drop)]
+#[derive(Clone, Copy)]
 pub struct ReplayFinished {
     pub cpu: [u64; SLOTS as usize],
     pub dma: [u64; SLOTS as usize],

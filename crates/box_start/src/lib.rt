@@ -1,4 +1,6 @@
 // The entry that makes a box: start, over caches of slot records. The entries over a box that stands are crate `tiligormis`.
+#![tactic(auto)]
+
 ghost use Rattle.start.specs.Begun.{told};
 ghost use Rattle.box_cores.specs.Boxes.{box};
 ghost use Rattle.box_cores.specs.Given.{Judgement, start_gives, start_given, start_refused, HeaderWhole};

@@ -1,5 +1,7 @@
 // One change each, and the line of the state that it gives. A word or a page of a set is changed in a copy of the words, a number
 // of the header in a copy of the header.
+#![tactic(auto)]
+
 ghost use Rattle.std.specs.Prelude.{◌*◌, ◌<◌};
 ghost use Rattle.numbers.specs.Limits.{PAGES, PAGE_WORDS, VMS, PORTS, UNITS, SETS};
 ghost use Rattle.changes.specs.Words.{N};

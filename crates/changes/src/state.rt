@@ -43,7 +43,7 @@ pub const WORDS: usize = MEMORY_AT + MEMORY_WORDS + 1;
 pub const NOWHERE: usize = WORDS;
 
 // The slices of which a single word is changed. Page sets are changed by pages.
-#[derive(Drop)]
+#[derive(Clone, Copy)]
 pub enum Table {
     Pairs,
     CpuMap,

@@ -1,4 +1,6 @@
 // Damaged states, each a valid one with one change, and what the test for validity says of each (docs/MACHINE.md, 4).
+#![tactic(auto)]
+
 mod routes;
 mod rules;
 

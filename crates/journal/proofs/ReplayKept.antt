@@ -4,9 +4,9 @@ use mathlib.Core.List.{List}
 use mathlib.Core.Path.{◌≡◌, refl, ◌∙◌}
 use lib.ListN.{get_or}
 use Rattle.model.specs.Valid.{Valid}
-use Rattle.log.specs.Log.{record_at}
-use Rattle.log.specs.declared.Found.{Found}
-use Rattle.log.specs.declared.Found.TheVariants.{Record, End, Refused}
+use Rattle.operation_log.specs.Log.{record_at}
+use Rattle.operation_log.specs.declared.Found.{Found}
+use Rattle.operation_log.specs.declared.Found.TheVariants.{Record, End, Refused}
 use Rattle.replay.specs.Replay.{Course, Replayed, onward, goes_on, replay_from, replay}
 use Rattle.replay.proofs.Pieces.{replay_valid}
 use Rattle.box_cores.specs.Boxes.{Box, BoxValid, state_in}

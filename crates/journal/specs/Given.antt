@@ -5,12 +5,12 @@ use Rattle.numbers.specs.Choice.{if◌then◌else◌}
 use Rattle.numbers.specs.Limits.{ROW_NUMBERS}
 use Rattle.numbers.specs.Meaning.{refusal_number}
 use Rattle.numbers.specs.declared.Refusal.TheVariants.{StateNotValid}
-use Rattle.log.specs.Log.{log_refusal_number, record_at, written_at, written}
-use Rattle.log.specs.declared.Found.{Found}
-use Rattle.log.specs.declared.Found.TheVariants.{Record, End, Refused}
-use Rattle.log.specs.declared.Taken.{Taken}
-use Rattle.log.specs.declared.Written.{Written}
-use Rattle.log.specs.declared.Written.TheVariants as put
+use Rattle.operation_log.specs.Log.{log_refusal_number, record_at, written_at, written}
+use Rattle.operation_log.specs.declared.Found.{Found}
+use Rattle.operation_log.specs.declared.Found.TheVariants.{Record, End, Refused}
+use Rattle.operation_log.specs.declared.Taken.{Taken}
+use Rattle.operation_log.specs.declared.Written.{Written}
+use Rattle.operation_log.specs.declared.Written.TheVariants as put
 
 -- a row and a place of their lengths
 abbrev pub shaped : List ℕ → List ℕ → Bool

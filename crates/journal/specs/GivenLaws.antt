@@ -7,12 +7,12 @@ use Rattle.numbers.specs.Meaning.{refusal_number}
 use Rattle.numbers.specs.declared.Refusal.TheVariants.{StateNotValid}
 use Rattle.model.specs.Sequence.{write_at}
 use Rattle.model.specs.WriteLaws.{length-written, written_here}
-use Rattle.log.specs.Log.{log_refusal_number, record_at, written_at, written}
-use Rattle.log.specs.declared.LogRefusal.{LogRefusal}
-use Rattle.log.specs.declared.Found.TheVariants.{Record, End, Refused}
-use Rattle.log.specs.declared.Taken.{Taken}
-use Rattle.log.specs.declared.Written.{Written}
-use Rattle.log.specs.declared.Written.TheVariants as put
+use Rattle.operation_log.specs.Log.{log_refusal_number, record_at, written_at, written}
+use Rattle.operation_log.specs.declared.LogRefusal.{LogRefusal}
+use Rattle.operation_log.specs.declared.Found.TheVariants.{Record, End, Refused}
+use Rattle.operation_log.specs.declared.Taken.{Taken}
+use Rattle.operation_log.specs.declared.Written.{Written}
+use Rattle.operation_log.specs.declared.Written.TheVariants as put
 use Rattle.box_header.specs.PutLaws.{Putting, put_next}
 use Rattle.box_replay.specs.GivenLaws.{one_put}
 use Rattle.journal.specs.Given.{shaped, log_given, log_written, row_given, log_read}

@@ -1,5 +1,7 @@
 // The operation log for C and Rust: a row written as a record, a record read as a row, and the records of a log replayed over a box
 // whose caches are slot records (docs/MACHINE.md, 14). include/tiligormis.h is their manual.
+#![tactic(auto)]
+
 ghost use Rattle.std.specs.Prelude.{◌≡◌, length};
 ghost use Rattle.numbers.specs.Limits.{ROW_NUMBERS};
 ghost use Rattle.box_cores.specs.Boxes.{box};
@@ -8,7 +10,7 @@ ghost use Rattle.box_replay.specs.Given.{replay_given, ReplayAsked, replay_gives
 ghost use Rattle.journal.specs.Given.{log_given, log_written, row_given, log_read};
 ghost use Rattle.slots.specs.Slots.{words, slots_of};
 
-use log::{Found, Written};
+use operation_log::{Found, Written};
 use numbers::{ROW_NUMBERS, Refusal, SLOTS};
 use slots::Slot;
 
@@ -21,13 +23,13 @@ pub extern "C" fn tiligormis_log_write(row: &[u64], log: &mut [u8], place: &mut 
         return numbers::refusal_number(Refusal::StateNotValid);
     }
     let eight = box_header::eight(row);
-    let put = log::write(eight, log, place[0] as usize);
+    let put = operation_log::write(eight, log, place[0] as usize);
     match put {
         Written::Past(next) => {
             place[0] = next as u64;
             0
         }
-        Written::Refused(why) => log::log_refusal_number(why),
+        Written::Refused(why) => operation_log::log_refusal_number(why),
     }
 }
 
@@ -52,7 +54,7 @@ pub extern "C" fn tiligormis_log_read(log: &[u8], place: &mut [u64], row: &mut [
     if !((row.len() == ROW_NUMBERS) & (place.len() == 1)) {
         return numbers::refusal_number(Refusal::StateNotValid);
     }
-    let taken = log::read_at(log, place[0] as usize);
+    let taken = operation_log::read_at(log, place[0] as usize);
     let found = taken.found;
     match found {
         Found::Record => {
@@ -65,7 +67,7 @@ pub extern "C" fn tiligormis_log_read(log: &[u8], place: &mut [u64], row: &mut [
             put_row(row, [0; ROW_NUMBERS]);
             0
         }
-        Found::Refused(why) => log::log_refusal_number(why),
+        Found::Refused(why) => operation_log::log_refusal_number(why),
     }
 }
 

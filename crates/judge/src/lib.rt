@@ -1,4 +1,6 @@
 // The test for a valid state (docs/MACHINE.md, 4): a function a rule, each exact, in the order of the manual.
+#![tactic(auto)]
+
 ghost use Rattle.numbers.specs.Decides.{Decides};
 ghost use Rattle.model.specs.Header.{state_of};
 ghost use Rattle.model.specs.Valid.{Valid};

@@ -1,4 +1,6 @@
 // The page sets of a valid state (docs/MACHINE.md, 4), tested by whole words: 64 pages at a time.
+#![tactic(auto)]
+
 ghost use Rattle.std.specs.Prelude.{◌≡◌, ◌+◌, ◌*◌, ◌^◌, ◌<◌, ◌≤◌, length};
 ghost use Rattle.numbers.specs.Decides.{Decides};
 ghost use Rattle.numbers.specs.Limits.{PAGES, VMS, SETS, SET_WORDS};

@@ -1,5 +1,7 @@
 // The keys of maps and caches: that none is there twice, that software map and walker are the same map, and that each slot
 // holds what the walker has. Linear in the tables whatever the keys are, since guests choose some of them.
+#![tactic(auto)]
+
 ghost use Rattle.std.specs.Prelude.{◌≡◌, ◌<◌, ◌+◌, length, replicate};
 ghost use Rattle.numbers.specs.Decides.{Decides};
 ghost use Rattle.numbers.specs.Limits.{ENTRIES, SLOTS};

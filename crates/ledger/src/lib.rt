@@ -1,4 +1,6 @@
 // Operations 1 to 6: which VMs there are, who owns a page, and who shares it. Here is what they have in common.
+#![tactic(auto)]
+
 ghost use Rattle.std.specs.Prelude.{◌≡◌};
 ghost use Rattle.model.specs.Ledger.{vm_early, page_early, pair_early};
 

@@ -12,7 +12,7 @@ use table::Found;
 use views::Test;
 
 // Whether share may be done, and the place for its pair: nothing where the pair is stored already.
-#[derive(Drop)]
+#[derive(Clone, Copy)]
 pub struct SharePlace {
     pub answer: Answer,
     pub free: Found,

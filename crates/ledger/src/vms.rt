@@ -8,7 +8,7 @@ use super::vm_early;
 use numbers::{Answer, PORTS, Refusal, Side, VMS, VmId, accept, refuse};
 use views::Test;
 
-#[derive(Drop)]
+#[derive(Clone, Copy)]
 pub struct Changed {
     pub answer: Answer,
     pub known: u64,

@@ -1,4 +1,6 @@
 // What one more line means to the box where it stands, and what it leaves waiting.
+#![tactic(auto)]
+
 ghost use Rattle.std.specs.Prelude.{◌<◌, ◌≡◌};
 ghost use Rattle.batch.specs.Room.{BATCH, Orderly};
 

@@ -1,6 +1,7 @@
 // Writes the log of a box script: reads the script from standard input, in pieces, and writes a record for each row to standard
 // output (docs/MACHINE.md, 14). Where a line ends it before the script does, standard error says which and why. What ended it is
 // one line more there.
+#![tactic(auto)]
 
 ghost use Rattle.std.specs.Prelude.{◌≤◌, ◌≡◌, length};
 ghost use Rattle.logbox.specs.Room.{LOG_ROOM};
@@ -8,7 +9,7 @@ ghost use Rattle.logbox.specs.Room.{LOG_ROOM};
 use batch::print::print_between;
 use batch::{End, Phase, Work, ended, written};
 use libc::{STDERR_FILENO, STDIN_FILENO, STDOUT_FILENO};
-use log::{LogRefusal, Written};
+use operation_log::{LogRefusal, Written};
 use numbers::ROW_NUMBERS;
 use reading::{LF, bad_after, ends};
 use script::{Line, Reader};
@@ -19,7 +20,7 @@ const LOG_ROOM: usize = 65536;
 const MANY: usize = LOG_ROOM / 2;
 
 // How far the script has come, by whose phase a line has its place or not, and how many bytes of its log wait.
-#[derive(Drop)]
+#[derive(Clone, Copy)]
 struct Logged {
     work: Work,
     waiting: usize,
@@ -91,7 +92,7 @@ fn new_row(logged: Logged, row: [u64; ROW_NUMBERS], room: &mut [u8; LOG_ROOM]) -
     requires { logged.waiting ≤ LOG_ROOM }
     ensures { result.waiting ≤ LOG_ROOM }
 {
-    let put = log::write(row, room, logged.waiting);
+    let put = operation_log::write(row, room, logged.waiting);
     match put {
         Written::Past(next) => {
             let work = logged.work;
@@ -154,7 +155,7 @@ fn line(logged: Logged, said: Line, room: &mut [u8; LOG_ROOM]) -> Logged
 // ---- The script, piece by piece.
 
 // Where the reading has come to: the line under way, and how many of its bytes came since it was bad (reading::Place).
-#[derive(Drop)]
+#[derive(Clone, Copy)]
 struct Place {
     logged: Logged,
     reader: Reader,

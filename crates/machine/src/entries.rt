@@ -89,7 +89,7 @@ pub fn sequence(
 }
 
 // ---- The free query.
-#[derive(Drop)]
+#[derive(Clone, Copy)]
 pub struct FreePages {
     pub answer: Answer,
     pub count: u64,

@@ -1,5 +1,7 @@
 // Operations 7 to 10 and 15 to 20: what is mapped, who is on a port, and what a translation cache holds. CPU and DMA go the
 // same way, each over the maps, the ports, the cache and the hand of its side.
+#![tactic(auto)]
+
 ghost use Rattle.std.specs.Prelude.{◌≡◌, ◌*◌, ◌<◌, ◌≤◌, length, set};
 ghost use Rattle.numbers.specs.Choice.{if◌then◌else◌};
 ghost use Rattle.numbers.specs.Limits.{PAGES, PORTS, SETS, SET_WORDS};
@@ -57,7 +59,7 @@ pub fn unmap_early(known: u64, vm: VmId, guest: GuestPage) -> Answer
 }
 
 // Whether map may be done, and the place for its entry.
-#[derive(Drop)]
+#[derive(Clone, Copy)]
 pub struct MapPlace {
     pub answer: Answer,
     pub at: usize,
@@ -209,7 +211,7 @@ pub fn unmap_page(
 // ---- Ports.
 
 // What a switch leaves: the answer, and who is on each port.
-#[derive(Drop)]
+#[derive(Clone, Copy)]
 pub struct Given {
     pub answer: Answer,
     pub ports: [u64; PORTS as usize],
@@ -295,7 +297,7 @@ fn take_slot(cache: &mut [u64], hand: u64, key: u64, word: u64) -> u64
 }
 
 // Whether a fill may be done, the VM on the port, and the word that the walker has for it.
-#[derive(Drop)]
+#[derive(Clone, Copy)]
 pub struct FillWord {
     pub answer: Answer,
     pub vm: VmId,
@@ -349,7 +351,7 @@ pub fn fill_do(
 }
 
 // What a fill leaves: the answer, and the replacement hand.
-#[derive(Drop)]
+#[derive(Clone, Copy)]
 pub struct Filled {
     pub answer: Answer,
     pub hand: u64,

@@ -148,13 +148,13 @@ module _ (side : Side) (t : Tables) (v : ValidTables t) where
       to : (w ≡ 0 → ⊥) × ((access_of w / bit % 2 ≡ 1) × Unit {0}) → Allowed bit vm guest
       to (n, (e, _)) =
           let m = lookup_mapped (route_of_lem side t v).walker vm guest g (λ z. n (r.some z)) in
-          let q : access_of w ≡ m.access = r.access ∙ ap access_of (mapped_lookup (route_of_lem side t v).walker vm guest m.page m.access m.generation m.mapping) ∙ m.mapping.access_of in
+          let q : access_of w ≡ m.access = r.access ∙ ap access_of (mapped_lookup (route_of_lem side t v).walker vm guest m.page m.access m.generation m.mapping) ∙ m.mapping.access_is in
           record { page = m.page; access = m.access; generation = m.generation; mapped = m.mapping; allowed = rw (← q) e }
 
       fro : Allowed bit vm guest → (w ≡ 0 → ⊥) × ((access_of w / bit % 2 ≡ 1) × Unit {0})
       fro c =
           let e = mapped_lookup (route_of_lem side t v).walker vm guest c.page c.access c.generation c.mapped in
-          let q : access_of w ≡ c.access = r.access ∙ ap access_of e ∙ c.mapped.access_of in
+          let q : access_of w ≡ c.access = r.access ∙ ap access_of e ∙ c.mapped.access_is in
           ((λ z. c.mapped.stored.filled (sym e ∙ r.none z)), (rw q c.allowed, tt))
 
   pub access_exact : (bit port guest word : ℕ) → Decides (accepts (access_answer (route side t).ports (route side t).cache (route side t).walker bit port guest word)) (Accesses side t bit port guest word)

@@ -158,11 +158,11 @@ module _ (side : Side) (t : Tables) (v : ValidTables t) (region : Region) where
           record {
             word = region_entry region k;
             stored = rw e at (lookup_has key_of (route side t).map (key_in region k) (λ z. filled (sym e ∙ z))).0;
-            vm_of = word_vm 0 word_ok;
-            guest_of = word_guest 0 word_ok;
-            page_of = word_page 0 word_ok ∙ entry_page entry_ok;
-            access_of = word_access 0 word_ok ∙ entry_access entry_ok;
-            generation_of = word_generation 0 word_ok ∙ entry_generation entry_ok;
+            vm_is = word_vm 0 word_ok;
+            guest_is = word_guest 0 word_ok;
+            page_is = word_page 0 word_ok ∙ entry_page entry_ok;
+            access_is = word_access 0 word_ok ∙ entry_access entry_ok;
+            generation_is = word_generation 0 word_ok ∙ entry_generation entry_ok;
           }
 
       fro : Stands k → lookup key_of (route side t).map (key_in region k) ≡ region_entry region k
@@ -178,13 +178,13 @@ module _ (side : Side) (t : Tables) (v : ValidTables t) (region : Region) where
   another_exact k = targets_exact (route_of_lem side t v).map (but_key (key_in region k)) (λ w. key_of w ≡ key_in region k → ⊥) (page_in region k) (λ w h. decides_not (decides_equal (key_of w) (key_in region k)))
 
   only_own : RegionGood side t region → (k vm guest access generation : ℕ) → k < region.count → (Another k → ⊥) → Maps (route side t).map vm guest (page_in region k) access generation → (vm ≡ region.vm.0) × (guest ≡ guest_in region k)
-  only_own g k vm guest access generation h none m = ⊎_elim same (λ n. absurd (none (m.word, m.stored, (n, m.page_of)))) (equal (key_of m.word) (key_in region k))
+  only_own g k vm guest access generation h none m = ⊎_elim same (λ n. absurd (none (m.word, m.stored, (n, m.page_is)))) (equal (key_of m.word) (key_in region k))
     where
       same : key_of m.word ≡ key_in region k → (vm ≡ region.vm.0) × (guest ≡ guest_in region k)
       same e =
           let r = (route_of_lem side t v).map.each m.word m.stored in
           let (a, b) = key_same (vm_of m.word) (guest_of m.word) region.vm.0 (guest_in region k) (omega arith) (omega (arith, g.guests_ok)) (sym (map-key m.word r.port r.filled) ∙ e) in
-          (sym m.vm_of ∙ a, sym m.guest_of ∙ b)
+          (sym m.vm_is ∙ a, sym m.guest_is ∙ b)
 
   no_other : (k : ℕ) → ((vm guest access generation : ℕ) → Maps (route side t).map vm guest (page_in region k) access generation → (vm ≡ region.vm.0) × (guest ≡ guest_in region k)) → Another k → ⊥
   no_other k alone (w, h, (n, e)) =

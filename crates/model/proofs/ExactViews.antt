@@ -91,7 +91,7 @@ map-key w p f =
 
 -- a filled word of a table, as a mapping
 pub mapping : {table : List ℕ} (w : ℕ) → Has table w → Maps table (vm_of w) (guest_of w) (page_of w) (access_of w) (generation_of w)
-mapping w h = record { word = w; stored = h; vm_of = refl; guest_of = refl; page_of = refl; access_of = refl; generation_of = refl }
+mapping w h = record { word = w; stored = h; vm_is = refl; guest_is = refl; page_is = refl; access_is = refl; generation_is = refl }
 
 -- in any good table, a side's software map as its walker's
 module _ {side : Side} {pages known : ℕ} {sets pairs table : List ℕ} (g : MapGood side pages known sets pairs table) where
@@ -99,7 +99,7 @@ module _ {side : Side} {pages known : ℕ} {sets pairs table : List ℕ} (g : Ma
   pub whole : (vm guest page access generation : ℕ) (m : Maps table vm guest page access generation) → map_word vm guest (entry page access generation) ≡ m.word
   whole vm guest page access generation m =
       let r = g.each m.word m.stored in
-      rw (← m.vm_of, ← m.guest_of, ← m.page_of, ← m.access_of, ← m.generation_of, entry_whole m.word r.filled) (rw r.port at (word_whole m.word))
+      rw (← m.vm_is, ← m.guest_is, ← m.page_is, ← m.access_is, ← m.generation_is, entry_whole m.word r.filled) (rw r.port at (word_whole m.word))
 
   -- a mapping of a guest page is a word of its key
   keyed_mapped : (vm guest : ℕ) → guest < GUEST_PAGES → (w : ℕ) × Has table w × (key_of w ≡ key vm guest) → Mapped table vm guest
@@ -111,7 +111,7 @@ module _ {side : Side} {pages known : ℕ} {sets pairs table : List ℕ} (g : Ma
   mapped_keyed : (vm guest page access generation : ℕ) (m : Maps table vm guest page access generation) → key_of m.word ≡ key vm guest
   mapped_keyed vm guest page access generation m =
       let r = g.each m.word m.stored in
-      map-key m.word r.port r.filled ∙ rw (m.vm_of, m.guest_of)
+      map-key m.word r.port r.filled ∙ rw (m.vm_is, m.guest_is)
 
   pub mapped_exact : (vm guest : ℕ) → guest < GUEST_PAGES → Decides (is_found (find key_of table (key vm guest))) (Mapped table vm guest)
   mapped_exact vm guest l =
@@ -133,7 +133,7 @@ module _ {side : Side} {pages known : ℕ} {sets pairs table : List ℕ} (g : Ma
   mappings_exact vm =
       decides_as (some_word (of_vm vm) (λ w. vm_of w ≡ vm) table refl (λ w h. filled_too w (g.each w h).filled (decides_equal (vm_of w) vm)))
       (λ (w, h, e). (guest_of w, record { page = page_of w; access = access_of w; generation = generation_of w; mapping = rw e at (mapping w h) }))
-      (λ (guest, m). (m.mapping.word, m.mapping.stored, m.mapping.vm_of))
+      (λ (guest, m). (m.mapping.word, m.mapping.stored, m.mapping.vm_is))
 
   -- some mapping that counts onto the page
   pub targets_exact : (counts : ℕ → Bool) (C : ℕ → Type 0) (page : ℕ) → ((w : ℕ) → Has table w → Decides (counts w) (C w)) →
@@ -151,13 +151,13 @@ module _ {side : Side} {pages known : ℕ} {sets pairs table : List ℕ} (g : Ma
   target_exact page =
       decides_as (targets_exact whichever (λ w. Unit {0}) page (λ w h. always))
       (λ (w, h, e). (vm_of w, record { guest = guest_of w; access = access_of w; generation = generation_of w; mapping = rw e.1 at (mapping w h) }))
-      (λ (mapper, m). (m.mapping.word, m.mapping.stored, (tt, m.mapping.page_of)))
+      (λ (mapper, m). (m.mapping.word, m.mapping.stored, (tt, m.mapping.page_is)))
 
   pub targets_of_exact : (vm page : ℕ) → Decides (targeted (of_vm vm) table page) (Targets table vm page)
   targets_of_exact vm page =
       decides_as (targets_exact (of_vm vm) (λ w. vm_of w ≡ vm) page (λ w h. filled_too w (g.each w h).filled (decides_equal (vm_of w) vm)))
       (λ (w, h, e). record { guest = guest_of w; access = access_of w; generation = generation_of w; mapping = rw (e.0, e.1) at (mapping w h) })
-      (λ m. (m.mapping.word, m.mapping.stored, (m.mapping.vm_of, m.mapping.page_of)))
+      (λ m. (m.mapping.word, m.mapping.stored, (m.mapping.vm_is, m.mapping.page_is)))
 
 -- ---- pairs of valid tables
 module _ (t : Tables) (v : ValidTables t) where

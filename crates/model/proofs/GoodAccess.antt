@@ -128,7 +128,7 @@ module _ (side : Side) (t : Tables) (g : GoodRoute side t (route side t)) (port 
       let e = found in
       record {
         may = may_reach;
-        through = record { side = side; entry = e.entry; stored = e.there; vm_of = e.vm_is; page_of = e.page_is; allowed = rw e.access_is allowed };
+        through = record { side = side; entry = e.entry; stored = e.there; vm_is = e.vm_is; page_is = e.page_is; allowed = rw e.access_is allowed };
       }
 
 -- an accepted access touches one word

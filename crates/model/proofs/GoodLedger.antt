@@ -11,7 +11,7 @@ use borrow.Author.Tests.{eqb-false, ne_eqb, ltb-true, not-false}
 use Rattle.numbers.specs.CaseLaws.{cases, equal}
 use Rattle.numbers.specs.Limits.{VMS, PAIRS}
 use Rattle.numbers.specs.Packing.{filled_of, page_of, vm_of, left_of, right_of, pair_word, pair_key, pair_key_of, PairFits, GUEST_FIELD, PAGE_FIELD}
-use Rattle.numbers.specs.PackingLaws.{pair_left, pair_right, pair_page, pair_filled, pair_port, pair_access, pair_generation, pair_key, pair_same}
+use Rattle.numbers.specs.PackingLaws.{pair_left, pair_right, pair_page, pair_filled, pair_port, pair_access, pair_generation, pair_key_lem, pair_same}
 use Rattle.numbers.specs.declared.Answer.{Answer}
 use Rattle.numbers.specs.declared.Answer.TheVariants.{Accepted}
 use Rattle.numbers.specs.declared.Operation.TheVariants as op
@@ -277,7 +277,7 @@ module _ (t : Tables) (v : ValidTables t) (left right page : ℕ) (answer : Answ
       (λ new.
       record {
         each = λ w h. ⊎_elim (λ q. rw q share_pair) (v.pairs.each w) (has_put_inv pair_key_of t.pairs _ _ w h);
-        once = distinct_put pair_key_of t.pairs _ _ (pair_key f) (omega arith) v.pairs.once;
+        once = distinct_put pair_key_of t.pairs _ _ (pair_key_lem f) (omega arith) v.pairs.once;
       }))
       (λ w h filled e. may_lent Cpu t.sets _ (vm_of w) (page_of w) (share_keeps t.pairs left right page (vm_of w) (page_of w) e))
 

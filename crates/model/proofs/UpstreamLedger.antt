@@ -10,7 +10,7 @@ use borrow.Author.Tests.{eq-eqb, ne_eqb, eqb-false, ltb-true, leb-true, not-fals
 use Rattle.numbers.specs.CaseLaws.{cases, equal}
 use Rattle.numbers.specs.Limits.{VMS, GUEST_PAGES, PAGES}
 use Rattle.numbers.specs.Packing.{pair_key, pair_key_of, pair_word}
-use Rattle.numbers.specs.PackingLaws.{pair_key}
+use Rattle.numbers.specs.PackingLaws.{pair_key_lem}
 use Rattle.numbers.specs.declared.Answer.TheVariants.{Accepted}
 use Rattle.numbers.specs.declared.Operation.TheVariants as op
 use Rattle.numbers.specs.declared.PhysPage.{PhysPage}
@@ -130,7 +130,7 @@ module _ (pairs : List ℕ) (left right page : ℕ) (a : left < VMS) (b : right 
       new f =
           let (i, at) = place_room pair_key_of pairs (pair_key left right page) (λ q. room f) in
           rw (f, ← e) (found_put_same pair_key_of refl pairs (pair_key left right page) (pair_word left right page) i (omega arith)
-          (pair_key {left = left} {right = right} {page = page} (record { left_fits = omega arith; right_fits = omega arith; page_fits = omega arith })) at)
+          (pair_key_lem {left = left} {right = right} {page = page} (record { left_fits = omega arith; right_fits = omega arith; page_fits = omega arith })) at)
 
   put_other : (l r p : ℕ) → (pair_key left right page ≡ pair_key l r p → ⊥) → paired (share_pairs pairs left right page) l r p ≡ paired pairs l r p
   unfolding share_pairs paired
@@ -140,7 +140,7 @@ module _ (pairs : List ℕ) (left right page : ℕ) (a : left < VMS) (b : right 
       new f =
           rw f
           (found_put_other pair_key_of refl pairs (pair_key left right page) (pair_word left right page) (pair_key l r p)
-          (pair_key {left = left} {right = right} {page = page} (record { left_fits = omega arith; right_fits = omega arith; page_fits = omega arith })) (omega arith) n)
+          (pair_key_lem {left = left} {right = right} {page = page} (record { left_fits = omega arith; right_fits = omega arith; page_fits = omega arith })) (omega arith) n)
 
   pub share_seen : (paired pairs left right page ≡ false → 0 < free_entries pairs) → (l r p : ℕ) → l < VMS → r < VMS → p < PAGES →
       paired (share_pairs pairs left right page) l r p ≡ plus_edge (paired pairs) left right page l r p

@@ -58,11 +58,11 @@ pub record Edge (t : Tables) (left right page : ℕ) : Type 0 where
 pub record Maps (table : List ℕ) (vm guest page access generation : ℕ) : Type 0 where
   pub word : ℕ
   pub stored : Has table word
-  pub vm_of : vm_of word ≡ vm
-  pub guest_of : guest_of word ≡ guest
-  pub page_of : page_of word ≡ page
-  pub access_of : access_of word ≡ access
-  pub generation_of : generation_of word ≡ generation
+  pub vm_is : vm_of word ≡ vm
+  pub guest_is : guest_of word ≡ guest
+  pub page_is : page_of word ≡ page
+  pub access_is : access_of word ≡ access
+  pub generation_is : generation_of word ≡ generation
 
 -- onto whatever page, with whatever access and generation
 pub record Mapped (table : List ℕ) (vm guest : ℕ) : Type 0 where

@@ -78,8 +78,8 @@ pub record Through (bit : ℕ) (t : Tables) (vm page : ℕ) : Type 0 where
   pub side : Side
   pub entry : ℕ
   pub stored : Has (route side t).walker entry
-  pub vm_of : vm_of entry ≡ vm
-  pub page_of : page_of entry ≡ page
+  pub vm_is : vm_of entry ≡ vm
+  pub page_is : page_of entry ≡ page
   pub allowed : allows bit entry ≡ true
 
 -- to read it takes READ, to write it WRITE

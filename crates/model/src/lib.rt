@@ -1,9 +1,11 @@
 // The model of the machine has no functions: specs/ says what it means, proofs/ what is proved of it.
+#![tactic(auto)]
+
 use numbers::{PORTS, UNITS};
 use units::Unit;
 
 // What start fixes for good.
-#[derive(Drop)]
+#[derive(Clone, Copy)]
 pub struct Fixed {
     pub pages: u64,
     pub shared_base: u64,
@@ -13,14 +15,14 @@ pub struct Fixed {
 }
 
 // What the header has of a side: the VM on each port, or IDLE, and the next slot to be replaced in its cache.
-#[derive(Drop)]
+#[derive(Clone, Copy)]
 pub struct SideRegisters {
     pub ports: [u64; PORTS as usize],
     pub hand: u64,
 }
 
 // What operations may change.
-#[derive(Drop)]
+#[derive(Clone, Copy)]
 pub struct Registers {
     // A bit for each known VM.
     pub known: u64,
@@ -29,7 +31,7 @@ pub struct Registers {
 }
 
 // The header of a machine, which goes by value into every operation and comes back. Its tables and memory are lent.
-#[derive(Drop)]
+#[derive(Clone, Copy)]
 pub struct Machine {
     pub fixed: Fixed,
     pub registers: Registers,

@@ -191,8 +191,8 @@ module _ {left right page : ℕ} (f : PairFits left right page) where
   pub pair_generation : generation_of (pair_word left right page) ≡ 0
   pair_generation = omega arith
 
-  pub pair_key : pair_key_of (pair_word left right page) ≡ pair_key left right page
-  pair_key = rw (pair_left, pair_right, pair_page, pair_filled)
+  pub pair_key_lem : pair_key_of (pair_word left right page) ≡ pair_key left right page
+  pair_key_lem = rw (pair_left, pair_right, pair_page, pair_filled)
 
 -- the order of the ends does not matter
 pub pair_either : (left right page : ℕ) → pair_key left right page ≡ pair_key right left page

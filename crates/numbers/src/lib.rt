@@ -1,5 +1,7 @@
 // The machine's vocabulary: its limits, kinds of number, answers, operations and packed words.
 // docs/MACHINE.md, sections 1 and 2, say what each means; specs/ gives each enum its numbers.
+#![tactic(auto)]
+
 ghost use Rattle.std.specs.Prelude.{◌≡◌, ◌<◌};
 ghost use Rattle.numbers.specs.Meaning.{refusal_number, answer_numbers, target_number};
 ghost use Rattle.numbers.specs.Packing.{GENERATION_FIELD, ACCESS_FIELD, PAGE_FIELD, GUEST_BIT, GUEST_FIELD, VM_FIELD, PORT_FIELD, entry, slot_word, map_word, pair_word, slot_key, key, port_of, vm_of, guest_of, entry_of, page_of, access_of, generation_of, key_of, address_of, left_of, right_of, filled_of, pair_key, pair_key_of};
@@ -73,24 +75,24 @@ pub const ADDRESS_FIELD: u64 = VM_FIELD * GUEST_FIELD * 2;
 
 // ---- Kinds of number, kept apart.
 
-#[derive(Drop)]
+#[derive(Clone, Copy)]
 pub struct VmId(pub u64);
 
-#[derive(Drop)]
+#[derive(Clone, Copy)]
 pub struct GuestPage(pub u64);
 
-#[derive(Drop)]
+#[derive(Clone, Copy)]
 pub struct PhysPage(pub u64);
 
 // ---- The two sides of the machine, each with a map, a walker map, a cache, a hand and eight ports.
-#[derive(Drop)]
+#[derive(Clone, Copy)]
 pub enum Side {
     Cpu,
     Dma,
 }
 
 // ---- Why something is refused, in the order of the refusal numbers 1 to 16.
-#[derive(Drop)]
+#[derive(Clone, Copy)]
 pub enum Refusal {
     StateNotValid,
     OutOfRange,
@@ -111,28 +113,28 @@ pub enum Refusal {
 }
 
 // ---- What an operation answers. A refusal drops no slot and reads no word.
-#[derive(Drop)]
+#[derive(Clone, Copy)]
 pub enum Answer {
     Accepted { dropped: u64, word: u64 },
     Refused { refusal: Refusal, index: u64 },
 }
 
 // ---- The lowest free page, or the named nothing.
-#[derive(Drop)]
+#[derive(Clone, Copy)]
 pub enum Lowest {
     Page(PhysPage),
     Nothing,
 }
 
 // ---- What a port is given: a VM, or nobody.
-#[derive(Drop)]
+#[derive(Clone, Copy)]
 pub enum Target {
     Idle,
     Vm(VmId),
 }
 
 // ---- A region as a caller names it: the five fields that a unit must equal.
-#[derive(Drop)]
+#[derive(Clone, Copy)]
 pub struct Region {
     pub vm: VmId,
     pub guest: GuestPage,
@@ -142,7 +144,7 @@ pub struct Region {
 }
 
 // ---- What each side has of its own: an operation on the CPU's tables or the same on the devices'.
-#[derive(Drop)]
+#[derive(Clone, Copy)]
 pub enum SideOperation {
     MapPage {
         vm: VmId,
@@ -171,7 +173,7 @@ pub enum SideOperation {
 }
 
 // ---- The operations, eighteen for the twenty-seven numbers: an operation of a side names the side once.
-#[derive(Drop)]
+#[derive(Clone, Copy)]
 pub enum Operation {
     AddVm(VmId),
     RemoveVm(VmId),

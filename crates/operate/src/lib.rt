@@ -1,4 +1,6 @@
 // The joined operation: one of the twenty-seven, on a header and its lent slices.
+#![tactic(auto)]
+
 ghost use Rattle.std.specs.Prelude.{◌≡◌, ◌≤◌};
 ghost use Rattle.numbers.specs.Limits.{UNITS};
 ghost use Rattle.model.specs.Header.{setup_of, header_of, state_of};
@@ -9,13 +11,13 @@ ghost use Rattle.operate.specs.Outcome.{outcome};
 use model::{Fixed, Machine, Registers};
 use numbers::{Answer, Operation, Side, SideOperation};
 
-#[derive(Drop)]
+#[derive(Clone, Copy)]
 pub struct Done {
     pub answer: Answer,
     pub machine: Machine,
 }
 
-#[derive(Drop)]
+#[derive(Clone, Copy)]
 pub struct Stepped {
     pub answer: Answer,
     pub registers: Registers,

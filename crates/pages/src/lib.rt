@@ -1,4 +1,6 @@
 // Sets of pages, one bit a page in lent 64-bit words.
+#![tactic(auto)]
+
 ghost use Rattle.std.specs.Prelude.{◌≡◌, ◌+◌, ◌*◌, ◌/◌, ◌<◌, ◌≤◌, eqb, length};
 ghost use Rattle.numbers.specs.Limits.{PAGES, SETS, SET_WORDS};
 ghost use Rattle.numbers.specs.Packing.{VM_FIELD};

@@ -1,4 +1,5 @@
 // Reads a box script from standard input, in pieces, and has it answered line by line (docs/MACHINE.md, 11).
+#![tactic(auto)]
 
 ghost use Rattle.batch.specs.Room.{Orderly};
 
@@ -62,7 +63,7 @@ fn line(
 
 // Where the reading has come to: the box, the line under way, and how many of its bytes came since it was bad, the first bad
 // one among them.
-#[derive(Drop)]
+#[derive(Clone, Copy)]
 pub struct Place {
     pub work: Work,
     pub reader: Reader,

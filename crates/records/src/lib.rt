@@ -1,4 +1,6 @@
 // Numbers in the bytes of a slice, the lowest first, read and put at a place (docs/MACHINE.md, 14).
+#![tactic(auto)]
+
 ghost use Rattle.std.specs.Prelude.{◌≡◌, ◌+◌, ◌%◌, ◌≤◌, ◌<◌, length};
 ghost use Rattle.model.specs.Sequence.{write_at};
 ghost use Rattle.records.specs.Little.{BYTE, TWO, FOUR, two, four, eight, bytes_of};

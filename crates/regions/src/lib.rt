@@ -1,5 +1,7 @@
 // Operations 11 to 14: a unit's pages go to its VM with their entries, and come back, for CPU or DMA. Each is an answer,
 // of which every check searches the whole region before the next begins, and a deed, done where the answer accepts.
+#![tactic(auto)]
+
 ghost use Rattle.std.specs.Prelude.{◌≡◌};
 ghost use Rattle.model.specs.Regions.{region_early, insert_answer, remove_may, remove_answer};
 ghost use Rattle.regions.specs.Parts.{Sized, InsertReady, InsertDone, InsertLeft, RemoveSized, RemoveReady, RemoveDone, RemoveLeft};

@@ -9,10 +9,10 @@ use Rattle.model.specs.Valid.{Valid}
 use Rattle.model.specs.Entries.{valid, not_valid}
 use Rattle.model.specs.Sequence.{beginning, step_row}
 use Rattle.model.proofs.Kept.{row_valid}
-use Rattle.log.specs.Log.{record_at}
-use Rattle.log.specs.declared.Found.{Found}
-use Rattle.log.specs.declared.Found.TheVariants.{Record, End, Refused}
-use Rattle.log.specs.declared.LogRefusal.{LogRefusal}
+use Rattle.operation_log.specs.Log.{record_at}
+use Rattle.operation_log.specs.declared.Found.{Found}
+use Rattle.operation_log.specs.declared.Found.TheVariants.{Record, End, Refused}
+use Rattle.operation_log.specs.declared.LogRefusal.{LogRefusal}
 use Rattle.replay.specs.Replay.{Course, Replayed, set_out, answered_at, onward, stopped, goes_on, replay_from, replay, replay_refused, JudgedReplay}
 use Rattle.replay.specs.Run.{course_of}
 use Rattle.replay.specs.declared.Stop.TheVariants.{Done, Unreadable, NotValid}

@@ -11,10 +11,10 @@ use Rattle.numbers.specs.Choice.{if◌then◌else◌}
 use Rattle.model.specs.State.{State}
 use Rattle.model.specs.Entries.{valid, not_valid}
 use Rattle.records.specs.Little.{two}
-use Rattle.log.specs.Kinds.{is_kind, body_length}
-use Rattle.log.specs.Log.{LENGTH_BYTES, HEAD_BYTES, length_of, no_record, record_at}
-use Rattle.log.specs.declared.Found.{Found}
-use Rattle.log.specs.declared.Taken.{Taken}
+use Rattle.operation_log.specs.Kinds.{is_kind, body_length}
+use Rattle.operation_log.specs.Log.{LENGTH_BYTES, HEAD_BYTES, length_of, no_record, record_at}
+use Rattle.operation_log.specs.declared.Found.{Found}
+use Rattle.operation_log.specs.declared.Taken.{Taken}
 use Rattle.replay.specs.Replay.{Course, Replayed, set_out, onward, replay_from, JudgedReplay}
 use Rattle.replay.proofs.Pieces.{goes_on_lem, replay_takes}
 

@@ -21,12 +21,12 @@ use Rattle.model.specs.Sequence.{Progress, beginning, write_at, row_at, step_row
 use Rattle.model.specs.WriteLaws.{length-written, written_before, written_behind, written_here}
 use Rattle.model.proofs.Answers.{four}
 use Rattle.table.specs.RepeatLaws.{repeat_last}
-use Rattle.log.specs.Log.{record_at}
-use Rattle.log.specs.LogLaws.{row_numbers}
-use Rattle.log.specs.Logs.{Readings, read_all}
-use Rattle.log.specs.declared.Found.{Found}
-use Rattle.log.specs.declared.Found.TheVariants.{Record, End, Refused}
-use Rattle.log.specs.declared.LogRefusal.{LogRefusal}
+use Rattle.operation_log.specs.Log.{record_at}
+use Rattle.operation_log.specs.LogLaws.{row_numbers}
+use Rattle.operation_log.specs.Logs.{Readings, read_all}
+use Rattle.operation_log.specs.declared.Found.{Found}
+use Rattle.operation_log.specs.declared.Found.TheVariants.{Record, End, Refused}
+use Rattle.operation_log.specs.declared.LogRefusal.{LogRefusal}
 use Rattle.replay.specs.Replay.{Course, Replayed, set_out, answered_at, onward, stopped, replay_from, replay}
 use Rattle.replay.specs.Run.{carried}
 use Rattle.replay.specs.RunLaws.{length-answered}

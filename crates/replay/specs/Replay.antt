@@ -9,10 +9,10 @@ use Rattle.numbers.specs.declared.Refusal.TheVariants.{StateNotValid}
 use Rattle.model.specs.State.{State}
 use Rattle.model.specs.Entries.{Judged}
 use Rattle.model.specs.Sequence.{write_at, step_row}
-use Rattle.log.specs.Log.{log_refusal_number, record_at}
-use Rattle.log.specs.declared.Found.{Found}
-use Rattle.log.specs.declared.Found.TheVariants.{Record, End, Refused}
-use Rattle.log.specs.declared.Taken.{Taken}
+use Rattle.operation_log.specs.Log.{log_refusal_number, record_at}
+use Rattle.operation_log.specs.declared.Found.{Found}
+use Rattle.operation_log.specs.declared.Found.TheVariants.{Record, End, Refused}
+use Rattle.operation_log.specs.declared.Taken.{Taken}
 use Rattle.replay.specs.declared.Stop.{Stop}
 use Rattle.replay.specs.declared.Stop.TheVariants.{Done, Unreadable, NotValid}
 

@@ -14,10 +14,10 @@ use Rattle.model.specs.Sequence.{Progress, beginning, write_at, operation_in, ro
 use Rattle.model.specs.ShapeLaws.{SameSizes}
 use Rattle.model.specs.WriteLaws.{length-written}
 use Rattle.sequence.specs.RunLaws.{join_sizes, same_sizes, row_sizes}
-use Rattle.log.specs.Log.{record_at}
-use Rattle.log.specs.declared.Found.TheVariants.{Record, End, Refused}
-use Rattle.log.specs.declared.LogRefusal.{LogRefusal}
-use Rattle.log.specs.declared.Taken.{Taken}
+use Rattle.operation_log.specs.Log.{record_at}
+use Rattle.operation_log.specs.declared.Found.TheVariants.{Record, End, Refused}
+use Rattle.operation_log.specs.declared.LogRefusal.{LogRefusal}
+use Rattle.operation_log.specs.declared.Taken.{Taken}
 use Rattle.replay.specs.Replay.{Course, set_out, answered_at, onward, stopped, replay_from}
 use Rattle.replay.specs.Run.{carried, course_of}
 use Rattle.replay.specs.declared.Stop.TheVariants.{Done, Unreadable}

@@ -1,4 +1,6 @@
 // Replay: the records of a log carried out one after the other, over a state that is judged once, before the first.
+#![tactic(auto)]
+
 ghost use Rattle.std.specs.Prelude.{◌≡◌};
 ghost use Rattle.model.specs.Header.{header_of, state_of};
 ghost use Rattle.operate.specs.Fit.{Fit};
@@ -6,12 +8,12 @@ ghost use Rattle.sequence.specs.Run.{progress};
 ghost use Rattle.replay.specs.Replay.{stop_number, set_out, replay_from, JudgedReplay};
 ghost use Rattle.replay.specs.Run.{carried, halted, came};
 
-use log::{Found, LogRefusal};
+use operation_log::{Found, LogRefusal};
 use model::{Fixed, Machine, Registers};
 use numbers::{ANSWER_NUMBERS, ROW_NUMBERS, Refusal};
 
 // ---- Why it stopped.
-#[derive(Drop)]
+#[derive(Clone, Copy)]
 pub enum Stop {
     // As many records as were asked for are taken, or the log ended.
     Done,
@@ -20,7 +22,7 @@ pub enum Stop {
 }
 
 // How far it came: the header, how many records it took, and the place of the next.
-#[derive(Drop)]
+#[derive(Clone, Copy)]
 pub struct Replayed {
     pub stop: Stop,
     pub machine: Machine,
@@ -34,7 +36,7 @@ pub fn stop_number(stop: Stop) -> u64
 {
     match stop {
         Stop::Done => 0,
-        Stop::Unreadable(why) => log::log_refusal_number(why),
+        Stop::Unreadable(why) => operation_log::log_refusal_number(why),
         Stop::NotValid => numbers::refusal_number(Refusal::StateNotValid),
     }
 }
@@ -129,7 +131,7 @@ fn run(
     let mut at = place;
     let mut taken = 0;
     while taken < most {
-        let record = log::read_at(log, at);
+        let record = operation_log::read_at(log, at);
         let found = record.found;
         match found {
             Found::Record => {}

@@ -1,7 +1,7 @@
 -- The log's buffer, and the text of a record.
 use Rattle.std.specs.Prelude.{ℕ, ◌+◌, ◌*◌, ◌≤◌}
 use Rattle.batch.specs.Room.{NUMBER_BYTES, ANSWER_BYTES}
-use Rattle.log.specs.Log.{FIELDS}
+use Rattle.operation_log.specs.Log.{FIELDS}
 
 -- the buffer's bytes: the longest record has 65,537
 abbrev pub LOG_ROOM : ℕ

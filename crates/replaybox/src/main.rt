@@ -1,5 +1,6 @@
 // Runs a box script as runbox does, then replays a log on the box that stands at its end, with a line for each record
 // (docs/MACHINE.md, 14). What ended it is one line more, on standard error.
+#![tactic(auto)]
 
 mod source;
 mod text;
@@ -12,7 +13,7 @@ use batch::carry::words_of;
 use batch::print::{ANSWER_ROOM, BATCH, print_between, print_text};
 use batch::{CACHE_WORDS, End, MEMORY_WORDS, Phase, ROWS_ROOM, SETS_WORDS, UNITS_ROOM};
 use libc::{STDERR_FILENO, STDOUT_FILENO};
-use log::LogRefusal;
+use operation_log::LogRefusal;
 use model::Machine;
 use numbers::{ENTRIES, PAIRS};
 use reading::{finish, run};
@@ -24,7 +25,7 @@ use text::print_records;
 // ---- The arguments.
 
 // How many records were asked for, or what is wrong.
-#[derive(Drop)]
+#[derive(Clone, Copy)]
 enum Wish {
     Most(u64),
     OtherCount,
@@ -65,7 +66,7 @@ fn open_log() -> i32 {
 }
 
 // ---- How far the replay has come.
-#[derive(Drop)]
+#[derive(Clone, Copy)]
 enum Way {
     Open,
     // As many records as were asked for are taken, or the log ended.
@@ -76,7 +77,7 @@ enum Way {
     CannotWrite,
 }
 
-#[derive(Drop)]
+#[derive(Clone, Copy)]
 struct Course {
     way: Way,
     machine: Machine,

@@ -9,14 +9,14 @@ pub const LOG_ROOM: usize = 131072;
 const LONGEST: usize = 65537;
 
 // What is still to come of the file.
-#[derive(Drop)]
+#[derive(Clone, Copy)]
 pub enum Tail {
     More,
     Nothing,
     CannotRead,
 }
 
-#[derive(Drop)]
+#[derive(Clone, Copy)]
 pub struct Source {
     pub tail: Tail,
     // How many bytes of the file came before the buffer's first.
@@ -57,7 +57,7 @@ fn shift(buffer: &mut [u8], place: usize, count: usize)
 }
 
 // One read, and how many bytes it gave.
-#[derive(Drop)]
+#[derive(Clone, Copy)]
 struct Got {
     failed: bool,
     count: usize,

@@ -22,7 +22,7 @@ fn put_row(text: &mut [u8], at: usize, row: [u64; ROW_NUMBERS]) -> usize
     requires { at + ROW_BYTES ≤ length text.old }
     ensures { result ≤ at + ROW_BYTES }
 {
-    let count = log::argument_count(row[0]);
+    let count = operation_log::argument_count(row[0]);
     let mut end = at;
     let mut i = 0;
     while i < count {
@@ -43,7 +43,7 @@ pub fn print_records(log: &[u8], place: usize, room: &[u64; ANSWER_ROOM], count:
     let mut from = place;
     let mut k = 0;
     while k < count {
-        let record = log::read_at(log, from);
+        let record = operation_log::read_at(log, from);
         let row = record.row;
         let answered = put_row(&mut text, at, row);
         at = put_answer(&mut text, answered, room, k);

@@ -1,4 +1,6 @@
 // Operation 27: a VM is retired with all that it has. Nothing is written before the last check.
+#![tactic(auto)]
+
 ghost use Rattle.std.specs.Prelude.{◌≡◌, ◌*◌, ◌<◌, ◌≤◌, length};
 ghost use Rattle.numbers.specs.Limits.{PAGES, PAGE_WORDS, VMS, SETS, SET_WORDS};
 ghost use Rattle.model.specs.Effect.{cleared_pages};
@@ -187,7 +189,7 @@ pub fn retire_do(
     cpu + dma
 }
 
-#[derive(Drop)]
+#[derive(Clone, Copy)]
 pub struct Retired {
     pub answer: Answer,
     pub known: u64,

@@ -1,4 +1,6 @@
 // Rows: the operation that eight numbers name. No other code reads a row's number as idle; `script` and `numbers::target_number` write it.
+#![tactic(auto)]
+
 ghost use Rattle.std.specs.Prelude.{◌≡◌, ◌+◌, ◌*◌, ◌≤◌, length};
 ghost use Rattle.numbers.specs.Limits.{ROW_NUMBERS};
 ghost use Rattle.model.specs.Sequence.{target_of, region_of, operation_of, operation_in, row_at};
@@ -8,7 +10,7 @@ use numbers::{
     GuestPage, IDLE, Operation, PhysPage, ROW_NUMBERS, Region, Side, SideOperation, Target, VmId,
 };
 
-#[derive(Drop)]
+#[derive(Clone, Copy)]
 pub enum Decoded {
     Known(Operation),
     Unknown,

@@ -1,5 +1,6 @@
 // Runs a box script: reads it from standard input, in pieces, and writes a line for a line (docs/MACHINE.md, 11). What ended
 // it is one line more, on standard error.
+#![tactic(auto)]
 
 use batch::{CACHE_WORDS, End, MEMORY_WORDS, Phase, ROWS_ROOM, SETS_WORDS, UNITS_ROOM, Work};
 use libc::STDERR_FILENO;

@@ -1,5 +1,7 @@
 // Reads one line of a box script, byte by byte (docs/MACHINE.md, 11).
 // The reader keeps no text: only the numbers so far, and what the word under way may still become.
+#![tactic(auto)]
+
 ghost use Rattle.std.specs.Prelude.{◌≡◌, true, ◌-◌, ◌<◌};
 ghost use Rattle.script.specs.Lines.{is_digit, is_blank, takes_idle, line_of};
 ghost use Rattle.script.specs.Steps.{first_part, more_digits, more_letters, lengthened, begun, said, spoilt, pushed, is_empty, is_row, opened, with_number, may_idle, with_idle, added, ended, line_from, taken, arrived, fed_with, line_start, line_end, is_spoilt, is_strange, is_bad};
@@ -27,7 +29,7 @@ const REE: u64 = 114 + (101 + 101 * 256) * 256;
 const DLE: u64 = 100 + (108 + 101 * 256) * 256;
 
 // ---- What a whole line says.
-#[derive(Drop)]
+#[derive(Clone, Copy)]
 pub enum Line {
     Blank,
     Box {
@@ -58,7 +60,7 @@ pub enum Line {
 }
 
 // ---- What a whole word says.
-#[derive(Drop)]
+#[derive(Clone, Copy)]
 pub enum Word {
     Number(u64),
     BoxWord,
@@ -70,7 +72,7 @@ pub enum Word {
 
 // ---- What the bytes of a word so far can become. Letters are the beginning of a known word, whose other letters are rest:
 // the next one in the low byte, 0 after the last.
-#[derive(Drop)]
+#[derive(Clone, Copy)]
 pub enum Part {
     Nothing,
     Digits(u64),
@@ -79,7 +81,7 @@ pub enum Part {
 }
 
 // ---- What the words so far can become.
-#[derive(Drop)]
+#[derive(Clone, Copy)]
 pub enum Kind {
     NoWords,
     BoxLine,
@@ -90,7 +92,7 @@ pub enum Kind {
 }
 
 // The words so far: count numbers, and 0 in the other places.
-#[derive(Drop)]
+#[derive(Clone, Copy)]
 pub struct Words {
     pub kind: Kind,
     pub count: usize,
@@ -98,7 +100,7 @@ pub struct Words {
 }
 
 // The text so far: its whole words, and the word under way.
-#[derive(Drop)]
+#[derive(Clone, Copy)]
 pub struct Text {
     pub words: Words,
     pub part: Part,
@@ -106,7 +108,7 @@ pub struct Text {
 }
 
 // A CR waits for the byte after it: only at the end of a line is it no part of the text.
-#[derive(Drop)]
+#[derive(Clone, Copy)]
 pub struct Reader {
     pub text: Text,
     pub cr: bool,

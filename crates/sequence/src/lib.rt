@@ -1,4 +1,6 @@
 // The sequence: rows carried out one after the other, each answered, over a state that has been judged.
+#![tactic(auto)]
+
 ghost use Rattle.std.specs.Prelude.{◌≡◌, ◌+◌, ◌*◌, ◌≤◌, length};
 ghost use Rattle.numbers.specs.Limits.{ROW_NUMBERS, ANSWER_NUMBERS};
 ghost use Rattle.numbers.specs.Meaning.{answer_numbers};
@@ -137,7 +139,7 @@ fn shape(rows: usize, room: usize) -> Answer
     }
 }
 
-#[derive(Drop)]
+#[derive(Clone, Copy)]
 pub struct Ran {
     pub answer: Answer,
     pub machine: Machine,

@@ -1,4 +1,6 @@
 // An operation of one side, over the tables of that side alone: what stands on the other is not handed here.
+#![tactic(auto)]
+
 ghost use Rattle.std.specs.Prelude.{◌≡◌};
 ghost use Rattle.sides.specs.Sides.{sight, side_stepped, side_step, Sized};
 
@@ -6,7 +8,7 @@ use model::SideRegisters;
 use numbers::{Answer, Side, SideOperation};
 
 // The answer, and the part of the header that a side's operation may change.
-#[derive(Drop)]
+#[derive(Clone, Copy)]
 pub struct SideDone {
     pub answer: Answer,
     pub registers: SideRegisters,

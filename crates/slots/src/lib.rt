@@ -1,4 +1,6 @@
 // Slot records, and one cache of them as the words of the core: loaded, stored, and one slot searched, filled and emptied.
+#![tactic(auto)]
+
 ghost use Rattle.std.specs.Prelude.{◌≡◌, map, replicate};
 ghost use Rattle.numbers.specs.Limits.{SLOTS};
 ghost use Rattle.numbers.specs.Meaning.{refusal_number};
@@ -13,7 +15,7 @@ use table::Found;
 
 // ---- A slot of a translation cache. Its numbers fill 64 bits, so that any record is the slot of one word.
 #[repr(C)]
-#[derive(Drop)]
+#[derive(Clone, Copy)]
 pub struct Slot {
     pub port: u8,
     pub vm: u8,
@@ -118,7 +120,7 @@ pub fn find(words: [u64; SLOTS as usize], port: u64, vm: u64, guest: u64) -> usi
 }
 
 // ---- A change of one slot: the words as it leaves them, and its number, 0 or a refusal's.
-#[derive(Drop)]
+#[derive(Clone, Copy)]
 pub struct Changed {
     pub words: [u64; SLOTS as usize],
     pub number: u64,

@@ -1,4 +1,6 @@
 // Start: what it is told is judged whole before a word is touched; then every table is made anew.
+#![tactic(auto)]
+
 ghost use Rattle.std.specs.Prelude.{◌≡◌, ◌&&◌, ◌+◌, ◌*◌, ◌<◌, ◌≤◌, ltb, leb, length, replicate};
 ghost use Rattle.numbers.specs.Limits.{PAGES, SETS, SET_WORDS, UNITS};
 ghost use Rattle.table.specs.Scan.{any_below, repeat};
@@ -314,7 +316,7 @@ pub fn empty_machine() -> Machine
 
 // ---- Start.
 
-#[derive(Drop)]
+#[derive(Clone, Copy)]
 pub struct Started {
     pub answer: Answer,
     pub machine: Machine,

@@ -1,12 +1,14 @@
 // Bounded tables of packed words over lent slices: a word is 0, an empty place, or is filed under its key.
 // Table code goes by the slice's length and knows no capacity.
+#![tactic(auto)]
+
 ghost use Rattle.std.specs.Prelude.{◌≡◌, length, replicate};
 ghost use Rattle.numbers.specs.Packing.{key_of, address_of};
 ghost use Rattle.table.specs.Loops.{Seeking};
 ghost use Rattle.table.specs.Scan.{count};
 ghost use Rattle.table.specs.Table.{is_empty, has_key, find, lookup, lowest_free, free_entries, place, put, erase};
 
-#[derive(Drop)]
+#[derive(Clone, Copy)]
 pub enum Found {
     At(usize),
     Nothing,

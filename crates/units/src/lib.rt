@@ -1,4 +1,6 @@
 // Units: the regions that start allows to be assigned, each marked for a side or for both.
+#![tactic(auto)]
+
 ghost use Rattle.std.specs.Prelude.{◌≡◌, ◌≤◌, ◌<◌};
 ghost use Rattle.numbers.specs.Limits.{UNITS};
 ghost use Rattle.units.specs.Units.{mark_number, is_mark, mark_of, suits, is_unit, assignable};
@@ -6,14 +8,14 @@ ghost use Rattle.units.specs.Spans.{span_within, region_span};
 
 use numbers::{GUEST_PAGES, GuestPage, PhysPage, Region, Side, UNITS, VmId};
 
-#[derive(Drop)]
+#[derive(Clone, Copy)]
 pub enum Mark {
     Cpu,
     Dma,
     Both,
 }
 
-#[derive(Drop)]
+#[derive(Clone, Copy)]
 pub struct Unit {
     pub vm: VmId,
     pub guest: GuestPage,

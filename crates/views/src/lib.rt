@@ -1,4 +1,6 @@
 // The questions that operations ask of the tables: who claims a page, who maps it, who shares it.
+#![tactic(auto)]
+
 ghost use Rattle.std.specs.Prelude.{◌≡◌, ◌*◌, ◌<◌, length};
 ghost use Rattle.numbers.specs.Limits.{PAGES, VMS, SETS, SET_WORDS};
 ghost use Rattle.numbers.specs.Packing.{pair_key, pair_key_of};
@@ -56,7 +58,7 @@ pub fn has_pages(side: Side, sets: &[u64], vm: VmId) -> bool
 
 // ---- Words of a table. One search serves every question; a test says which words count.
 
-#[derive(Drop)]
+#[derive(Clone, Copy)]
 pub enum Test {
     // A mapping onto the page, or a pair on it.
     OnPage(PhysPage),

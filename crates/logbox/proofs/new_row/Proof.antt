@@ -1,7 +1,7 @@
 use Prim.Native.Nat.{◌≤◌}
 use mathlib.Core.Path.{◌≡◌, sym, ◌∙◌}
 use native.Mathlib.Omega.{arith}
-use Rattle.log.specs.LogLaws.{taken_written}
+use Rattle.operation_log.specs.LogLaws.{taken_written}
 use Rattle.logbox.specs.Room.{LOG_ROOM}
 use borrow.Author.Rules.{rules}
 use Rattle.logbox.proofs.new_row.Statement.{statement}

@@ -1,6 +1,6 @@
 use Rattle.std.proofs.Common.{◌≡◌, ◌+◌, ◌-◌, ◌*◌, ◌≤◌, length, arith, length-set, rules}
 use Rattle.batch.specs.Room.{NUMBER_BYTES}
-use Rattle.log.specs.Log.{FIELDS}
+use Rattle.operation_log.specs.Log.{FIELDS}
 use Rattle.replaybox.proofs.text.put_row.Statement.{statement}
 use Rattle.replaybox.proofs.text.put_row.Tie as tie
 

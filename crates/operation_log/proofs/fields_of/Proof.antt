@@ -1,0 +1,28 @@
+use borrow.Author.Rules.{rules}
+use Rattle.operation_log.proofs.fields_of.Statement.{statement}
+use Rattle.operation_log.proofs.fields_of.Tie as tie
+
+returns : tie.Need-returns
+returns c = rw (← c.before.writes-value.ensures, c.if1.true)
+
+returns-2 : tie.Need-returns-2
+returns-2 c = rw (← c.before.writes-value.ensures, c.if1.false)
+
+pub fields_of_spec : {M : Type 1} → statement M
+fields_of_spec =
+    tie.close
+    (tie.spec
+    (λ c. search rules)
+    (λ c κs. search rules)
+    (λ c. search rules)
+    (λ c. search rules)
+    (λ c. search rules)
+    (λ c. search rules)
+    (λ c. search rules)
+    returns
+    (λ c. search rules)
+    (λ c. search rules)
+    (λ c. search rules)
+    (λ c. search rules)
+    (λ c. search rules)
+    returns-2)
