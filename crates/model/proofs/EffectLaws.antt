@@ -86,6 +86,7 @@ listed page (x ∷ xs) = ⊎_elim (λ e. inl (inl e)) (λ n. ⊎_elim (λ h. inl
 
 -- a store to a word is one to its page
 pub store_on : (page word : ℕ) (stores : List Store) → StoreAt page word stores → StoreOn page stores
+store_on page word [] o = absurd o
 store_on page word (x ∷ xs) (inl e) = inl e.0
 store_on page word (x ∷ xs) (inr o) = inr (store_on page word xs o)
 
@@ -115,6 +116,7 @@ module _ (page word : ℕ) (h : word < PAGE_WORDS) where
   -- or where it is stored to, whatever stood there
   pub stored_over : (stores : List Store) → StoreAt page word stores → (a b : List ℕ) → length a ≡ length b → word_in (stored stores a) page word ≡ word_in (stored stores b) page word
   unfolding stored
+  stored_over [] o a b l = absurd o
   stored_over (x ∷ xs) (inl (p, w)) a b l =
       rw (p, w) (stores_agree xs _ _ (length-set a _ _ ∙ l ∙ sym (length-set b _ _)) (store_here a b page word x.value l))
   stored_over (x ∷ xs) (inr o) a b l = stored_over xs o _ _ (length-set a _ _ ∙ l ∙ sym (length-set b _ _))

@@ -102,11 +102,14 @@ row_effect s row = known_effect s (operation_in row)
 -- ---- a word that a VM wrote is what was stored, whatever stood there
 over : (effect : Effect) (vm page word : ℕ) → word < PAGE_WORDS → Wrote effect vm page word → (a b : List ℕ) → length a ≡ length b → word_in (apply effect a) page word ≡ word_in (apply effect b) page word
 unfolding apply
+over (reads w xs) vm page word h wrote a b l = absurd wrote
+over (clears xs) vm page word h wrote a b l = absurd wrote
 over (writes w xs) vm page word h wrote a b l = stored_over page word h xs wrote.1 a b l
 
 known_over : (t : Tables) (found : Option Operation) (vm page word : ℕ) → word < PAGE_WORDS → Wrote (effect_in t found) vm page word → (a b : List ℕ) → length a ≡ length b →
     word_in (step_known (record { tables = t; memory = a }) found).state.memory page word ≡ word_in (step_known (record { tables = t; memory = b }) found).state.memory page word
 unfolding step
+known_over t none vm page word h wrote a b l = absurd wrote
 known_over t (some x) vm page word h wrote a b l = over (control t x).effect vm page word h wrote a b l
 
 pub written_over : (t : Tables) (row : List ℕ) (vm page word : ℕ) → word < PAGE_WORDS → Wrote (effect_in t (operation_in row)) vm page word → (a b : List ℕ) → length a ≡ length b →

@@ -1,6 +1,6 @@
 -- Reading a line byte by byte finds what the line means.
 use Rattle.std.specs.Prelude.{ℕ, zero, suc, ◌+◌, ◌≤◌, ◌<◌, Bool, true, false, List, [], ◌∷◌, ◌++◌, map, ◌≡◌, eqb, ltb, length, get_or, set, drop}
-use Rattle.std.proofs.Common.{append-nil, ap, ◌∙◌, add-one, arith, length-append, drop_of_length-le, drop-cons}
+use Rattle.std.proofs.Common.{append-nil, ap, subst, ◌∙◌, add-one, arith, length-append, drop_of_length-le, drop-cons}
 use Rattle.std.proofs.Math.Logic.{⊎_elim}
 use Rattle.std.proofs.Math.Path.{refl, sym}
 use borrow.Author.Tests.{eqb-true, le-leb, lt-leb, lt-ltb, le-ltb, ltb-true, ltb-false, ne_eqb}
@@ -44,7 +44,7 @@ module _ (b : ℕ) (rest : List ℕ) where
       → (t : Text) → (fed_all (arrived t b) rest).text ≡ taken_all t (without_return (b ∷ rest))
   unfolding arrived
   arrives go wait t =
-      ⊎_elim (λ e. let q : b ≡ RETURN = eqb-true b RETURN e in rw q (wait t))
+      ⊎_elim (λ e. subst (λ x. (fed_all (arrived t x) rest).text ≡ taken_all t (without_return (x ∷ rest))) (sym (eqb-true b RETURN e)) (wait t))
       (λ e. rw e (go (taken t b)) ∙ sym (kept t b rest e))
       (cases (eqb b RETURN))
 
