@@ -6,11 +6,12 @@ use lib.Bits.{bit_and}
 use lib.Dec.{eqb}
 use lib.ListN.{get_or}
 use Rattle.numbers.specs.Decides.{Decides}
-use Rattle.numbers.specs.DecidesLaws.{says_no, refutes, failed, passed}
+use Rattle.numbers.specs.DecidesLaws.{says_no, refutes}
 use Rattle.model.specs.Views.{knows}
 use Rattle.judge_homes.specs.Columns.{pool_word, shared_word, Apart}
 use Rattle.judge_homes.specs.WordLaws.{apart_decides}
 use Rattle.judge_homes.specs.ColumnLaws.{NextGood, two_apart, pass_start, pass_next, pass_good, pass_end}
+use Rattle.numbers.specs.DecidesLaws.{refutes}
 use Rattle.judge_homes.proofs.homes_good.Goals as goal
 
 pub returns-then-pool-shared-ne0 : goal.returns-then-pool-shared-ne0
@@ -34,7 +35,7 @@ pub returns-then-not-vm_good : goal.returns-then-not-vm_good
 unfolding knows
 returns-then-not-vm_good c = let next : let a = c.args in
     let now = c.loop-vm in
-    Decides c.vm_good.result (NextGood a.known a.sets.now a.k now.vm now.held now.dma-held) =
+    Decides c.vm_good.result (NextGood a.known a.sets.now a.k now.vm now.held now.dma_held) =
     rw (
       c.has_bit.ensures,
       c.column_word-pool.ensures,
@@ -43,14 +44,14 @@ returns-then-not-vm_good c = let next : let a = c.args in
       c.column_word-dma.ensures,
       c.dma_row.ensures,
     ) at c.vm_good.ensures in
-    says_no (λ g. failed next c.if-not-vm_good.true (pass_good _ _ _ _ _ _ _ c.loop-vm.invariant c.loop-vm-test.true g))
+    says_no (λ g. refutes next c.if-not-vm_good.true (pass_good _ _ _ _ _ _ _ c.loop-vm.invariant c.loop-vm-test.true g))
 
 pub loop-vm-preserved : goal.loop-vm-preserved
 unfolding knows
 loop-vm-preserved c = let fit : (i : ℕ) → get_or c.args.sets.now i 0 < 2 ^ 64 = λ i. omega (arith, c.shared_slice_known-1.given i) in
     let next : let a = c.args in
     let now = c.loop-vm in
-    Decides c.vm_good.result (NextGood a.known a.sets.now a.k now.vm now.held now.dma-held) =
+    Decides c.vm_good.result (NextGood a.known a.sets.now a.k now.vm now.held now.dma_held) =
     rw (
       c.has_bit.ensures,
       c.column_word-pool.ensures,
@@ -65,7 +66,7 @@ loop-vm-preserved c = let fit : (i : ℕ) → get_or c.args.sets.now i 0 < 2 ^ 6
       c.column_word-dma.ensures,
       c.dma_row.ensures,
     )
-    (pass_next _ _ _ (fit known) _ _ _ c.loop-vm.invariant c.loop-vm-test.true (passed (next (c1)) c.if-not-vm_good.false))
+    (pass_next _ _ _ fit _ _ _ c.loop-vm.invariant c.loop-vm-test.true (next.sound c.if-not-vm_good.false))
 
 pub returns : goal.returns
 returns c = pass_end _ _ _ _ _ _ _ c.loop-vm.invariant c.loop-vm-test.false

@@ -6,4 +6,4 @@ use Rattle.judge_homes.proofs.vm_good.Goals as goal
 pub returns : goal.returns
 returns c =
     let a = c.args in
-    vm_decides a.known a.pool a.held a.dma-held a.cpu a.dma (omega arith) (omega arith) (omega arith) (omega arith) (omega arith)
+    vm_decides a.known a.pool a.held a.dma_held a.cpu a.dma (omega arith) (omega arith) (omega arith) (omega arith) (omega arith)

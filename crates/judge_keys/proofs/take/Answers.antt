@@ -1,9 +1,9 @@
 -- `judge_keys::take` meets its contract. The words that the walk has passed are taken out, each once.
 use mathlib.Core.Bool.{true≢false}
 use mathlib.Core.Path.{sym}
-use Rattle.numbers.specs.DecidesLaws.{failed, passed}
 use Rattle.judge_keys.specs.ChainLaws.{chain_of, walk_start, walk_on, walk_next}
 use Rattle.judge_keys.specs.PlaceLaws.{shows_inside, match_start, match_fails, match_next}
+use Rattle.numbers.specs.DecidesLaws.{refutes}
 use Rattle.judge_keys.proofs.take.Goals as goal
 
 pub loop-at-init : goal.loop-at-init
@@ -22,7 +22,7 @@ returns-then-not-has_word c =
     let own = walk_on _ _ _ _ l r.0 n in
     record {
       matched = λ z. absurd (true≢false (sym z));
-      differs = λ z. match_fails _ _ _ _ _ r.1 own n (failed c.has_word.ensures c.if-not-has_word.true);
+      differs = λ z. match_fails _ _ _ _ _ r.1 own n (refutes c.has_word.ensures c.if-not-has_word.true);
     }
 
 pub loop-at-preserved : goal.loop-at-preserved
@@ -31,5 +31,5 @@ loop-at-preserved c =
     let r = c.loop-at.invariant in
     let n = c.loop-at-test.true in
     let own = walk_on _ _ _ _ l r.0 n in
-    let shown = passed c.has_word.ensures c.if-not-has_word.false in
+    let shown = c.has_word.ensures.sound c.if-not-has_word.false in
     rw (c.wide-at-in-loop-at.ensures, c.low_of-low.ensures.0) (walk_next _ _ _ _ l r.0 n, match_next _ _ _ _ _ r.1 own n _ l r.0 shown)

@@ -1,0 +1,6 @@
+use Rattle.regions.specs.RegionLaws.{insert_ready}
+use Rattle.regions.proofs.insert_region.Goals as goal
+
+pub insert_do-requires : goal.insert_do-requires
+insert_do-requires c =
+    insert_ready _ _ _ _ _ _ _ c.requires c.insert_answer-answer.ensures c.in_default.is
