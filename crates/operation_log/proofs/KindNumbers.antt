@@ -27,15 +27,24 @@ use Rattle.operation_log.specs.KindLaws.{each_kind}
 -- ---- as many arguments as the operation of that number has
 side_counts : (side : Side) (operation : SideOperation) → length (side_arguments operation) ≡ argument_count (side_number side operation)
 unfolding argument_counts
-side_counts side (sided.MapPage vm guest page access generation) = elim side [ Cpu ↦ refl | Dma ↦ refl ]
-side_counts side (sided.UnmapPage vm guest) = elim side [ Cpu ↦ refl | Dma ↦ refl ]
-side_counts side (sided.InsertRegion region) = elim side [ Cpu ↦ refl | Dma ↦ refl ]
-side_counts side (sided.RemoveRegion region) = elim side [ Cpu ↦ refl | Dma ↦ refl ]
-side_counts side (sided.GivePort port target) = elim side [ Cpu ↦ refl | Dma ↦ refl ]
-side_counts side (sided.FillSlot port guest) = elim side [ Cpu ↦ refl | Dma ↦ refl ]
-side_counts side (sided.EmptySlot slot) = elim side [ Cpu ↦ refl | Dma ↦ refl ]
-side_counts side (sided.ReadWord port guest word) = elim side [ Cpu ↦ refl | Dma ↦ refl ]
-side_counts side (sided.WriteWord port guest word value) = elim side [ Cpu ↦ refl | Dma ↦ refl ]
+side_counts Cpu (sided.MapPage vm guest page access generation) = refl
+side_counts Dma (sided.MapPage vm guest page access generation) = refl
+side_counts Cpu (sided.UnmapPage vm guest) = refl
+side_counts Dma (sided.UnmapPage vm guest) = refl
+side_counts Cpu (sided.InsertRegion region) = refl
+side_counts Dma (sided.InsertRegion region) = refl
+side_counts Cpu (sided.RemoveRegion region) = refl
+side_counts Dma (sided.RemoveRegion region) = refl
+side_counts Cpu (sided.GivePort port target) = refl
+side_counts Dma (sided.GivePort port target) = refl
+side_counts Cpu (sided.FillSlot port guest) = refl
+side_counts Dma (sided.FillSlot port guest) = refl
+side_counts Cpu (sided.EmptySlot slot) = refl
+side_counts Dma (sided.EmptySlot slot) = refl
+side_counts Cpu (sided.ReadWord port guest word) = refl
+side_counts Dma (sided.ReadWord port guest word) = refl
+side_counts Cpu (sided.WriteWord port guest word value) = refl
+side_counts Dma (sided.WriteWord port guest word value) = refl
 
 pub argument_counts_lem : (operation : Operation) → length (operation_arguments operation) ≡ argument_count (operation_number operation)
 unfolding argument_counts

@@ -1,5 +1,4 @@
--- What is proved of the log, and what the walks over a reader share.
+-- What is proved of the log.
 pub mod KindNumbers
 pub mod ReadWritten
-pub mod Readers
 pub mod Worked

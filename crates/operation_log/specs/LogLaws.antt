@@ -7,15 +7,15 @@ use Rattle.std.proofs.Math.Nat.{mod-add-div}
 use native.Mathlib.Omega.{arith}
 use Rattle.std.proofs.Math.ListN.{get_or, take, get_or-append}
 use Rattle.std.proofs.lemmas.Bool.{lt-leb, not-false}
-use Rattle.numbers.specs.CaseLaws.{cases, equal}
+use Rattle.numbers.specs.CaseLaws.{cases}
 use Rattle.numbers.specs.Choice.{if◌then◌else◌}
 use Rattle.numbers.specs.Limits.{ROW_NUMBERS}
-use Rattle.numbers.specs.DecidesLaws.{decides_and, decides_less, decides_most, decides_or, decides_equal, decides_itself}
+use Rattle.numbers.specs.DecidesLaws.{decides_and, decides_less, decides_itself}
 use Rattle.model.specs.Sequence.{write_at}
 use Rattle.model.specs.WriteLaws.{length-written, written_here}
 use Rattle.records.specs.Little.{BYTE, little, two, four, bytes_of}
 use Rattle.records.specs.LittleLaws.{little_same, little_left, little_right, little_bytes, little_below, bytes_little}
-use Rattle.operation_log.specs.Kinds.{KINDS, is_kind, argument_counts, argument_count, writes_value, FIELD_BYTES, field_count, body_length}
+use Rattle.operation_log.specs.Kinds.{is_kind, argument_count, writes_value, FIELD_BYTES, field_count, body_length}
 use Rattle.operation_log.specs.KindLaws.{kind_bounds, fields_most, value_arguments}
 use Rattle.operation_log.specs.Log.{
   LENGTH_BYTES,

@@ -5,7 +5,7 @@ ghost use Rattle.std.specs.Prelude.{◌≡◌, map, replicate};
 ghost use Rattle.numbers.specs.Limits.{SLOTS};
 ghost use Rattle.numbers.specs.Meaning.{refusal_number};
 ghost use Rattle.slots.specs.Calls.{find_slot, change, fill_word, empty_word};
-ghost use Rattle.slots.specs.Slots.{word_of, slot_of, turns_of, loaded, Fitting, stores_of, stored};
+ghost use Rattle.slots.specs.Slots.{Fits, word_of, slot_of, turns_of, loaded, Fitting, stores_of, stored};
 
 use numbers::{
     ACCESSES, GENERATIONS, GUEST_FIELD, GUEST_PAGES, GuestPage, PAGES, PORT_FIELD, PORTS, PhysPage,
@@ -24,7 +24,8 @@ pub struct Slot {
 }
 
 pub fn word_of(slot: Slot) -> u64
-    ensures { result ≡ word_of slot }
+    ensures word { result ≡ word_of slot }
+    ensures fits { Fits slot }
 {
     let vm = VmId(slot.vm as u64);
     let guest = GuestPage(slot.guest as u64);

@@ -1,12 +1,10 @@
-use Prim.Native.Nat.{◌-◌}
 use Rattle.table.specs.Loops.{sweep_next, sweep_end}
-use Rattle.table.specs.Table.{put}
-use Rattle.model.specs.Regions.{key_in, insert_table}
+use Rattle.model.specs.Regions.{insert_table}
 use Rattle.regions.proofs.edits.install.Goals as goal
 
 pub loop-k-preserved : goal.loop-k-preserved
 loop-k-preserved c =
-    sweep_next _ _ _ _ _ _ c.loop-k.invariant c.loop-k-test.true (rw (c.put.ensures, c.key_in.ensures, c.entry_in.ensures)) c.put.auto.0
+    sweep_next _ _ _ _ _ _ c.loop-k.invariant c.loop-k-test.true (rw (c.put.ensures, c.key_in.ensures, c.entry_in.ensures)) c.put.auto.words
 
 pub returns : goal.returns
 unfolding insert_table

@@ -1,8 +1,7 @@
-use Prim.Native.Nat.{◌-◌}
 use mathlib.Core.Path.{sym, ◌∙◌}
 use native.Mathlib.Omega.{arith}
 use Rattle.table.specs.Loops.{wipe_read, wipe_hit, wipe_miss, wipe_end, tally_hit, tally_miss, tally_end}
-use Rattle.model.specs.Regions.{in_region, remove_table}
+use Rattle.model.specs.Regions.{remove_table}
 use Rattle.regions.proofs.edits.sweep.Goals as goal
 use Rattle.regions.proofs.edits.sweep.Goals.{else-in_region, then-in_region}
 

@@ -1,4 +1,3 @@
-use Prim.Native.Nat.{◌-◌}
 use mathlib.Core.Path.{sym, ◌∙◌}
 use Rattle.table.specs.Loops.{rise_next}
 use Rattle.regions.proofs.searches.lowest_claimed.Goals as goal

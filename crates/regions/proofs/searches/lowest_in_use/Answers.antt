@@ -1,7 +1,6 @@
-use Prim.Native.Nat.{◌-◌}
 use mathlib.Core.Path.{◌∙◌, sym}
 use Rattle.table.specs.Loops.{ask_yes, ask_no, rise_next, rise_found, rise_none}
-use Rattle.model.specs.Views.{on_page, targeted, edge_on}
+use Rattle.model.specs.Views.{targeted, edge_on}
 use Rattle.regions.specs.RegionLaws.{in_use_binding, part_yes, part_no}
 use Rattle.regions.proofs.searches.lowest_in_use.Goals as goal
 

@@ -1,7 +1,5 @@
-use Prim.Native.Nat.{◌-◌}
 use mathlib.Core.Path.{sym, ◌∙◌}
 use Rattle.table.specs.Loops.{rise_next}
-use Rattle.model.specs.Regions.{not_free}
 use Rattle.regions.proofs.searches.lowest_not_free.Goals as goal
 
 pub region-preserved : goal.region-preserved

@@ -1,7 +1,5 @@
-use Prim.Native.Nat.{◌-◌}
 use mathlib.Core.Path.{sym, ◌∙◌}
 use borrow.Author.Tests.{eq-eqb}
-use Rattle.numbers.specs.Packing.{key_of}
 use Rattle.table.specs.Loops.{seek_found, seek_none, rise_next, rise_found}
 use Rattle.table.specs.Table.{find}
 use Rattle.regions.proofs.searches.lowest_present.Goals as goal
