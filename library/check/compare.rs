@@ -71,7 +71,7 @@ pub fn compare(sides: &Sides) -> Report {
     report
 }
 
-/// The library's list has every crate that has functions for C, and no other.
+/// The static libraries of crates.txt are the crates that have functions for C, and no other.
 fn exporting(sides: &Sides, report: &mut Report) {
     let listed: BTreeSet<&String> = sides.crates.iter().collect();
     let exporting: BTreeSet<&String> = sides.source.exporting.values().collect();
@@ -79,7 +79,7 @@ fn exporting(sides: &Sides, report: &mut Report) {
         let has = |side: &BTreeSet<&String>| side.contains(name).then_some("functions for C");
         report.same(
             &format!("crate {name}"),
-            ("library/crates.txt", has(&listed)),
+            ("crates.txt", has(&listed)),
             ("crates/", has(&exporting)),
         );
     }

@@ -42,7 +42,7 @@ impl Texts {
         let names = list
             .lines()
             .filter(|line| !line.starts_with('#'))
-            .filter_map(|line| line.split(':').next());
+            .filter_map(|line| line.split([':', ' ']).next());
         Texts {
             header: text("include/tiligormis.h"),
             ffi: text("bindings/rust/src/ffi.rs"),
@@ -50,12 +50,12 @@ impl Texts {
             structs: text("bindings/rust/src/structs.rs"),
             cargo: text("bindings/rust/Cargo.toml"),
             manual: text("docs/MACHINE.md"),
-            list: text("library/crates.txt"),
             crates: names
                 .map(|name| {
                     (name.to_string(), sources(&root.join("crates").join(name).join("src")))
                 })
                 .collect(),
+            list,
         }
     }
 
@@ -65,7 +65,7 @@ impl Texts {
             rust: rust::read(&self.ffi, &self.numbers, &self.structs),
             source: rattle::read(&self.crates),
             manual: manual::read(&self.manual),
-            crates: manual::list(&self.list),
+            crates: manual::static_libraries(&self.list),
             version: manual::version(&self.cargo),
         })
     }

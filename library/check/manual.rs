@@ -1,5 +1,5 @@
-//! The table of the operations in docs/MACHINE.md, read; and two short lists, of crates and of a
-//! crate's version.
+//! The table of the operations in docs/MACHINE.md, read; and of crates.txt which crates are static
+//! libraries, and a crate's version.
 
 use crate::inline::leading;
 use crate::tokens::{number, words};
@@ -48,11 +48,8 @@ pub fn version(cargo: &str) -> Option<String> {
     Some(numbers[..numbers.len().min(2)].join("."))
 }
 
-/// The crates of a list, one a line, `#` before a comment.
-pub fn list(text: &str) -> Vec<String> {
-    text.lines()
-        .map(str::trim)
-        .filter(|line| !line.is_empty() && !line.starts_with('#'))
-        .map(String::from)
-        .collect()
+/// The static libraries of crates.txt: lines `NAME staticlib: LIBRARY ..`.
+pub fn static_libraries(text: &str) -> Vec<String> {
+    let heads = text.lines().filter_map(|line| line.split_once(':'));
+    heads.filter_map(|(head, _)| Some(head.strip_suffix(" staticlib")?.to_string())).collect()
 }

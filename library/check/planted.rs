@@ -189,7 +189,12 @@ const PLANTED: &[(Where, &str, &str, &str)] = &[
     (Header, "TILIGORMIS_KINDS 27", "TILIGORMIS_KINDS 28", "KINDS"),
     (Header, "TILIGORMIS_RECORD_BYTES 24", "TILIGORMIS_RECORD_BYTES 20", "RECORD_BYTES"),
     (Numbers, "RECORD_BYTES: usize = ", "RECORD_BYTES: usize = 1 + ", "RECORD_BYTES"),
-    (Crate("log"), "const FIELDS: usize = ", "const FIELDS: usize = 1 + ", "RECORD_BYTES"),
+    (
+        Crate("operation_log"),
+        "const FIELDS: usize = ",
+        "const FIELDS: usize = 1 + ",
+        "RECORD_BYTES",
+    ),
     // refusals and marks
     (Header, "TILIGORMIS_VM_KNOWN = 5", "TILIGORMIS_VM_KNOWN = 4", "VM_KNOWN"),
     (Numbers, "PORT_IDLE: u64 = ", "PORT_IDLE: u64 = 1 + ", "PORT_IDLE"),
@@ -201,13 +206,18 @@ const PLANTED: &[(Where, &str, &str, &str)] = &[
     (Header, "TILIGORMIS_CUT_SHORT = 20", "TILIGORMIS_CUT_SHORT = 19", "CUT_SHORT"),
     (Numbers, "DOES_NOT_FIT: u64 = ", "DOES_NOT_FIT: u64 = 1 + ", "DOES_NOT_FIT"),
     (
-        Crate("log"),
+        Crate("operation_log"),
         "    UnknownKind,\n    WrongLength,",
         "    WrongLength,\n    UnknownKind,",
         "refusal 21",
     ),
-    (Crate("log"), "LogRefusal::WrongLength => 22", "LogRefusal::WrongLength => 2", "WRONG_LENGTH"),
-    (Crate("log"), "    DoesNotFit,\n", "", "log refusals"),
+    (
+        Crate("operation_log"),
+        "LogRefusal::WrongLength => 22",
+        "LogRefusal::WrongLength => 2",
+        "WRONG_LENGTH",
+    ),
+    (Crate("operation_log"), "    DoesNotFit,\n", "", "log refusals"),
     // operations
     (Header, "TILIGORMIS_CPU_UNMAP = 9", "TILIGORMIS_CPU_UNMAP = 10", "operation 9"),
     (
@@ -222,10 +232,10 @@ const PLANTED: &[(Where, &str, &str, &str)] = &[
     (Crate("rows"), "27 =>", "28 =>", "operation 27"),
     (Crate("rows"), "Operation::RetireVm(VmId(a))", "Operation::RetireVm(VmId(b))", "operation 27"),
     (Numbers, "DMA_READ: u64 = ", "DMA_READ: u64 = 1 + ", "DMA_READ"),
-    (Crate("log"), "    12, // 5\n", "    16, // 5\n", "operation 5, body"),
-    (Crate("log"), "    20, // 24\n", "    16, // 24\n", "operation 24, body"),
-    (Crate("log"), "    4, // 27\n", "    8, // 27\n", "operation 27, body"),
-    (Crate("log"), "const CPU_WRITE: u64 = ", "const CPU_WRITE: u64 = 1 + ", "CPU_WRITE"),
+    (Crate("operation_log"), "    12, // 5\n", "    16, // 5\n", "operation 5, body"),
+    (Crate("operation_log"), "    20, // 24\n", "    16, // 24\n", "operation 24, body"),
+    (Crate("operation_log"), "    4, // 27\n", "    8, // 27\n", "operation 27, body"),
+    (Crate("operation_log"), "const CPU_WRITE: u64 = ", "const CPU_WRITE: u64 = 1 + ", "CPU_WRITE"),
     // structs, sizes and places
     (Header, "uint32_t entry;", "uint64_t entry;", "bytes of Slot"),
     (Header, "uint64_t cpu_hand;", "", "bytes of Machine"),
@@ -432,8 +442,9 @@ const PLANTED: &[(Where, &str, &str, &str)] = &[
         "TILIGORMIS_VERSION",
     ),
     // the crates of the library
-    (List, "box_cache", "", "crate box_cache"),
-    (List, "journal", "", "crate journal"),
+    (List, "box_cache staticlib:", "box_cache:", "crate box_cache"),
+    (List, "journal staticlib:", "journal:", "crate journal"),
+    (List, "slots:", "slots staticlib:", "crate slots"),
     (Crate("box_reads"), "pub fn valid(", "pub extern \"C\" fn valid(", "crate box_reads"),
 ];
 

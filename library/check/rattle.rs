@@ -32,7 +32,8 @@ pub struct Source {
 }
 
 /// Where the numbers stand that the header names too.
-const NUMBERS: [&str; 6] = ["numbers", "access", "start", "box_header", "box_reads", "log"];
+const NUMBERS: [&str; 6] =
+    ["numbers", "access", "start", "box_header", "box_reads", "operation_log"];
 
 pub fn read(crates: &Crates) -> Source {
     let code: Crates = crates.iter().map(|(name, text)| (name.clone(), bare(text))).collect();
@@ -58,9 +59,9 @@ pub fn read(crates: &Crates) -> Source {
         refusals: cases(of("numbers"), "Refusal"),
         refusal_numbers: arms(of("numbers"), "Refusal"),
         mark_numbers: arms(of("units"), "Mark"),
-        log_refusals: cases(of("log"), "LogRefusal"),
-        log_refusal_numbers: arms(of("log"), "LogRefusal"),
-        bodies: bodies(of("log")),
+        log_refusals: cases(of("operation_log"), "LogRefusal"),
+        log_refusal_numbers: arms(of("operation_log"), "LogRefusal"),
+        bodies: bodies(of("operation_log")),
         operations: operations(of("rows")),
         lengths: lengths(of("judge")),
     }
