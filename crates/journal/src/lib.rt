@@ -10,8 +10,8 @@ ghost use Rattle.box_replay.specs.Given.{replay_given, ReplayAsked, replay_gives
 ghost use Rattle.journal.specs.Given.{log_given, log_written, row_given, log_read};
 ghost use Rattle.slots.specs.Slots.{words, slots_of};
 
-use operation_log::{Found, Written};
 use numbers::{ROW_NUMBERS, Refusal, SLOTS};
+use operation_log::{Found, Written};
 use slots::Slot;
 
 // Writes a row's record at the place, and moves the place past it. Refused, it leaves both.
