@@ -1,5 +1,5 @@
 -- The sizes of the rooms, and what is kept of how full they are.
-use Rattle.std.specs.Prelude.{ℕ, ◌*◌, ◌<◌, ◌≤◌}
+use Rattle.std.specs.Prelude.{ℕ, ◌*◌, ◌≤◌}
 use Rattle.numbers.specs.Limits.{PAGES, PAGE_WORDS, ROW_NUMBERS, ANSWER_NUMBERS}
 use Rattle.model.specs.Start.{UNIT_NUMBERS}
 

@@ -11,6 +11,7 @@ use machine::entries;
 use model::Machine;
 use numbers::{ANSWER_NUMBERS, Answer, ENTRIES, PAGE_WORDS, PAGES, PAIRS, ROW_NUMBERS, Refusal};
 use start::UNIT_NUMBERS;
+use std::io::Write;
 
 // The words of a machine of so many pages; all there are where they are too many, which start refuses.
 pub fn words_of(pages: u64) -> usize
@@ -23,7 +24,8 @@ pub fn words_of(pages: u64) -> usize
 }
 
 // Starts the machine as it was told, unless it was started already.
-fn begin(
+fn begin<W: Write>(
+    to: &mut W,
     work: Work,
     units: &[u64],
     sets: &mut [u64; SETS_WORDS],
@@ -63,7 +65,7 @@ fn begin(
     );
     let answer = begun.answer;
     let machine = begun.machine;
-    let wrote = print::print_start(answer);
+    let wrote = print::print_start(to, answer);
     written(moved(work, Phase::Begun, machine, work.rows), wrote)
 }
 
@@ -129,7 +131,8 @@ fn carry_out(
 }
 
 // The free query.
-pub fn query(
+pub fn query<W: Write>(
+    to: &mut W,
     work: Work,
     sets: &[u64; SETS_WORDS],
     pairs: &[u64; PAIRS],
@@ -165,13 +168,14 @@ pub fn query(
         index: _,
     } = answer
     {
-        return written(work, print::print_free_refused());
+        return written(work, print::print_free_refused(to));
     }
-    written(work, print::print_free(free.count, lowest))
+    written(work, print::print_free(to, free.count, lowest))
 }
 
 // Answers all that waits, where it is asked for or no further row has room.
-pub fn settle(
+pub fn settle<W: Write>(
+    to: &mut W,
     work: Work,
     asked: bool,
     units: &[u64; UNITS_ROOM],
@@ -197,8 +201,8 @@ pub fn settle(
     }
     let mut room = [0u64; ANSWER_ROOM];
     let begun = begin(
-        work, units, sets, pairs, cpu_map, cpu_walker, cpu_cache, dma_map, dma_walker, dma_cache,
-        memory,
+        to, work, units, sets, pairs, cpu_map, cpu_walker, cpu_cache, dma_map, dma_walker,
+        dma_cache, memory,
     );
     let phase = begun.phase;
     if has_ended(begun) {
@@ -209,13 +213,14 @@ pub fn settle(
         begun, sets, pairs, cpu_map, cpu_walker, cpu_cache, dma_map, dma_walker, dma_cache, memory,
         rows, &mut room,
     );
-    let wrote = print::print_answers(&room, begun.rows);
+    let wrote = print::print_answers(to, &room, begun.rows);
     written(moved(begun, phase, machine, 0), wrote)
 }
 
 // After a piece of the script, rows that wait are carried out and written: whoever told them may wait for their answers. A box
 // without rows goes on waiting, since units may follow.
-pub fn pause(
+pub fn pause<W: Write>(
+    to: &mut W,
     work: Work,
     units: &[u64; UNITS_ROOM],
     sets: &mut [u64; SETS_WORDS],
@@ -233,6 +238,7 @@ pub fn pause(
     ensures { Orderly result.units result.rows }
 {
     settle(
+        to,
         work,
         rows_wait(work),
         units,

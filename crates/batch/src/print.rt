@@ -2,8 +2,9 @@
 ghost use Rattle.std.specs.Prelude.{◌+◌, ◌*◌, ◌<◌, ◌≤◌, length};
 ghost use Rattle.batch.specs.Room.{BATCH, ANSWER_BYTES, NUMBER_BYTES};
 
-use libc::STDOUT_FILENO;
+use itoa::Buffer;
 use numbers::{ANSWER_NUMBERS, Answer, Lowest};
+use std::io::Write;
 
 // Rows that are carried out together.
 pub const BATCH: usize = 1024;
@@ -25,8 +26,9 @@ pub fn put(text: &mut [u8], at: usize, number: u64, end: u8) -> usize
     requires { at + NUMBER_BYTES ≤ length text.old }
     ensures { result ≤ at + NUMBER_BYTES }
 {
-    let mut digits = [0u8; 20];
-    let count = io::decimal(number, &mut digits);
+    let mut buffer = Buffer::new();
+    let digits = buffer.format(number).as_bytes();
+    let count = digits.len();
     let mut i = 0;
     while i < count {
         text[at + i] = digits[i];
@@ -52,7 +54,7 @@ pub fn put_answer(text: &mut [u8], at: usize, room: &[u64; ANSWER_ROOM], k: usiz
 }
 
 // The first `count` answers of the room.
-pub fn print_answers(room: &[u64; ANSWER_ROOM], count: usize) -> bool
+pub fn print_answers<W: Write>(to: &mut W, room: &[u64; ANSWER_ROOM], count: usize) -> bool
     requires { count ≤ BATCH }
 {
     let mut text = [0u8; TEXT];
@@ -62,57 +64,55 @@ pub fn print_answers(room: &[u64; ANSWER_ROOM], count: usize) -> bool
         at = put_answer(&mut text, at, room, k);
         k += 1;
     }
-    io::write_all(STDOUT_FILENO, &text[..at])
+    print_text(to, &text[..at])
 }
 
 // ---- Single lines.
 
-pub fn print_text(text: &[u8]) -> bool {
-    io::write_all(STDOUT_FILENO, text)
+pub fn print_text<W: Write>(to: &mut W, text: &[u8]) -> bool {
+    to.write_all(text).is_ok()
 }
 
 // A number between two texts, to standard output or standard error.
-pub fn print_between(to: i32, before: &[u8], number: u64, after: &[u8]) -> bool {
-    if !io::write_all(to, before) {
+pub fn print_between<W: Write>(to: &mut W, before: &[u8], number: u64, after: &[u8]) -> bool {
+    if !print_text(to, before) {
         return false;
     }
-    if !io::print_decimal(to, number) {
+    let mut buffer = Buffer::new();
+    if !print_text(to, buffer.format(number).as_bytes()) {
         return false;
     }
-    io::write_all(to, after)
+    print_text(to, after)
 }
 
-pub fn print_start(answer: Answer) -> bool {
+pub fn print_start<W: Write>(to: &mut W, answer: Answer) -> bool {
     match answer {
         Answer::Accepted {
             dropped: _,
             word: _,
-        } => print_text(b"start 0\n"),
-        Answer::Refused { refusal, index: _ } => print_between(
-            STDOUT_FILENO,
-            b"start ",
-            numbers::refusal_number(refusal),
-            b"\n",
-        ),
+        } => print_text(to, b"start 0\n"),
+        Answer::Refused { refusal, index: _ } => {
+            print_between(to, b"start ", numbers::refusal_number(refusal), b"\n")
+        }
     }
 }
 
-pub fn print_free(count: u64, lowest: Lowest) -> bool {
+pub fn print_free<W: Write>(to: &mut W, count: u64, lowest: Lowest) -> bool {
     match lowest {
         Lowest::Page(page) => {
-            if !print_between(STDOUT_FILENO, b"free ", count, b" ") {
+            if !print_between(to, b"free ", count, b" ") {
                 return false;
             }
-            print_between(STDOUT_FILENO, b"", page.0, b"\n")
+            print_between(to, b"", page.0, b"\n")
         }
-        Lowest::Nothing => print_between(STDOUT_FILENO, b"free ", count, b" none\n"),
+        Lowest::Nothing => print_between(to, b"free ", count, b" none\n"),
     }
 }
 
-pub fn print_free_refused() -> bool {
-    print_text(b"free refused 1\n")
+pub fn print_free_refused<W: Write>(to: &mut W) -> bool {
+    print_text(to, b"free refused 1\n")
 }
 
-pub fn print_not_understood(line: u64) -> bool {
-    print_between(STDOUT_FILENO, b"line ", line, b": not understood\n")
+pub fn print_not_understood<W: Write>(to: &mut W, line: u64) -> bool {
+    print_between(to, b"line ", line, b": not understood\n")
 }

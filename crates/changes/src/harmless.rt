@@ -7,56 +7,85 @@ use crate::{
 };
 use model::Machine;
 use numbers::{ACCESSES, IDLE, PORT_BIT, PORTS, SLOTS, Side, UNITS, VMS};
+use std::io::Write;
 
 const LAST_WORD: usize = MEMORY_WORDS - 1;
 
 // Of the state after start.
-pub fn fresh(m: Machine, words: &[u64; WORDS]) {
-    shared_base_case(b"harmless", b"empty span elsewhere", m, words, 0);
+pub fn fresh<W: Write>(to: &mut W, m: Machine, words: &[u64; WORDS]) {
+    shared_base_case(to, b"harmless", b"empty span elsewhere", m, words, 0);
 }
 
-fn header(m: Machine, words: &[u64; WORDS]) {
+fn header<W: Write>(to: &mut W, m: Machine, words: &[u64; WORDS]) {
     let rule: &[u8] = b"harmless";
     let past = unit(VMS, 0, 0, 0, ACCESSES);
-    unit_case(rule, b"unit past the count", m, words, UNITS - 1, past);
-    unit_count_case(rule, b"no units", m, words, 0);
-    unit_count_case(rule, b"every unit", m, words, UNITS as u64);
-    known_case(rule, b"a VM more", m, words, 3);
-    known_case(rule, b"a VM less", m, words, 14);
+    unit_case(to, rule, b"unit past the count", m, words, UNITS - 1, past);
+    unit_count_case(to, rule, b"no units", m, words, 0);
+    unit_count_case(to, rule, b"every unit", m, words, UNITS as u64);
+    known_case(to, rule, b"a VM more", m, words, 3);
+    known_case(to, rule, b"a VM less", m, words, 14);
 }
 
-fn tables(m: Machine, words: &[u64; WORDS]) {
+fn tables<W: Write>(to: &mut W, m: Machine, words: &[u64; WORDS]) {
     let rule: &[u8] = b"harmless";
-    dma_case(rule, b"page of the pool for DMA", m, words, 1, 20);
-    dma_case(rule, b"page of its own for DMA", m, words, 1, 2);
-    dma_case(rule, b"DMA page that no map needs", m, words, 2, 5);
+    dma_case(to, rule, b"page of the pool for DMA", m, words, 1, 20);
+    dma_case(to, rule, b"page of its own for DMA", m, words, 1, 2);
+    dma_case(to, rule, b"DMA page that no map needs", m, words, 2, 5);
     let pairs = Table::Pairs;
     let more = pair(1, LAST_VM, 2);
     let turned = pair(1, 2, 0) ^ pair(2, 1, 0);
-    flip_case(rule, b"a pair more", m, words, pairs, 20, more);
-    flip_case(rule, b"a pair less", m, words, pairs, 2, pair(1, 6, 1));
-    flip_case(rule, b"ends of a pair turned", m, words, pairs, 0, turned);
-    flip_case(rule, b"memory", m, words, Table::Memory, LAST_WORD, 9);
+    flip_case(to, rule, b"a pair more", m, words, pairs, 20, more);
+    flip_case(to, rule, b"a pair less", m, words, pairs, 2, pair(1, 6, 1));
+    flip_case(
+        to,
+        rule,
+        b"ends of a pair turned",
+        m,
+        words,
+        pairs,
+        0,
+        turned,
+    );
+    flip_case(to, rule, b"memory", m, words, Table::Memory, LAST_WORD, 9);
 }
 
 // Places 0 and 9 of a walker are filled, 8 is empty.
-fn walker(rule: &[u8], m: Machine, words: &[u64; WORDS], table: Table) {
-    swap_case(rule, b"two entries", m, words, table, 0, 9);
-    swap_case(rule, b"an entry and an empty place", m, words, table, 8, 9);
+fn walker<W: Write>(to: &mut W, rule: &[u8], m: Machine, words: &[u64; WORDS], table: Table) {
+    swap_case(to, rule, b"two entries", m, words, table, 0, 9);
+    swap_case(
+        to,
+        rule,
+        b"an entry and an empty place",
+        m,
+        words,
+        table,
+        8,
+        9,
+    );
 }
 
-fn cache(rule: &[u8], m: Machine, words: &[u64; WORDS], table: Table) {
+fn cache<W: Write>(to: &mut W, rule: &[u8], m: Machine, words: &[u64; WORDS], table: Table) {
     let kept = slot(0, 1, 16, 0, 3, 0);
     let more = kept | 6 * PORT_BIT;
     let other = PORT_BIT;
-    flip_case(rule, b"a slot less", m, words, table, 0, kept);
-    flip_case(rule, b"a slot more", m, words, table, 20, more);
-    flip_case(rule, b"a slot of another port", m, words, table, 0, other);
+    flip_case(to, rule, b"a slot less", m, words, table, 0, kept);
+    flip_case(to, rule, b"a slot more", m, words, table, 20, more);
+    flip_case(
+        to,
+        rule,
+        b"a slot of another port",
+        m,
+        words,
+        table,
+        0,
+        other,
+    );
 }
 
-fn ports(rule: &[u8], side: Side, m: Machine, words: &[u64; WORDS]) {
-    port_case(rule, b"port 2 idle", m, words, side, 2, IDLE);
+fn ports<W: Write>(to: &mut W, rule: &[u8], side: Side, m: Machine, words: &[u64; WORDS]) {
+    port_case(to, rule, b"port 2 idle", m, words, side, 2, IDLE);
     port_case(
+        to,
         rule,
         b"last port with the last VM",
         m,
@@ -65,18 +94,30 @@ fn ports(rule: &[u8], side: Side, m: Machine, words: &[u64; WORDS]) {
         PORTS as usize - 1,
         LAST_VM,
     );
-    hand_case(rule, b"hand 0", m, words, side, 0);
-    hand_case(rule, b"last hand", m, words, side, SLOTS - 1);
+    hand_case(to, rule, b"hand 0", m, words, side, 0);
+    hand_case(to, rule, b"last hand", m, words, side, SLOTS - 1);
 }
 
 // Of the state at work.
-pub fn busy(m: Machine, words: &[u64; WORDS]) {
-    header(m, words);
-    tables(m, words);
-    walker(b"harmless in the CPU walker", m, words, Table::CpuWalker);
-    walker(b"harmless in the DMA walker", m, words, Table::DmaWalker);
-    cache(b"harmless in the CPU cache", m, words, Table::CpuCache);
-    cache(b"harmless in the DMA cache", m, words, Table::DmaCache);
-    ports(b"harmless on the CPUs", Side::Cpu, m, words);
-    ports(b"harmless on the devices", Side::Dma, m, words);
+pub fn busy<W: Write>(to: &mut W, m: Machine, words: &[u64; WORDS]) {
+    header(to, m, words);
+    tables(to, m, words);
+    walker(
+        to,
+        b"harmless in the CPU walker",
+        m,
+        words,
+        Table::CpuWalker,
+    );
+    walker(
+        to,
+        b"harmless in the DMA walker",
+        m,
+        words,
+        Table::DmaWalker,
+    );
+    cache(to, b"harmless in the CPU cache", m, words, Table::CpuCache);
+    cache(to, b"harmless in the DMA cache", m, words, Table::DmaCache);
+    ports(to, b"harmless on the CPUs", Side::Cpu, m, words);
+    ports(to, b"harmless on the devices", Side::Dma, m, words);
 }

@@ -13,12 +13,14 @@ pub mod state;
 use crate::state::{Table, WORDS, show, start_of};
 use model::{Machine, Registers, SideRegisters};
 use numbers::{SET_WORDS, Side};
+use std::io::Write;
 use units::Unit;
 
 // ---- Words.
 
 // The bits are flipped in the word at a place of a table. Of an empty place these are the bits of the word that comes there.
-pub fn flip_case(
+pub fn flip_case<W: Write>(
+    to: &mut W,
     rule: &[u8],
     clause: &[u8],
     m: Machine,
@@ -32,11 +34,12 @@ pub fn flip_case(
     let at = start_of(table) + place;
     let mut changed = *words;
     changed[at] = words[at] ^ bits;
-    show(rule, clause, m, &changed);
+    show(to, rule, clause, m, &changed);
 }
 
 // Two words change places.
-pub fn swap_case(
+pub fn swap_case<W: Write>(
+    to: &mut W,
     rule: &[u8],
     clause: &[u8],
     m: Machine,
@@ -53,7 +56,7 @@ pub fn swap_case(
     let mut changed = *words;
     changed[at] = words[beside];
     changed[beside] = words[at];
-    show(rule, clause, m, &changed);
+    show(to, rule, clause, m, &changed);
 }
 
 // ---- Page sets: rows 0 and 1, then two for each VM.
@@ -82,53 +85,113 @@ pub fn toggle_dma(words: &mut [u64; WORDS], vm: usize, page: u64)
     toggle(words, 3 + 2 * vm, page);
 }
 
-pub fn set_case(rule: &[u8], clause: &[u8], m: Machine, words: &[u64; WORDS], row: usize, page: u64)
+pub fn set_case<W: Write>(
+    to: &mut W,
+    rule: &[u8],
+    clause: &[u8],
+    m: Machine,
+    words: &[u64; WORDS],
+    row: usize,
+    page: u64,
+)
     requires { (row < SETS) × (page < PAGES) }
 {
     let mut changed = *words;
     toggle(&mut changed, row, page);
-    show(rule, clause, m, &changed);
+    show(to, rule, clause, m, &changed);
 }
 
-pub fn cpu_case(rule: &[u8], clause: &[u8], m: Machine, words: &[u64; WORDS], vm: usize, page: u64)
+pub fn cpu_case<W: Write>(
+    to: &mut W,
+    rule: &[u8],
+    clause: &[u8],
+    m: Machine,
+    words: &[u64; WORDS],
+    vm: usize,
+    page: u64,
+)
     requires { (vm < VMS) × (page < PAGES) }
 {
-    set_case(rule, clause, m, words, 2 + 2 * vm, page);
+    set_case(to, rule, clause, m, words, 2 + 2 * vm, page);
 }
 
-pub fn dma_case(rule: &[u8], clause: &[u8], m: Machine, words: &[u64; WORDS], vm: usize, page: u64)
+pub fn dma_case<W: Write>(
+    to: &mut W,
+    rule: &[u8],
+    clause: &[u8],
+    m: Machine,
+    words: &[u64; WORDS],
+    vm: usize,
+    page: u64,
+)
     requires { (vm < VMS) × (page < PAGES) }
 {
-    set_case(rule, clause, m, words, 3 + 2 * vm, page);
+    set_case(to, rule, clause, m, words, 3 + 2 * vm, page);
 }
 
 // ---- The header.
 
-pub fn pages_case(rule: &[u8], clause: &[u8], m: Machine, words: &[u64; WORDS], pages: u64) {
+pub fn pages_case<W: Write>(
+    to: &mut W,
+    rule: &[u8],
+    clause: &[u8],
+    m: Machine,
+    words: &[u64; WORDS],
+    pages: u64,
+) {
     let mut changed = m;
     changed.fixed.pages = pages;
-    show(rule, clause, changed, words);
+    show(to, rule, clause, changed, words);
 }
 
-pub fn shared_base_case(rule: &[u8], clause: &[u8], m: Machine, words: &[u64; WORDS], base: u64) {
+pub fn shared_base_case<W: Write>(
+    to: &mut W,
+    rule: &[u8],
+    clause: &[u8],
+    m: Machine,
+    words: &[u64; WORDS],
+    base: u64,
+) {
     let mut changed = m;
     changed.fixed.shared_base = base;
-    show(rule, clause, changed, words);
+    show(to, rule, clause, changed, words);
 }
 
-pub fn shared_count_case(rule: &[u8], clause: &[u8], m: Machine, words: &[u64; WORDS], count: u64) {
+pub fn shared_count_case<W: Write>(
+    to: &mut W,
+    rule: &[u8],
+    clause: &[u8],
+    m: Machine,
+    words: &[u64; WORDS],
+    count: u64,
+) {
     let mut changed = m;
     changed.fixed.shared_count = count;
-    show(rule, clause, changed, words);
+    show(to, rule, clause, changed, words);
 }
 
-pub fn unit_count_case(rule: &[u8], clause: &[u8], m: Machine, words: &[u64; WORDS], count: u64) {
+pub fn unit_count_case<W: Write>(
+    to: &mut W,
+    rule: &[u8],
+    clause: &[u8],
+    m: Machine,
+    words: &[u64; WORDS],
+    count: u64,
+) {
     let mut changed = m;
     changed.fixed.unit_count = count;
-    show(rule, clause, changed, words);
+    show(to, rule, clause, changed, words);
 }
 
-pub fn unit_case(rule: &[u8], clause: &[u8], m: Machine, words: &[u64; WORDS], k: usize, unit: Unit)
+pub fn unit_case<W: Write>(
+    to: &mut W,
+    rule: &[u8],
+    clause: &[u8],
+    m: Machine,
+    words: &[u64; WORDS],
+    k: usize,
+    unit: Unit,
+)
     requires { k < UNITS }
 {
     let mut units = m.fixed.units;
@@ -137,17 +200,24 @@ pub fn unit_case(rule: &[u8], clause: &[u8], m: Machine, words: &[u64; WORDS], k
     fixed.units = units;
     let mut changed = m;
     changed.fixed = fixed;
-    show(rule, clause, changed, words);
+    show(to, rule, clause, changed, words);
 }
 
 // A VM is known where it was not, or the other way round.
-pub fn known_case(rule: &[u8], clause: &[u8], m: Machine, words: &[u64; WORDS], vm: u64)
+pub fn known_case<W: Write>(
+    to: &mut W,
+    rule: &[u8],
+    clause: &[u8],
+    m: Machine,
+    words: &[u64; WORDS],
+    vm: u64,
+)
     requires { vm < 64 }
 {
     let mut changed = m;
     let known = m.registers.known ^ (1 << vm);
     changed.registers.known = known;
-    show(rule, clause, changed, words);
+    show(to, rule, clause, changed, words);
 }
 
 // The registers of a side where a port has another VM, or is idle.
@@ -161,7 +231,8 @@ fn with_port(registers: SideRegisters, port: usize, vm: u64) -> SideRegisters
     changed
 }
 
-fn registers_case(
+fn registers_case<W: Write>(
+    to: &mut W,
     rule: &[u8],
     clause: &[u8],
     m: Machine,
@@ -170,10 +241,11 @@ fn registers_case(
 ) {
     let mut changed = m;
     changed.registers = registers;
-    show(rule, clause, changed, words);
+    show(to, rule, clause, changed, words);
 }
 
-pub fn port_case(
+pub fn port_case<W: Write>(
+    to: &mut W,
     rule: &[u8],
     clause: &[u8],
     m: Machine,
@@ -190,18 +262,19 @@ pub fn port_case(
             let cpu = m.registers.cpu;
             let other = with_port(cpu, port, vm);
             changed.cpu = other;
-            registers_case(rule, clause, m, words, changed);
+            registers_case(to, rule, clause, m, words, changed);
         }
         Side::Dma => {
             let dma = m.registers.dma;
             let other = with_port(dma, port, vm);
             changed.dma = other;
-            registers_case(rule, clause, m, words, changed);
+            registers_case(to, rule, clause, m, words, changed);
         }
     }
 }
 
-pub fn hand_case(
+pub fn hand_case<W: Write>(
+    to: &mut W,
     rule: &[u8],
     clause: &[u8],
     m: Machine,
@@ -213,11 +286,11 @@ pub fn hand_case(
     match side {
         Side::Cpu => {
             changed.registers.cpu.hand = hand;
-            show(rule, clause, changed, words);
+            show(to, rule, clause, changed, words);
         }
         Side::Dma => {
             changed.registers.dma.hand = hand;
-            show(rule, clause, changed, words);
+            show(to, rule, clause, changed, words);
         }
     }
 }

@@ -4,9 +4,9 @@ ghost use Rattle.std.specs.Prelude.{◌≡◌, ◌+◌, ◌*◌, ◌≤◌, ◌<
 ghost use Rattle.numbers.specs.Limits.{PAGE_WORDS};
 ghost use Rattle.changes.specs.Words.{N, WORDS};
 
-use libc::STDOUT_FILENO;
 use model::Machine;
 use numbers::{ENTRIES, PAGE_WORDS, PAIRS, SET_WORDS, SETS, SLOTS};
+use std::io::Write;
 
 // Physical pages of the states: the last word of a page set that is used is used in part.
 pub const N: u64 = 70;
@@ -109,8 +109,14 @@ fn is_valid(m: Machine, words: &[u64], changed: usize, count: usize) -> bool
     )
 }
 
+// All of the text; answers whether it was written. A line goes on where a part of it could not be written.
+fn put<W: Write>(to: &mut W, text: &[u8]) -> bool {
+    to.write_all(text).is_ok()
+}
+
 // The line of a state whose slice that begins at `changed` is lent with `count` words.
-pub fn show_lent(
+pub fn show_lent<W: Write>(
+    to: &mut W,
     rule: &[u8],
     clause: &[u8],
     m: Machine,
@@ -120,17 +126,17 @@ pub fn show_lent(
 )
     requires { changed + count ≤ WORDS }
 {
-    io::write_all(STDOUT_FILENO, rule);
-    io::write_all(STDOUT_FILENO, b", ");
-    io::write_all(STDOUT_FILENO, clause);
+    put(to, rule);
+    put(to, b", ");
+    put(to, clause);
     if is_valid(m, words, changed, count) {
-        io::write_all(STDOUT_FILENO, b": valid\n");
+        put(to, b": valid\n");
         return;
     }
-    io::write_all(STDOUT_FILENO, b": not valid\n");
+    put(to, b": not valid\n");
 }
 
 // The line of a state, every slice of its length.
-pub fn show(rule: &[u8], clause: &[u8], m: Machine, words: &[u64; WORDS]) {
-    show_lent(rule, clause, m, words, NOWHERE, 0);
+pub fn show<W: Write>(to: &mut W, rule: &[u8], clause: &[u8], m: Machine, words: &[u64; WORDS]) {
+    show_lent(to, rule, clause, m, words, NOWHERE, 0);
 }

@@ -8,6 +8,7 @@ use batch::{End, Phase, ROWS_ROOM, UNITS_KEPT, UNITS_ROOM, Work, ended, print, w
 use numbers::ROW_NUMBERS;
 use script::Line;
 use start::UNIT_NUMBERS;
+use std::io::Write;
 
 // ---- What a line means where the box stands.
 
@@ -84,10 +85,10 @@ fn new_box(work: Work, pages: u64, base: u64, count: u64) -> Work
     }
 }
 
-fn not_understood(work: Work) -> Work
+fn not_understood<W: Write>(to: &mut W, work: Work) -> Work
     ensures { (result.units ≡ work.units) × (result.rows ≡ work.rows) }
 {
-    let wrote = print::print_not_understood(work.line);
+    let wrote = print::print_not_understood(to, work.line);
     written(ended(work, End::NotUnderstood), wrote)
 }
 
@@ -151,7 +152,8 @@ fn keep_row(
     next
 }
 
-pub fn take(
+pub fn take<W: Write>(
+    to: &mut W,
     work: Work,
     placed: Line,
     units: &mut [u64; UNITS_ROOM],
@@ -183,6 +185,6 @@ pub fn take(
             g,
         } => keep_row(work, rows, operation, a, b, c, d, e, f, g),
         Line::Free => work,
-        Line::Unreadable => not_understood(work),
+        Line::Unreadable => not_understood(to, work),
     }
 }

@@ -6,13 +6,13 @@
 ghost use Rattle.std.specs.Prelude.{◌≤◌, ◌≡◌, length};
 ghost use Rattle.logbox.specs.Room.{LOG_ROOM};
 
-use batch::print::print_between;
+use batch::print::{print_between, print_text};
 use batch::{End, Phase, Work, ended, written};
-use libc::{STDERR_FILENO, STDIN_FILENO, STDOUT_FILENO};
-use operation_log::{LogRefusal, Written};
 use numbers::ROW_NUMBERS;
-use reading::{LF, bad_after, ends};
+use operation_log::{LogRefusal, Written};
+use reading::{LF, PIECE, bad_after, ends};
 use script::{Line, Reader};
+use std::io::{Read, Write};
 
 // The room in which records wait to be written.
 const LOG_ROOM: usize = 65536;
@@ -27,13 +27,13 @@ struct Logged {
 }
 
 // What waits is written.
-fn flushed(logged: Logged, room: &[u8]) -> Logged
+fn flushed<W: Write>(to: &mut W, logged: Logged, room: &[u8]) -> Logged
     requires { (logged.waiting ≤ LOG_ROOM) × (length room.now ≡ LOG_ROOM) }
     ensures { result.waiting ≤ LOG_ROOM }
 {
     let work = logged.work;
     let count = logged.waiting;
-    let all = io::write_all(STDOUT_FILENO, &room[..count]);
+    let all = print_text(to, &room[..count]);
     Logged {
         work: written(work, all),
         waiting: 0,
@@ -43,11 +43,11 @@ fn flushed(logged: Logged, room: &[u8]) -> Logged
 // ---- What each kind of line does.
 
 // A line that ends it: which one, and why.
-fn refused(logged: Logged, why: &[u8]) -> Logged
+fn refused<E: Write>(errors: &mut E, logged: Logged, why: &[u8]) -> Logged
     ensures { result.waiting ≡ logged.waiting }
 {
     let work = logged.work;
-    print_between(STDERR_FILENO, b"line ", work.line, why);
+    print_between(errors, b"line ", work.line, why);
     Logged {
         work: ended(work, End::NotUnderstood),
         waiting: logged.waiting,
@@ -66,29 +66,35 @@ fn passed(logged: Logged, phase: Phase) -> Logged
     }
 }
 
-fn new_box(logged: Logged) -> Logged
+fn new_box<E: Write>(errors: &mut E, logged: Logged) -> Logged
     ensures { result.waiting ≡ logged.waiting }
 {
     let work = logged.work;
     let phase = work.phase;
     let Phase::NoBox = phase else {
-        return refused(logged, b": a second box\n");
+        return refused(errors, logged, b": a second box\n");
     };
     passed(logged, Phase::Told)
 }
 
 // A row that has no record.
-fn unlogged(logged: Logged, why: LogRefusal) -> Logged
+fn unlogged<E: Write>(errors: &mut E, logged: Logged, why: LogRefusal) -> Logged
     ensures { result.waiting ≡ logged.waiting }
 {
     if let LogRefusal::UnknownKind = why {
-        return refused(logged, b": unknown kind\n");
+        return refused(errors, logged, b": unknown kind\n");
     }
-    refused(logged, b": does not fit\n")
+    refused(errors, logged, b": does not fit\n")
 }
 
 // The row's record, behind those that wait.
-fn new_row(logged: Logged, row: [u64; ROW_NUMBERS], room: &mut [u8; LOG_ROOM]) -> Logged
+fn new_row<W: Write, E: Write>(
+    to: &mut W,
+    errors: &mut E,
+    logged: Logged,
+    row: [u64; ROW_NUMBERS],
+    room: &mut [u8; LOG_ROOM],
+) -> Logged
     requires { logged.waiting ≤ LOG_ROOM }
     ensures { result.waiting ≤ LOG_ROOM }
 {
@@ -104,14 +110,20 @@ fn new_row(logged: Logged, row: [u64; ROW_NUMBERS], room: &mut [u8; LOG_ROOM]) -
             if next < MANY {
                 return begun;
             }
-            flushed(begun, room)
+            flushed(to, begun, room)
         }
-        Written::Refused(why) => unlogged(logged, why),
+        Written::Refused(why) => unlogged(errors, logged, why),
     }
 }
 
 // One line of the script.
-fn line(logged: Logged, said: Line, room: &mut [u8; LOG_ROOM]) -> Logged
+fn line<W: Write, E: Write>(
+    to: &mut W,
+    errors: &mut E,
+    logged: Logged,
+    said: Line,
+    room: &mut [u8; LOG_ROOM],
+) -> Logged
     requires { logged.waiting ≤ LOG_ROOM }
     ensures { result.waiting ≤ LOG_ROOM }
 {
@@ -128,7 +140,7 @@ fn line(logged: Logged, said: Line, room: &mut [u8; LOG_ROOM]) -> Logged
             pages: _,
             base: _,
             count: _,
-        } => new_box(next),
+        } => new_box(errors, next),
         Line::Unit {
             vm: _,
             guest: _,
@@ -146,9 +158,9 @@ fn line(logged: Logged, said: Line, room: &mut [u8; LOG_ROOM]) -> Logged
             e,
             f,
             g,
-        } => new_row(next, [operation, a, b, c, d, e, f, g], room),
+        } => new_row(to, errors, next, [operation, a, b, c, d, e, f, g], room),
         Line::Free => passed(next, Phase::Begun),
-        Line::Unreadable => refused(next, b": not understood\n"),
+        Line::Unreadable => refused(errors, next, b": not understood\n"),
     }
 }
 
@@ -163,7 +175,13 @@ struct Place {
 }
 
 // One piece of the script, byte by byte.
-fn piece(place: Place, bytes: &[u8], room: &mut [u8; LOG_ROOM]) -> Place
+fn piece<W: Write, E: Write>(
+    to: &mut W,
+    errors: &mut E,
+    place: Place,
+    bytes: &[u8],
+    room: &mut [u8; LOG_ROOM],
+) -> Place
     requires { place.logged.waiting ≤ LOG_ROOM }
     ensures { result.logged.waiting ≤ LOG_ROOM }
 {
@@ -180,7 +198,7 @@ fn piece(place: Place, bytes: &[u8], room: &mut [u8; LOG_ROOM]) -> Place
         }
         if ends(byte, bad) {
             let said = script::line_end(reader);
-            logged = line(logged, said, room);
+            logged = line(to, errors, logged, said, room);
             reader = script::line_start();
             bad = 0;
         }
@@ -193,14 +211,19 @@ fn piece(place: Place, bytes: &[u8], room: &mut [u8; LOG_ROOM]) -> Place
 }
 
 // The last line, with or without a line end, and all that still waits.
-fn finish(place: Place, room: &mut [u8; LOG_ROOM]) -> Work
+fn finish<W: Write, E: Write>(
+    to: &mut W,
+    errors: &mut E,
+    place: Place,
+    room: &mut [u8; LOG_ROOM],
+) -> Work
     requires { place.logged.waiting ≤ LOG_ROOM }
 {
     let logged = place.logged;
     let reader = place.reader;
     let said = script::line_end(reader);
-    let last = line(logged, said, room);
-    let all = flushed(last, room);
+    let last = line(to, errors, logged, said, room);
+    let all = flushed(to, last, room);
     all.work
 }
 
@@ -223,7 +246,12 @@ fn unread(place: Place) -> Place
 
 // Piece by piece, until the input ends or nothing more counts. A loop has to end and nothing says that the input does, so
 // this one counts its turns down from a number that no run uses up.
-fn run(room: &mut [u8; LOG_ROOM]) -> Place
+fn run<R: Read, W: Write, E: Write>(
+    from: &mut R,
+    to: &mut W,
+    errors: &mut E,
+    room: &mut [u8; LOG_ROOM],
+) -> Place
     ensures { result.logged.waiting ≤ LOG_ROOM }
 {
     let work = batch::no_work();
@@ -232,21 +260,19 @@ fn run(room: &mut [u8; LOG_ROOM]) -> Place
         reader: script::line_start(),
         bad: 0,
     };
-    let mut bytes = io::large_buffer();
+    let mut bytes = [0u8; PIECE];
     let mut turns = u64::MAX;
     while turns > 0 {
-        let got = libc::read(STDIN_FILENO, &mut bytes);
-        if got < 0 {
+        let Ok(count) = from.read(&mut bytes) else {
             return unread(place);
-        }
-        let count = io::count(got, &bytes);
+        };
         if count == 0 {
             return place;
         }
-        let told = piece(place, &bytes[..count], room);
+        let told = piece(to, errors, place, &bytes[..count], room);
         let reader = told.reader;
         let waits = told.logged;
-        let logged = flushed(waits, room);
+        let logged = flushed(to, waits, room);
         place = Place {
             logged,
             reader,
@@ -261,28 +287,31 @@ fn run(room: &mut [u8; LOG_ROOM]) -> Place
 }
 
 // What ended the program, of which the wrapper makes an exit status.
-fn print_end(work: Work) {
+fn print_end<E: Write>(errors: &mut E, work: Work) {
     let phase = work.phase;
     let Phase::Ended(end) = phase else {
-        io::write_all(STDERR_FILENO, b"logbox: ended\n");
+        print_text(errors, b"logbox: ended\n");
         return;
     };
     match end {
         End::NotUnderstood => {
-            io::write_all(STDERR_FILENO, b"logbox: refused\n");
+            print_text(errors, b"logbox: refused\n");
         }
         End::CannotRead => {
-            io::write_all(STDERR_FILENO, b"logbox: cannot read\n");
+            print_text(errors, b"logbox: cannot read\n");
         }
         End::CannotWrite => {
-            io::write_all(STDERR_FILENO, b"logbox: cannot write\n");
+            print_text(errors, b"logbox: cannot write\n");
         }
     }
 }
 
-fn main() {
+fn main(rt: HostRuntime) {
+    let mut from = rt.stdin();
+    let mut to = rt.stdout();
+    let mut errors = rt.stderr();
     let mut room = [0u8; LOG_ROOM];
-    let place = run(&mut room);
-    let work = finish(place, &mut room);
-    print_end(work);
+    let place = run(&mut from, &mut to, &mut errors, &mut room);
+    let work = finish(&mut to, &mut errors, place, &mut room);
+    print_end(&mut errors, work);
 }

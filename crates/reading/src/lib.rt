@@ -1,20 +1,23 @@
-// Reads a box script from standard input, in pieces, and has it answered line by line (docs/MACHINE.md, 11).
+// Reads a box script from its reader, in pieces, and has it answered line by line (docs/MACHINE.md, 11).
 #![tactic(auto)]
 
 ghost use Rattle.batch.specs.Room.{Orderly};
 
 use batch::carry::{pause, query, settle};
 use batch::{CACHE_WORDS, End, MEMORY_WORDS, ROWS_ROOM, SETS_WORDS, UNITS_ROOM, Work};
-use libc::STDIN_FILENO;
 use numbers::{ENTRIES, PAIRS};
 use script::{Line, Reader};
+use std::io::{Read, Write};
 
 pub const LF: u8 = 10;
+// The most bytes of a piece of the script.
+pub const PIECE: usize = 65536;
 // A bad line is given up when so many bytes have followed its first bad one without a line end.
 const BAD_BYTES: usize = 65536;
 
 // One line of the script, after what must be answered before it.
-fn line(
+fn line<W: Write>(
+    to: &mut W,
     work: Work,
     said: Line,
     units: &mut [u64; UNITS_ROOM],
@@ -35,6 +38,7 @@ fn line(
     let counted = batch::counted(work);
     let placed = lines::in_place(counted, said);
     let ready = settle(
+        to,
         counted,
         lines::asks(placed),
         units,
@@ -54,11 +58,11 @@ fn line(
     }
     if let Line::Free = placed {
         return query(
-            ready, sets, pairs, cpu_map, cpu_walker, cpu_cache, dma_map, dma_walker, dma_cache,
+            to, ready, sets, pairs, cpu_map, cpu_walker, cpu_cache, dma_map, dma_walker, dma_cache,
             memory,
         );
     }
-    lines::take(ready, placed, units, rows)
+    lines::take(to, ready, placed, units, rows)
 }
 
 // Where the reading has come to: the box, the line under way, and how many of its bytes came since it was bad, the first bad
@@ -90,7 +94,8 @@ pub fn ends(byte: u8, bad: usize) -> bool {
 }
 
 // One piece of the script, byte by byte. A line that was given up ends the reading, so that what is left of it counts as none.
-fn piece(
+fn piece<W: Write>(
+    to: &mut W,
     place: Place,
     bytes: &[u8],
     units: &mut [u64; UNITS_ROOM],
@@ -122,7 +127,7 @@ fn piece(
         if ends(byte, bad) {
             let said = script::line_end(reader);
             work = line(
-                work, said, units, sets, pairs, cpu_map, cpu_walker, cpu_cache, dma_map,
+                to, work, said, units, sets, pairs, cpu_map, cpu_walker, cpu_cache, dma_map,
                 dma_walker, dma_cache, memory, rows,
             );
             reader = script::line_start();
@@ -133,7 +138,8 @@ fn piece(
 }
 
 // The last line, with or without a line end, and all that still waits.
-pub fn finish(
+pub fn finish<W: Write>(
+    to: &mut W,
     place: Place,
     units: &mut [u64; UNITS_ROOM],
     sets: &mut [u64; SETS_WORDS],
@@ -153,11 +159,11 @@ pub fn finish(
     let reader = place.reader;
     let said = script::line_end(reader);
     let last = line(
-        work, said, units, sets, pairs, cpu_map, cpu_walker, cpu_cache, dma_map, dma_walker,
+        to, work, said, units, sets, pairs, cpu_map, cpu_walker, cpu_cache, dma_map, dma_walker,
         dma_cache, memory, rows,
     );
     settle(
-        last, true, units, sets, pairs, cpu_map, cpu_walker, cpu_cache, dma_map, dma_walker,
+        to, last, true, units, sets, pairs, cpu_map, cpu_walker, cpu_cache, dma_map, dma_walker,
         dma_cache, memory, rows,
     )
 }
@@ -179,7 +185,9 @@ fn unread(place: Place) -> Place
 
 // Piece by piece, until the input ends or nothing more counts. A loop has to end and nothing says that the input does, so
 // this one counts its turns down from a number that no run uses up.
-pub fn run(
+pub fn run<R: Read, W: Write>(
+    from: &mut R,
+    to: &mut W,
     units: &mut [u64; UNITS_ROOM],
     sets: &mut [u64; SETS_WORDS],
     pairs: &mut [u64; PAIRS],
@@ -200,18 +208,17 @@ pub fn run(
         reader: script::line_start(),
         bad: 0,
     };
-    let mut bytes = io::large_buffer();
+    let mut bytes = [0u8; PIECE];
     let mut turns = u64::MAX;
     while turns > 0 {
-        let got = libc::read(STDIN_FILENO, &mut bytes);
-        if got < 0 {
+        let Ok(count) = from.read(&mut bytes) else {
             return unread(place);
-        }
-        let count = io::count(got, &bytes);
+        };
         if count == 0 {
             return place;
         }
         let told = piece(
+            to,
             place,
             &bytes[..count],
             units,
@@ -229,7 +236,7 @@ pub fn run(
         let waits = told.work;
         let reader = told.reader;
         let work = pause(
-            waits, units, sets, pairs, cpu_map, cpu_walker, cpu_cache, dma_map, dma_walker,
+            to, waits, units, sets, pairs, cpu_map, cpu_walker, cpu_cache, dma_map, dma_walker,
             dma_cache, memory, rows,
         );
         place = Place {

@@ -8,9 +8,9 @@ ghost use Rattle.sequence.specs.Run.{progress};
 ghost use Rattle.replay.specs.Replay.{stop_number, set_out, replay_from, JudgedReplay};
 ghost use Rattle.replay.specs.Run.{carried, halted, came};
 
-use operation_log::{Found, LogRefusal};
 use model::{Fixed, Machine, Registers};
 use numbers::{ANSWER_NUMBERS, ROW_NUMBERS, Refusal};
+use operation_log::{Found, LogRefusal};
 
 // ---- Why it stopped.
 #[derive(Clone, Copy)]

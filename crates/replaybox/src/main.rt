@@ -12,17 +12,23 @@ ghost use Rattle.replaybox.specs.Room.{LOG_ROOM, Inside};
 use batch::carry::words_of;
 use batch::print::{ANSWER_ROOM, BATCH, print_between, print_text};
 use batch::{CACHE_WORDS, End, MEMORY_WORDS, Phase, ROWS_ROOM, SETS_WORDS, UNITS_ROOM};
-use libc::{STDERR_FILENO, STDOUT_FILENO};
-use operation_log::LogRefusal;
 use model::Machine;
 use numbers::{ENTRIES, PAIRS};
+use operation_log::LogRefusal;
 use reading::{finish, run};
 use replay::{Replayed, Stop};
 use script::Part;
 use source::{LOG_ROOM, Source, Tail, may_grow, refilled, untouched};
+use std::env::FillError;
+use std::io::{Read, Write};
+use std::rt::{Env, Files};
+use std::{fs, str};
 use text::print_records;
 
 // ---- The arguments.
+
+// Bytes of the longest word that is read.
+const WORD: usize = 4096;
 
 // How many records were asked for, or what is wrong.
 #[derive(Clone, Copy)]
@@ -43,26 +49,51 @@ fn number(text: &[u8]) -> Part {
     part
 }
 
-fn asked() -> Wish {
-    let count = os::arg_count();
-    if count == 2 {
-        return Wish::Most(u64::MAX);
+// Whether the program was called with a word at the place, of which 0 has its own name.
+fn is_given<R: Env>(rt: &R, i: usize) -> bool {
+    let mut text = [0u8; WORD];
+    if let Err(FillError::NotPresent) = rt.arg(i, &mut text) {
+        return false;
     }
-    if count != 3 {
+    true
+}
+
+// Puts the word at the start of the text and answers its length, 0 where it is missing or longer than the text.
+fn word<R: Env>(rt: &R, i: usize, text: &mut [u8]) -> usize
+    ensures { result ≤ length text.new }
+{
+    let Ok(length) = rt.arg(i, text) else {
+        return 0;
+    };
+    length
+}
+
+fn asked<R: Env>(rt: &R) -> Wish {
+    if !is_given(rt, 1) {
         return Wish::OtherCount;
     }
-    let mut text = io::buffer();
-    let length = os::arg(2, &mut text);
+    if !is_given(rt, 2) {
+        return Wish::Most(u64::MAX);
+    }
+    if is_given(rt, 3) {
+        return Wish::OtherCount;
+    }
+    let mut text = [0u8; WORD];
+    let length = word(rt, 2, &mut text);
     if let Part::Digits(most) = number(&text[..length]) {
         return Wish::Most(most);
     }
     Wish::NoNumber
 }
 
-fn open_log() -> i32 {
-    let mut path = io::buffer();
-    let length = os::arg(1, &mut path);
-    os::open_read(&path[..length])
+// The log's file, where it can be opened. The library opens files by names of UTF-8 alone.
+fn open_log<R: Env + Files>(rt: &R) -> Option<R::File> {
+    let mut path = [0u8; WORD];
+    let length = word(rt, 1, &mut path);
+    let Ok(name) = str::from_utf8(&path[..length]) else {
+        return None;
+    };
+    fs::open(rt, name).ok()
 }
 
 // ---- How far the replay has come.
@@ -207,7 +238,8 @@ fn ended(course: Course, source: Source, way: Way) -> Course
 }
 
 // The next records of the log, as far as it stands in the buffer, carried out together and printed.
-fn answered(
+fn answered<W: Write>(
+    to: &mut W,
     course: Course,
     source: Source,
     sets: &mut [u64; SETS_WORDS],
@@ -233,7 +265,7 @@ fn answered(
         memory, log, place, most, &mut room,
     );
     let next = onward(course, source, ran, most);
-    if print_records(log, place, &room, ran.taken) {
+    if print_records(to, log, place, &room, ran.taken) {
         return next;
     }
     let left = next.source;
@@ -241,9 +273,10 @@ fn answered(
 }
 
 // More of the file where it is wanted, and the records that follow.
-fn turn(
+fn turn<R: Read, W: Write>(
+    to: &mut W,
     course: Course,
-    fd: i32,
+    file: &mut R,
     buffer: &mut [u8],
     sets: &mut [u64; SETS_WORDS],
     pairs: &mut [u64; PAIRS],
@@ -259,13 +292,14 @@ fn turn(
     ensures { Inside result.source.place result.source.filled }
 {
     let from = course.source;
-    let source = refilled(from, fd, buffer);
+    let source = refilled(from, file, buffer);
     let tail = source.tail;
     if let Tail::CannotRead = tail {
         return ended(course, source, Way::CannotRead);
     }
     let filled = source.filled;
     answered(
+        to,
         course,
         source,
         sets,
@@ -282,10 +316,11 @@ fn turn(
 }
 
 // Turn by turn, until it has ended. As with a script, the loop counts down from a number that no run uses up.
-fn replay_all(
+fn replay_all<R: Read, W: Write>(
+    to: &mut W,
     machine: Machine,
     most: u64,
-    fd: i32,
+    file: &mut R,
     sets: &mut [u64; SETS_WORDS],
     pairs: &mut [u64; PAIRS],
     cpu_map: &mut [u64; ENTRIES],
@@ -307,8 +342,9 @@ fn replay_all(
     let mut turns = u64::MAX;
     while turns > 0 {
         course = turn(
+            to,
             course,
-            fd,
+            file,
             &mut buffer,
             sets,
             pairs,
@@ -330,75 +366,76 @@ fn replay_all(
 
 // ---- What is said at the end.
 
-fn print_unreadable(why: LogRefusal, offset: u64) -> bool {
+fn print_unreadable<W: Write>(to: &mut W, why: LogRefusal, offset: u64) -> bool {
     match why {
-        LogRefusal::CutShort => print_between(STDOUT_FILENO, b"byte ", offset, b": cut short\n"),
-        LogRefusal::UnknownKind => print_between(
-            STDOUT_FILENO,
-            b"byte ",
-            offset,
-            b": unknown kind\n",
-        ),
-        _ => print_between(STDOUT_FILENO, b"byte ", offset, b": wrong length\n"),
+        LogRefusal::CutShort => print_between(to, b"byte ", offset, b": cut short\n"),
+        LogRefusal::UnknownKind => print_between(to, b"byte ", offset, b": unknown kind\n"),
+        _ => print_between(to, b"byte ", offset, b": wrong length\n"),
     }
 }
 
 // The lines behind those of the records.
-fn print_stop(course: Course) -> bool {
+fn print_stop<W: Write>(to: &mut W, course: Course) -> bool {
     let way = course.way;
     let source = course.source;
     if let Way::NotValid = way {
-        if !print_text(b"refused 1\n") {
+        if !print_text(to, b"refused 1\n") {
             return false;
         }
     }
     if let Way::Unreadable(why) = way {
         let offset = std::num::wrapping_add_u64(source.before, source.place as u64);
-        if !print_unreadable(why, offset) {
+        if !print_unreadable(to, why, offset) {
             return false;
         }
     }
-    print_between(STDOUT_FILENO, b"taken ", course.taken, b"\n")
+    print_between(to, b"taken ", course.taken, b"\n")
 }
 
 // What ended the program, of which the wrapper makes an exit status.
-fn say(end: &[u8]) {
-    io::write_all(STDERR_FILENO, b"replaybox: ");
-    io::write_all(STDERR_FILENO, end);
+fn say<E: Write>(errors: &mut E, end: &[u8]) {
+    print_text(errors, b"replaybox: ");
+    print_text(errors, end);
 }
 
-fn say_course(course: Course) {
+fn say_course<W: Write, E: Write>(to: &mut W, errors: &mut E, course: Course) {
     let way = course.way;
     if let Way::CannotRead = way {
-        say(b"cannot read the log\n");
+        say(errors, b"cannot read the log\n");
         return;
     }
     if let Way::CannotWrite = way {
-        say(b"cannot write\n");
+        say(errors, b"cannot write\n");
         return;
     }
-    if !print_stop(course) {
-        say(b"cannot write\n");
+    if !print_stop(to, course) {
+        say(errors, b"cannot write\n");
         return;
     }
     if let Way::Unreadable(_) = way {
-        say(b"not understood\n");
+        say(errors, b"not understood\n");
         return;
     }
-    say(b"ended\n");
+    say(errors, b"ended\n");
 }
 
 // What ended the script before its end.
-fn say_script(end: End) {
+fn say_script<E: Write>(errors: &mut E, end: End) {
     match end {
-        End::NotUnderstood => say(b"not understood\n"),
-        End::CannotRead => say(b"cannot read\n"),
-        End::CannotWrite => say(b"cannot write\n"),
+        End::NotUnderstood => say(errors, b"not understood\n"),
+        End::CannotRead => say(errors, b"cannot read\n"),
+        End::CannotWrite => say(errors, b"cannot write\n"),
     }
 }
 
 // The script, and then the log.
-fn box_and_log(most: u64) {
+fn box_and_log<S: Env + Files, R: Read, W: Write, E: Write>(
+    rt: &S,
+    from: &mut R,
+    to: &mut W,
+    errors: &mut E,
+    most: u64,
+) {
     let mut units = [0u64; UNITS_ROOM];
     let mut sets = [0u64; SETS_WORDS];
     let mut pairs = [0u64; PAIRS];
@@ -411,6 +448,8 @@ fn box_and_log(most: u64) {
     let mut memory = [0u64; MEMORY_WORDS];
     let mut rows = [0u64; ROWS_ROOM];
     let place = run(
+        from,
+        to,
         &mut units,
         &mut sets,
         &mut pairs,
@@ -424,6 +463,7 @@ fn box_and_log(most: u64) {
         &mut rows,
     );
     let work = finish(
+        to,
         place,
         &mut units,
         &mut sets,
@@ -439,19 +479,19 @@ fn box_and_log(most: u64) {
     );
     let phase = work.phase;
     if let Phase::Ended(end) = phase {
-        say_script(end);
+        say_script(errors, end);
         return;
     }
-    let fd = open_log();
-    if fd < 0 {
-        say(b"cannot open the log\n");
+    let Some(mut file) = open_log(rt) else {
+        say(errors, b"cannot open the log\n");
         return;
-    }
+    };
     let machine = work.machine;
     let course = replay_all(
+        to,
         machine,
         most,
-        fd,
+        &mut file,
         &mut sets,
         &mut pairs,
         &mut cpu_map,
@@ -462,14 +502,23 @@ fn box_and_log(most: u64) {
         &mut dma_cache,
         &mut memory,
     );
-    libc::close(fd);
-    say_course(course);
+    drop(file);
+    say_course(to, errors, course);
 }
 
-fn main() {
-    match asked() {
-        Wish::Most(most) => box_and_log(most),
-        Wish::OtherCount => say(b"cannot take other arguments than LOG [MOST]\n"),
-        Wish::NoNumber => say(b"cannot read MOST: it is no number of 64 bits\n"),
+fn main(rt: HostRuntime) {
+    let mut from = rt.stdin();
+    let mut to = rt.stdout();
+    let mut errors = rt.stderr();
+    match asked(&rt) {
+        Wish::Most(most) => box_and_log(&rt, &mut from, &mut to, &mut errors, most),
+        Wish::OtherCount => say(
+            &mut errors,
+            b"cannot take other arguments than LOG [MOST]\n",
+        ),
+        Wish::NoNumber => say(
+            &mut errors,
+            b"cannot read MOST: it is no number of 64 bits\n",
+        ),
     }
 }

@@ -3,6 +3,8 @@
 ghost use Rattle.std.specs.Prelude.{◌≡◌, ◌+◌, ◌≤◌, length};
 ghost use Rattle.replaybox.specs.Room.{LOG_ROOM, Inside};
 
+use std::io::Read;
+
 // Bytes of the buffer.
 pub const LOG_ROOM: usize = 131072;
 // Bytes of the longest record: a length of two bytes, and as many as it may say.
@@ -63,17 +65,15 @@ struct Got {
     count: usize,
 }
 
-fn read_some(fd: i32, rest: &mut [u8]) -> Got
+fn read_some<R: Read>(file: &mut R, rest: &mut [u8]) -> Got
     ensures { result.count ≤ length rest.new }
 {
-    let got = libc::read(fd, rest);
-    if got < 0 {
+    let Ok(count) = file.read(rest) else {
         return Got {
             failed: true,
             count: 0,
         };
-    }
-    let count = io::count(got, rest);
+    };
     Got {
         failed: false,
         count,
@@ -93,13 +93,13 @@ fn with(source: Source, filled: usize, tail: Tail) -> Source
 }
 
 // Reads until the buffer is full or the file gives no more.
-fn fill(source: Source, fd: i32, buffer: &mut [u8]) -> Source
+fn fill<R: Read>(source: Source, file: &mut R, buffer: &mut [u8]) -> Source
     requires { Inside source.place source.filled × (length buffer.old ≡ LOG_ROOM) }
     ensures { Inside result.place result.filled }
 {
     let mut filled = source.filled;
     while filled < buffer.len() {
-        let got = read_some(fd, &mut buffer[filled..]);
+        let got = read_some(file, &mut buffer[filled..]);
         if got.failed {
             return with(source, filled, Tail::CannotRead);
         }
@@ -113,7 +113,7 @@ fn fill(source: Source, fd: i32, buffer: &mut [u8]) -> Source
 
 // Where less than the longest record stands in the buffer and there may be more, what stands there moves to the front and the
 // buffer is filled: so a record is cut short only where the file ends.
-pub fn refilled(source: Source, fd: i32, buffer: &mut [u8]) -> Source
+pub fn refilled<R: Read>(source: Source, file: &mut R, buffer: &mut [u8]) -> Source
     requires { Inside source.place source.filled × (length buffer.old ≡ LOG_ROOM) }
     ensures { Inside result.place result.filled }
 {
@@ -132,5 +132,5 @@ pub fn refilled(source: Source, fd: i32, buffer: &mut [u8]) -> Source
         filled: count,
         place: 0,
     };
-    fill(front, fd, buffer)
+    fill(front, file, buffer)
 }

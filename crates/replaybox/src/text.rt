@@ -3,9 +3,9 @@ ghost use Rattle.std.specs.Prelude.{◌+◌, ◌≤◌, length};
 ghost use Rattle.batch.specs.Room.{BATCH};
 ghost use Rattle.replaybox.specs.Room.{ROW_BYTES};
 
-use batch::print::{ANSWER_ROOM, BATCH, NUMBER_BYTES, put, put_answer};
-use libc::STDOUT_FILENO;
+use batch::print::{ANSWER_ROOM, BATCH, NUMBER_BYTES, print_text, put, put_answer};
 use numbers::{ANSWER_NUMBERS, ROW_NUMBERS};
+use std::io::Write;
 
 const BLANK: u8 = 32;
 
@@ -35,7 +35,13 @@ fn put_row(text: &mut [u8], at: usize, row: [u64; ROW_NUMBERS]) -> usize
 }
 
 // The first `count` records from a place of the log on, with their answers in the room.
-pub fn print_records(log: &[u8], place: usize, room: &[u64; ANSWER_ROOM], count: usize) -> bool
+pub fn print_records<W: Write>(
+    to: &mut W,
+    log: &[u8],
+    place: usize,
+    room: &[u64; ANSWER_ROOM],
+    count: usize,
+) -> bool
     requires { count ≤ BATCH }
 {
     let mut text = [0u8; TEXT];
@@ -50,5 +56,5 @@ pub fn print_records(log: &[u8], place: usize, room: &[u64; ANSWER_ROOM], count:
         from = record.next;
         k += 1;
     }
-    io::write_all(STDOUT_FILENO, &text[..at])
+    print_text(to, &text[..at])
 }

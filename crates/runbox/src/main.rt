@@ -2,32 +2,36 @@
 // it is one line more, on standard error.
 #![tactic(auto)]
 
+use batch::print::print_text;
 use batch::{CACHE_WORDS, End, MEMORY_WORDS, Phase, ROWS_ROOM, SETS_WORDS, UNITS_ROOM, Work};
-use libc::STDERR_FILENO;
 use numbers::{ENTRIES, PAIRS};
 use reading::{finish, run};
+use std::io::Write;
 
 // What ended the program, of which the wrapper makes an exit status.
-fn print_end(work: Work) {
+fn print_end<W: Write>(to: &mut W, work: Work) {
     let phase = work.phase;
     let Phase::Ended(end) = phase else {
-        io::write_all(STDERR_FILENO, b"runbox: ended\n");
+        print_text(to, b"runbox: ended\n");
         return;
     };
     match end {
         End::NotUnderstood => {
-            io::write_all(STDERR_FILENO, b"runbox: not understood\n");
+            print_text(to, b"runbox: not understood\n");
         }
         End::CannotRead => {
-            io::write_all(STDERR_FILENO, b"runbox: cannot read\n");
+            print_text(to, b"runbox: cannot read\n");
         }
         End::CannotWrite => {
-            io::write_all(STDERR_FILENO, b"runbox: cannot write\n");
+            print_text(to, b"runbox: cannot write\n");
         }
     }
 }
 
-fn main() {
+fn main(rt: HostRuntime) {
+    let mut from = rt.stdin();
+    let mut to = rt.stdout();
+    let mut errors = rt.stderr();
     let mut units = [0u64; UNITS_ROOM];
     let mut sets = [0u64; SETS_WORDS];
     let mut pairs = [0u64; PAIRS];
@@ -40,6 +44,8 @@ fn main() {
     let mut memory = [0u64; MEMORY_WORDS];
     let mut rows = [0u64; ROWS_ROOM];
     let place = run(
+        &mut from,
+        &mut to,
         &mut units,
         &mut sets,
         &mut pairs,
@@ -53,6 +59,7 @@ fn main() {
         &mut rows,
     );
     let work = finish(
+        &mut to,
         place,
         &mut units,
         &mut sets,
@@ -66,5 +73,5 @@ fn main() {
         &mut memory,
         &mut rows,
     );
-    print_end(work);
+    print_end(&mut errors, work);
 }
