@@ -191,7 +191,7 @@ fn numbers(sides: &Sides, report: &mut Report) {
             report.same(name, (HEADER, Some(*value)), ("crates/", left));
         } else if name == "RECORD_BYTES" {
             let longest = evaluated("HEAD_BYTES + FIELDS * FIELD_BYTES", source);
-            report.same(name, (HEADER, Some(*value)), ("crates/log", longest));
+            report.same(name, (HEADER, Some(*value)), ("crates/operation_log", longest));
         } else if !other.contains(name) && !operations.contains(name) && !name.starts_with("MARK_")
         {
             report.same(name, (HEADER, Some(value)), ("crates/", source.get(name)));
@@ -298,7 +298,7 @@ fn records(sides: &Sides, report: &mut Report) {
         report.same(
             &format!("operation {}, body", operation.number),
             (HEADER, Some(fields.sum())),
-            ("crates/log", body),
+            ("crates/operation_log", body),
         );
     }
     for name in ["CPU_WRITE", "DMA_WRITE"] {
@@ -307,7 +307,7 @@ fn records(sides: &Sides, report: &mut Report) {
         report.same(
             &format!("{name}, which has a value"),
             (HEADER, header),
-            ("crates/log", source),
+            ("crates/operation_log", source),
         );
     }
 }
