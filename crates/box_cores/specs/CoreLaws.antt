@@ -23,7 +23,8 @@ use Rattle.start.specs.Begun.{empty_header}
 use Rattle.box_header.specs.Numbers.{HeaderGood, machine_of, changed, begun, begun_by, answered, free_numbers}
 use Rattle.box_cores.specs.Boxes.{Box, BoxValid, state_in, lent_in, with_header, box_of, left_in, begun_in}
 use Rattle.box_cores.specs.Given.{Judgement, met, unmet, Given, given, answered_by, operation_gives, operation_refused, OperationAsked, ran_through, sequence_gives, refused_whole, FreeGiven, free_told, FreeAsked, free_gives, free_given, FREE_NUMBERS, StartGiven, start_given, start_gives, start_short, StartOfWords, all_there, not_whole, no_header, not_valid_answer, Whole, same, HeaderWhole}
-use Rattle.model.specs.RefusedLaws.{row_leaves, sequence_leaves}
+use Rattle.model.specs.RefusedLaws.{sequence_leaves}
+use Rattle.model.proofs.StepLeaves.{row_leaves}
 
 -- ---- a room that is written whole, or left
 pub answered_here : (room ns : List ℕ) → length room ≡ length ns → (i : ℕ) → i < length ns → get_or (answered room ns) i 0 ≡ get_or ns i 0

@@ -13,9 +13,10 @@ use Rattle.numbers.specs.declared.Refusal.{Refusal}
 use Rattle.units.specs.Units.{no_unit}
 use Rattle.model.specs.Effect.{kept, accepted}
 use Rattle.model.specs.Header.{state_of, setup_of}
-use Rattle.model.specs.RefusedLaws.{row_leaves, sequence_leaves}
+use Rattle.model.specs.RefusedLaws.{sequence_leaves}
+use Rattle.model.proofs.StepLeaves.{row_leaves}
 use Rattle.model.specs.Sequence.{Progress, operation_in, row_at, step_known, step_row, shape_answer, row_count, after, sequence, beginning}
-use Rattle.model.specs.ShapeLaws.{step_sizes}
+use Rattle.model.proofs.StepShape.{step_sizes}
 use Rattle.model.specs.Start.{Told, start_answer, empty_state, fresh_state, start}
 use Rattle.model.specs.State.{State}
 use Rattle.model.specs.Valid.{Valid}

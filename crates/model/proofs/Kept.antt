@@ -18,7 +18,7 @@ use Rattle.model.specs.Effect.{accepted, kept, memory_index}
 use Rattle.model.specs.Step.{answer_of, control, step}
 use Rattle.model.specs.Start.{Told, Lent, start_answer, start}
 use Rattle.model.specs.Sequence.{operation_in, step_known, step_row, Progress, beginning, turn, after, row_count, shape_answer, sequence, row_at}
-use Rattle.model.specs.ShapeLaws.{step_sizes}
+use Rattle.model.proofs.StepShape.{step_sizes}
 use Rattle.model.specs.Valid.{ValidTables, Valid}
 use Rattle.model.specs.Good.{Touches, Good}
 use Rattle.model.proofs.StartKept.{start_valid}

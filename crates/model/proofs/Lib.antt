@@ -54,3 +54,5 @@ pub mod UpstreamRegionSets
 pub mod UpstreamRegions
 pub mod UpstreamRetire
 pub mod UpstreamSteps
+pub mod StepLeaves
+pub mod StepShape

@@ -25,7 +25,7 @@ use Rattle.model.specs.Step.{Stepped, answer_with, step, control}
 use Rattle.model.specs.Sequence.{operation_in, step_known, step_row, row_at, Progress, after}
 use Rattle.model.specs.Valid.{ValidTables, Valid}
 use Rattle.model.specs.MemoryLaws.{length-applied}
-use Rattle.model.specs.ShapeLaws.{control_shape}
+use Rattle.model.proofs.StepShape.{control_shape}
 use Rattle.model.specs.Good.{PlaceOn, Wrote}
 use Rattle.model.specs.Secrecy.{PrivateTo, Private, effect_in, side_without_value, without_value, without_value_in, Shared, without_word, NearStores, stop, same, other, Near, alike, stores, SecretAt, Seen, SameRead, Alike, SharesEqual, SameAnswer, Asked, Premise, StayAlike}
 use Rattle.model.proofs.Answers.{after_next}

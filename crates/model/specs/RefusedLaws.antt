@@ -14,46 +14,9 @@ pub record Leaves (t : Tables) (c : Control) : Type 0 where
   pub tables : c.tables ≡ kept c.answer t c.tables
   pub effect : c.effect ≡ kept c.answer quiet c.effect
 
-decided_leaves : (t : Tables) (answer : Answer) (new : Tables) (effect : Effect) → Leaves t (decided t answer new effect)
-unfolding decided
-decided_leaves t (Accepted dropped word) new effect = record { tables = refl; effect = refl }
-decided_leaves t (Refused refusal index) new effect = record { tables = refl; effect = refl }
-
-control_leaves : (t : Tables) (operation : Operation) → Leaves t (control t operation)
-unfolding control
-control_leaves t operation = decided_leaves t (answer_of t operation) (next_of t operation) (effect_of t operation)
-
 -- ---- carried out: the state as it was where it is refused
-abbrev KeptBy : State → Stepped → Type 0
+abbrev pub KeptBy : State → Stepped → Type 0
 KeptBy s r = r.state ≡ kept r.answer s r.state
-
--- a word that is read makes no refusal
-accepted_still : (s : State) (dropped word : ℕ) (t : Tables) (effect : Effect) → KeptBy s (carried_out (record { answer = Accepted dropped word; tables = t; effect = effect }) s.memory)
-accepted_still s dropped word t (reads vm []) = refl
-accepted_still s dropped word t (reads vm (place ∷ places)) = refl
-accepted_still s dropped word t (writes vm stores) = refl
-accepted_still s dropped word t (clears pages) = refl
-
-carried_leaves :
-    (s : State) (answer : Answer) (t : Tables) (effect : Effect) →
-    t ≡ kept answer s.tables t → effect ≡ kept answer quiet effect → KeptBy s (carried_out (record { answer = answer; tables = t; effect = effect }) s.memory)
-unfolding apply cleared_pages
-carried_leaves s (Accepted dropped word) t effect e f = accepted_still s dropped word t effect
-carried_leaves s (Refused refusal index) t effect e f = rw (e, f)
-
-pub step_leaves : (s : State) (operation : Operation) → KeptBy s (step s operation)
-unfolding step
-step_leaves s operation =
-    let l : Leaves s.tables (control s.tables operation) = control_leaves s.tables operation in
-    carried_leaves s (control s.tables operation).answer (control s.tables operation).tables (control s.tables operation).effect l.tables l.effect
-
-known_leaves : (s : State) (o : Option Operation) → KeptBy s (step_known s o)
-known_leaves s none = refl
-known_leaves s (some operation) = step_leaves s operation
-
-pub row_leaves : (s : State) (row : List ℕ) → KeptBy s (step_row s row)
-unfolding step_row
-row_leaves s row = known_leaves s (operation_in row)
 
 -- ---- the sequence: the state, and the answer room
 pub record SequenceLeaves (s : State) (lent : List ℕ) (r : Sequenced) : Type 0 where

@@ -54,7 +54,7 @@ pub record SameShape (t t' : Tables) : Type 0 where
 same_route : (r : Route) → SameRoute r r
 same_route r = record { map = refl; walker = refl; cache = refl; ports = refl }
 
-same_shape : (t : Tables) → SameShape t t
+pub same_shape : (t : Tables) → SameShape t t
 same_shape t = record { setup = refl; sets = refl; pairs = refl; cpu = same_route t.cpu; dma = same_route t.dma }
 
 -- ---- a part replaced by one of its length
@@ -70,11 +70,6 @@ pairs_shape t pairs e = record { setup = refl; sets = refl; pairs = e; cpu = sam
 side_shape : (side : Side) (t : Tables) (r : Route) (sets : List ℕ) → SameRoute (route side t) r → length sets ≡ length t.sets → SameShape t (with_side side t r sets)
 side_shape Cpu t r sets s e = record { setup = refl; sets = e; pairs = refl; cpu = s; dma = same_route t.dma }
 side_shape Dma t r sets s e = record { setup = refl; sets = e; pairs = refl; cpu = same_route t.cpu; dma = s }
-
-decided_shape : (t : Tables) (answer : Answer) (new : Tables) (effect : Effect) → SameShape t new → SameShape t (decided t answer new effect).tables
-unfolding decided
-decided_shape t (Accepted dropped word) new effect s = s
-decided_shape t (Refused refusal index) new effect s = same_shape t
 
 -- ---- lengths of what operations leave
 length-repeat : (f : ℕ → List ℕ → List ℕ) → ((k : ℕ) (ws : List ℕ) → length (f k ws) ≡ length ws) → (i n : ℕ) (ws : List ℕ) → length (repeat f i n ws) ≡ length ws
@@ -185,7 +180,7 @@ length-side_sets side sets (sided.WriteWord port guest word value) = refl
 
 -- ---- each operation
 module _ (t : Tables) where
-  next_shape : (operation : Operation) → SameShape t (next_of t operation)
+  pub next_shape : (operation : Operation) → SameShape t (next_of t operation)
   unfolding share_pairs unshare_pairs
   next_shape (op.AddVm vm) = known_shape t _
   next_shape (op.RemoveVm vm) = known_shape t _
@@ -205,15 +200,7 @@ module _ (t : Tables) where
         dma = same_retired t.dma Dma t.sets vm.0;
       }
 
-  pub control_shape : (operation : Operation) → SameShape t (control t operation).tables
-  unfolding control
-  control_shape operation = decided_shape t (answer_of t operation) (next_of t operation) (effect_of t operation) (next_shape operation)
-
 -- ---- one step of the whole machine
 pub record SameSizes (s s' : State) : Type 0 where
   pub tables : SameShape s.tables s'.tables
   pub memory : length s'.memory ≡ length s.memory
-
-pub step_sizes : (s : State) (operation : Operation) → SameSizes s (step s operation).state
-unfolding step
-step_sizes s operation = record { tables = control_shape s.tables operation; memory = length-applied (control s.tables operation).effect s.memory }

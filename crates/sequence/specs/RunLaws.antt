@@ -23,7 +23,8 @@ use Rattle.rows.specs.declared.Decoded.TheVariants.{Known, Unknown}
 use Rattle.model.specs.Sequence.{Progress, turn, after, step_row, step_known, operation_in, row_at, recorded, shape_answer, sequence}
 use Rattle.model.specs.WriteLaws.{length-written}
 use Rattle.model.specs.EarlyLaws.{past}
-use Rattle.model.specs.ShapeLaws.{SameRoute, SameShape, SameSizes, step_sizes}
+use Rattle.model.specs.ShapeLaws.{SameRoute, SameShape, SameSizes}
+use Rattle.model.proofs.StepShape.{step_sizes}
 use Rattle.sequence.specs.Run.{ran, shape_of}
 
 -- ---- sizes pass on
