@@ -1,16 +1,13 @@
 -- Operation 27 is accepted exactly where its conditions hold: the VM is known, and on no port.
-use Prim.{Unit, tt}
+use Prim.{tt}
 use Prim.Native.Nat.{ℕ, ◌<◌}
-use mathlib.Core.Bool.{true}
 use mathlib.Core.Logic.{◌⊎◌, inl, inr, ⊎_elim}
-use mathlib.Core.Path.{◌≡◌}
-use Rattle.numbers.specs.Limits.{VMS, PORTS}
+use Rattle.numbers.specs.Limits.{PORTS}
 use Rattle.numbers.specs.Decides.{Decides}
 use Rattle.numbers.specs.DecidesLaws.{always, decides_as, decides_or}
 use Rattle.numbers.specs.declared.Side.{Side}
 use Rattle.numbers.specs.declared.Side.TheVariants.{Cpu, Dma}
 use Rattle.model.specs.State.{Tables}
-use Rattle.model.specs.Views.{knows}
 use Rattle.model.specs.Valid.{ValidTables}
 use Rattle.model.specs.Ledger.{vm_early}
 use Rattle.model.specs.Retire.{retire_may, retire_answer}

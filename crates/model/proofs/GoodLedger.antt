@@ -23,9 +23,9 @@ use Rattle.table.specs.ScanLaws.{length-wipe, has_wipe_inv, has_wipe_keep}
 use Rattle.table.specs.Table.{Has, has_key, put, erase, room_for}
 use Rattle.table.specs.TableLaws.{length-put, has_put_inv, has_put_keep, distinct_put, distinct_wipe}
 use Rattle.pages.specs.BitLaws.{has_bit-with_same, has_bit-with_other, has_bit-without_other, with_bit-fits, without_bit-fits}
-use Rattle.model.specs.State.{Tables, route, with_known, with_sets, with_pairs}
+use Rattle.model.specs.State.{Tables, route, with_sets, with_pairs}
 use Rattle.model.specs.Views.{is_vm, knows, in_pool, owns, holds_dma, claims, claimed_elsewhere, targeted, whichever, of_vm, edge_on, has_pages, has_mappings, edge_of, on_port, shares, paired, may_map}
-use Rattle.model.specs.Effect.{quiet, clears, accepted}
+use Rattle.model.specs.Effect.{clears, accepted}
 use Rattle.model.specs.Sequence.{vm_id, phys_page}
 use Rattle.model.specs.EarlyLaws.{past, then_passed, PagePassed, page_passed, PairPassed, pair_passed}
 use Rattle.model.specs.Ledger.{
@@ -49,7 +49,7 @@ use Rattle.model.specs.Ledger.{
 }
 use Rattle.model.specs.Step.{answer_of}
 use Rattle.model.specs.Valid.{PairGood, PairsGood, ValidTables}
-use Rattle.model.specs.Good.{Good, Made, holds_page, Cleared}
+use Rattle.model.specs.Good.{Made, holds_page, Cleared}
 use Rattle.model.proofs.ViewLaws.{neither, of_vm_lem, Lends, lends_shares, shares_lends, no_edge_on, no_edge_of, not_paired, not_targeted, no_mappings, on_no_port, no_pages_lem, may_own, may_lent}
 use Rattle.model.proofs.PagesKept.{pages_assigned, pages_reclaimed}
 use Rattle.model.proofs.EditedSets.{Edited, insert_edited, remove_edited, given_stays, given_holds, taken_ended, ended_free}

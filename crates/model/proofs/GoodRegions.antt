@@ -18,7 +18,6 @@ use Rattle.table.specs.Table.{Has}
 use Rattle.numbers.specs.declared.Region.{Region}
 use Rattle.model.specs.State.{Tables, Route, route, with_route, with_side, with_sets}
 use Rattle.model.specs.Views.{owns, claims, other_side, targeted, but_key, edge_on}
-use Rattle.model.specs.Effect.{clears, quiet}
 use Rattle.model.specs.Regions.{page_in, key_in, in_use, insert_sets, remove_sets, remove_table, remove_clears, remove_clears_from}
 use Rattle.model.specs.Step.{insert_route, remove_route, answer_of}
 use Rattle.model.specs.Valid.{EntryGood, PairGood, ValidTables}

@@ -28,7 +28,7 @@ use Rattle.model.specs.EarlyLaws.{past, then_passed, VmPassed, vm_passed}
 use Rattle.model.specs.Ledger.{vm_early, remove_vm_known}
 use Rattle.model.specs.KnownLaws.{knows_below}
 use Rattle.model.specs.Retire.{onto_its, goes, retire_may, retire_answer, retire_table, retire_pairs, retire_sets, held_from, retire_clears, retire_route, retired}
-use Rattle.model.specs.ShapeLaws.{SameRoute, same_retired, length-retire}
+use Rattle.model.specs.ShapeLaws.{same_retired, length-retire}
 use Rattle.model.specs.Step.{answer_of}
 use Rattle.model.specs.Valid.{cpu, pool, ValidTables}
 use Rattle.model.specs.Good.{holds_page, PageIn}

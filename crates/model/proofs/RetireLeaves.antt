@@ -25,7 +25,7 @@ use Rattle.model.specs.State.{Tables, route}
 use Rattle.model.specs.Views.{is_filled, knows, in_pool, owns, claims, joins, on_port}
 use Rattle.model.specs.Retire.{onto_its, goes, retire_table, retire_pairs, retired}
 use Rattle.model.specs.Step.{answer_of}
-use Rattle.model.specs.Valid.{EntryGood, MapGood, ValidTables}
+use Rattle.model.specs.Valid.{MapGood, ValidTables}
 use Rattle.model.specs.Conditions.{RunsOn}
 use Rattle.model.proofs.ViewLaws.{AtEnd, joined, joined_inv, on_no_port, not_so}
 use Rattle.model.proofs.RoutesKept.{slot_walks}

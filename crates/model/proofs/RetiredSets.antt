@@ -1,6 +1,6 @@
 -- What retiring a VM leaves in the page sets: its CPU pages are in the pool, it claims nothing, and every other claim stays. So the sets
 -- are good again.
-use Prim.Native.Nat.{ℕ, ◌+◌, ◌*◌, ◌≤◌, ◌<◌}
+use Prim.Native.Nat.{ℕ, ◌*◌, ◌≤◌, ◌<◌}
 use mathlib.Core.Bool.{true, false, ◌||◌, true≢false, or-true}
 use mathlib.Core.List.{List}
 use mathlib.Core.Logic.{◌⊎◌, inl, inr, ⊎_elim}

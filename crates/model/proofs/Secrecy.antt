@@ -27,7 +27,7 @@ use Rattle.model.specs.Valid.{ValidTables, Valid}
 use Rattle.model.specs.MemoryLaws.{length-applied}
 use Rattle.model.proofs.StepShape.{control_shape}
 use Rattle.model.specs.Good.{PlaceOn, Wrote}
-use Rattle.model.specs.Secrecy.{PrivateTo, Private, effect_in, side_without_value, without_value, without_value_in, Shared, without_word, NearStores, stop, same, other, Near, alike, stores, SecretAt, Seen, SameRead, Alike, SharesEqual, SameAnswer, Asked, Premise, StayAlike}
+use Rattle.model.specs.Secrecy.{PrivateTo, Private, effect_in, side_without_value, without_value, without_value_in, without_word, NearStores, stop, same, other, Near, alike, stores, SecretAt, Seen, SameRead, Alike, SharesEqual, SameAnswer, Asked, Premise, StayAlike}
 use Rattle.model.proofs.Answers.{after_next}
 use Rattle.model.proofs.Kept.{good, row_valid, after_valid}
 use Rattle.model.proofs.EffectLaws.{inside, stored_over}

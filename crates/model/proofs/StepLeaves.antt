@@ -4,10 +4,10 @@ use Rattle.std.proofs.Math.Option.{Option, none, some}
 use Rattle.numbers.specs.declared.Answer.{Answer}
 use Rattle.numbers.specs.declared.Answer.TheVariants.{Accepted, Refused}
 use Rattle.numbers.specs.declared.Operation.{Operation}
-use Rattle.model.specs.Effect.{Effect, Control, kept, quiet, decided, apply, cleared_pages, reads, writes, clears}
+use Rattle.model.specs.Effect.{Effect, kept, quiet, decided, apply, cleared_pages, reads, writes, clears}
 use Rattle.model.specs.Sequence.{step_known, step_row, operation_in}
 use Rattle.model.specs.State.{State, Tables}
-use Rattle.model.specs.Step.{answer_of, next_of, effect_of, control, Stepped, carried_out, step}
+use Rattle.model.specs.Step.{answer_of, next_of, effect_of, control, carried_out, step}
 use Rattle.model.specs.RefusedLaws.{Leaves, KeptBy}
 
 -- ---- what is decided: nothing where it is refused

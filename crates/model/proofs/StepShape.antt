@@ -1,5 +1,4 @@
 -- No operation changes what start fixed, nor the length of any list: what control installs has the shape of what was there.
-use Rattle.std.specs.Prelude.{ℕ}
 use Rattle.numbers.specs.declared.Answer.{Answer}
 use Rattle.numbers.specs.declared.Answer.TheVariants.{Accepted, Refused}
 use Rattle.numbers.specs.declared.Operation.{Operation}

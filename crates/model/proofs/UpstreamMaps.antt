@@ -12,7 +12,7 @@ use Rattle.numbers.specs.CaseLaws.{cases, equal}
 use Rattle.numbers.specs.Choice.{if◌then◌else◌}
 use Rattle.numbers.specs.Limits.{VMS, GUEST_PAGES, PAGES, ACCESSES, GENERATIONS}
 use Rattle.numbers.specs.Packing.{key, key_of, slot_key, address_of, map_word, entry}
-use Rattle.numbers.specs.PackingLaws.{key_filled, entry_fits, entry_page, entry_access, entry_generation, word_page, word_access, word_generation}
+use Rattle.numbers.specs.PackingLaws.{key_filled, entry_page, entry_access, entry_generation, word_page, word_access, word_generation}
 use Rattle.numbers.specs.declared.Answer.TheVariants.{Accepted}
 use Rattle.numbers.specs.declared.GuestPage.{GuestPage}
 use Rattle.numbers.specs.declared.Operation.TheVariants as op

@@ -1,13 +1,11 @@
 -- A refused operation leaves the state as it was, a refused sequence the answer room too.
-use Rattle.std.specs.Prelude.{ℕ, List, [], ◌∷◌, ◌≡◌, refl}
-use Rattle.std.proofs.Math.Option.{Option, none, some}
+use Rattle.std.specs.Prelude.{ℕ, List, ◌≡◌, refl}
 use Rattle.numbers.specs.declared.Answer.{Answer}
 use Rattle.numbers.specs.declared.Answer.TheVariants.{Accepted, Refused}
-use Rattle.numbers.specs.declared.Operation.{Operation}
-use Rattle.model.specs.Effect.{Effect, Control, kept, quiet, decided, apply, cleared_pages, reads, writes, clears}
-use Rattle.model.specs.Sequence.{step_known, step_row, operation_in, shape_answer, after, row_count, Sequenced, beginning, sequence}
+use Rattle.model.specs.Effect.{Control, kept, quiet}
+use Rattle.model.specs.Sequence.{shape_answer, after, row_count, Sequenced, beginning, sequence}
 use Rattle.model.specs.State.{State, Tables}
-use Rattle.model.specs.Step.{answer_of, next_of, effect_of, control, Stepped, carried_out, step}
+use Rattle.model.specs.Step.{Stepped}
 
 -- ---- what is decided: nothing where it is refused
 pub record Leaves (t : Tables) (c : Control) : Type 0 where

@@ -6,8 +6,6 @@ use Rattle.std.proofs.Common.{◌∙◌, length-set}
 use Rattle.std.proofs.Math.ListN.{length}
 use Rattle.numbers.specs.Choice.{if◌then◌else◌}
 use Rattle.numbers.specs.Packing.{key_of, address_of, entry_of, pair_key_of, pair_key, pair_word, key, slot_key, slot_word}
-use Rattle.numbers.specs.declared.Answer.{Answer}
-use Rattle.numbers.specs.declared.Answer.TheVariants.{Accepted, Refused}
 use Rattle.numbers.specs.declared.Side.{Side}
 use Rattle.numbers.specs.declared.Side.TheVariants.{Cpu, Dma}
 use Rattle.numbers.specs.declared.Target.{Target}
@@ -28,14 +26,12 @@ use Rattle.pages.specs.Rows.{remove, pool_row, cpu_row, dma_row}
 use Rattle.numbers.specs.declared.Region.{Region}
 use Rattle.model.specs.State.{Tables, Route, State, route, with_side, with_known, with_sets, with_pairs, with_cache, with_ports}
 use Rattle.model.specs.Views.{joins, paired}
-use Rattle.model.specs.Effect.{Effect, decided}
-use Rattle.model.specs.MemoryLaws.{length-applied}
 use Rattle.model.specs.Ledger.{assign_sets, reclaim_sets, share_pairs, unshare_pairs}
 use Rattle.model.specs.Maps.{map_table, unmap_table, without_slots}
 use Rattle.model.specs.Regions.{insert_page, insert_sets, insert_table, remove_page, remove_sets, remove_table, in_region, key_in, region_entry, page_in}
 use Rattle.model.specs.Ports.{port_ports, empty_cache, fill_cache, fill_place, vm_on}
 use Rattle.model.specs.Retire.{goes, retire_table, retire_pairs, retire_sets, retire_route}
-use Rattle.model.specs.Step.{map_route, unmap_route, insert_route, remove_route, fill_route, side_route, side_sets, answer_of, next_of, effect_of, control, step}
+use Rattle.model.specs.Step.{map_route, unmap_route, insert_route, remove_route, fill_route, side_route, side_sets, next_of}
 
 -- ---- one shape
 pub record SameRoute (r r' : Route) : Type 0 where

@@ -1,9 +1,6 @@
 -- The numbers that the paper has for each case of each enum (docs/MACHINE.md, 2 and 7).
 use Rattle.std.specs.Prelude.{ℕ, List, [], ◌∷◌, get_or}
 use Rattle.numbers.specs.Limits.{IDLE}
-use Rattle.numbers.specs.declared.VmId.{VmId}
-use Rattle.numbers.specs.declared.GuestPage.{GuestPage}
-use Rattle.numbers.specs.declared.PhysPage.{PhysPage}
 use Rattle.numbers.specs.declared.Refusal.{Refusal}
 use Rattle.numbers.specs.declared.Refusal.TheVariants.{
   StateNotValid,

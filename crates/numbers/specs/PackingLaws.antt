@@ -1,43 +1,8 @@
 -- Unpacking gives back what was packed, and every filled word is the packing of its parts.
 -- The laws ask for the width of a field, never for a limit of the machine.
-use Rattle.std.specs.Prelude.{ℕ, ◌+◌, ◌*◌, ◌/◌, ◌%◌, ◌<◌, ◌≤◌, min, max, ◌≡◌, refl}
+use Rattle.std.specs.Prelude.{ℕ, ◌+◌, ◌*◌, ◌/◌, ◌<◌, min, max, ◌≡◌}
 use Rattle.std.proofs.Common.{sym, ap, ◌∙◌, arith}
-use Rattle.numbers.specs.Packing.{
-  GENERATION_FIELD,
-  ACCESS_BIT,
-  ACCESS_FIELD,
-  PAGE_BIT,
-  PAGE_FIELD,
-  FILLED_BIT,
-  GUEST_BIT,
-  GUEST_FIELD,
-  VM_FIELD,
-  PORT_BIT,
-  ADDRESS_FIELD,
-  entry,
-  slot_word,
-  map_word,
-  pair_word,
-  slot_key,
-  key,
-  pair_key,
-  port_of,
-  vm_of,
-  guest_of,
-  entry_of,
-  filled_of,
-  page_of,
-  access_of,
-  generation_of,
-  key_of,
-  address_of,
-  left_of,
-  right_of,
-  pair_key_of,
-  EntryFits,
-  WordFits,
-  PairFits,
-}
+use Rattle.numbers.specs.Packing.{ACCESS_BIT, ACCESS_FIELD, PAGE_BIT, PAGE_FIELD, FILLED_BIT, GUEST_BIT, GUEST_FIELD, VM_FIELD, PORT_BIT, ADDRESS_FIELD, entry, slot_word, map_word, pair_word, slot_key, key, pair_key, port_of, vm_of, guest_of, entry_of, filled_of, page_of, access_of, generation_of, key_of, address_of, left_of, right_of, pair_key_of, EntryFits, WordFits, PairFits}
 
 -- ---- an entry
 module _ {page access generation : ℕ} (f : EntryFits page access generation) where

@@ -5,7 +5,6 @@ use Rattle.numbers.specs.Choice.{if◌then◌else◌}
 use Rattle.numbers.specs.Limits.{PAGES, VMS}
 use Rattle.numbers.specs.declared.Lowest.{Lowest}
 use Rattle.numbers.specs.declared.Lowest.TheVariants.{Page, Nothing}
-use Rattle.numbers.specs.declared.PhysPage.{PhysPage}
 use Rattle.table.specs.Scan.{any_below, count_below, lowest}
 use Rattle.pages.specs.Bits.{contains, insert, delete}
 

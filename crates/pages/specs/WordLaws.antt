@@ -1,5 +1,5 @@
 -- Laws of whole words: words with the same bits are the same, a word is 0 exactly where it has no bit, and the bits of `&`, `|` and `^`.
-use Rattle.std.specs.Prelude.{ℕ, zero, suc, ◌+◌, ◌*◌, ◌/◌, ◌%◌, ◌^◌, ◌<◌, min, max, Bool, true, false, ◌&&◌, ◌||◌, ◌⊎◌, ◌≡◌}
+use Rattle.std.specs.Prelude.{ℕ, zero, suc, ◌+◌, ◌*◌, ◌/◌, ◌%◌, ◌^◌, ◌<◌, min, max, true, false, ◌&&◌, ◌||◌, ◌⊎◌, ◌≡◌}
 use Rattle.std.proofs.Common.{true≢false, ⊎_elim, sym, ◌∙◌, pow-suc, arith, eqb-true, pow_pos, shr-shr}
 use Rattle.std.proofs.Math.Bool.{xor, or-true}
 use Rattle.std.proofs.Math.Path.{refl}

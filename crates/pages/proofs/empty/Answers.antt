@@ -1,5 +1,4 @@
 -- `pages::empty` meets its contract: the words before k are 0.
-use Prim.Native.Nat.{◌-◌}
 use lib.ListN.{length-set}
 use Rattle.table.specs.Loops.{sweep_next, sweep_end}
 use Rattle.pages.specs.Pour.{emptied}

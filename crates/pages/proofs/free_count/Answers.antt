@@ -1,5 +1,4 @@
 -- `pages::free_count` meets its contract: the count so far is that of the pages passed.
-use Prim.Native.Nat.{◌-◌}
 use mathlib.Core.Path.{sym, ◌∙◌}
 use native.Mathlib.Omega.{arith}
 use borrow.Author.Rules.{rules}

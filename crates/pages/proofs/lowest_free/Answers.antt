@@ -1,9 +1,9 @@
 -- `pages::lowest_free` meets its contract: the loop is the search of `Rising` for a free page.
-use Prim.Native.Nat.{◌<◌, ◌-◌}
+use Prim.Native.Nat.{◌<◌}
 use mathlib.Core.Path.{◌≡◌, sym, ap, ◌∙◌}
 use native.Mathlib.Omega.{arith}
 use Rattle.table.specs.Loops.{rise_next, rise_found, rise_none}
-use Rattle.pages.specs.Rows.{is_free, lowest_of, lowest_free}
+use Rattle.pages.specs.Rows.{lowest_of, lowest_free}
 use Rattle.pages.specs.RowLaws.{lowest_page, lowest_nothing}
 use Rattle.pages.proofs.lowest_free.Goals as goal
 

@@ -1,5 +1,4 @@
 -- `pages::pour` meets its contract: the words before k are poured.
-use Prim.Native.Nat.{◌-◌}
 use lib.ListN.{length-set}
 use Rattle.table.specs.Loops.{sweep_next, sweep_end}
 use Rattle.pages.specs.Pour.{pour}

@@ -1,5 +1,4 @@
 use Rattle.script.specs.LineLaws.{read_end}
-use Prim.Native.Nat.{◌-◌}
 use mathlib.Core.Path.{◌∙◌}
 use Rattle.script.proofs.read_line.Goals as goal
 

@@ -1,10 +1,8 @@
 -- `table::drop_slots` meets its contract. The loop has emptied and counted the words of the address that it passed.
-use Prim.Native.Nat.{◌-◌}
 use mathlib.Core.Path.{sym, ◌∙◌}
 use native.Mathlib.Omega.{arith}
 use borrow.Author.Tests.{eq-eqb, ne_eqb}
 use lib.Seq.{set-get_or}
-use Rattle.numbers.specs.Packing.{address_of}
 use Rattle.table.specs.Loops.{wipe_read, wipe_hit, wipe_miss, wipe_end, tally_hit, tally_miss, tally_end}
 use Rattle.table.specs.Table.{erase}
 use Rattle.table.proofs.drop_slots.Goals as goal

@@ -1,9 +1,7 @@
 -- `table::erase` meets its contract. The loop has emptied the words of the key that it passed.
-use Prim.Native.Nat.{◌-◌}
 use mathlib.Core.Path.{sym, ◌∙◌}
 use borrow.Author.Tests.{eq-eqb, ne_eqb}
 use lib.Seq.{set-get_or}
-use Rattle.numbers.specs.Packing.{key_of}
 use Rattle.table.specs.Loops.{wipe_hit, wipe_miss, wipe_end}
 use Rattle.table.specs.Table.{erase}
 use Rattle.table.proofs.erase.Goals as goal

@@ -1,8 +1,6 @@
 -- `table::find` meets its contract. The loop has passed words without the key.
-use Prim.Native.Nat.{◌-◌}
 use mathlib.Core.Path.{sym, ◌∙◌}
 use borrow.Author.Tests.{eq-eqb}
-use Rattle.numbers.specs.Packing.{key_of}
 use Rattle.table.specs.Loops.{seek_found, seek_none}
 use Rattle.table.specs.Table.{find}
 use Rattle.table.proofs.find.Goals as goal

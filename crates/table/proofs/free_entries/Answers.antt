@@ -1,5 +1,4 @@
 -- `table::free_entries` meets its contract. The loop has counted the empty words that it passed.
-use Prim.Native.Nat.{◌-◌}
 use Rattle.table.specs.Loops.{tally_end}
 use Rattle.table.specs.Table.{free_entries}
 use Rattle.table.proofs.free_entries.Goals as goal

@@ -1,5 +1,4 @@
 -- `table::lowest_free` meets its contract. The loop passes filled words.
-use Prim.Native.Nat.{◌-◌}
 use borrow.Author.Tests.{eq-eqb}
 use Rattle.table.specs.Loops.{seek_found, seek_none}
 use Rattle.table.specs.Table.{lowest_free}

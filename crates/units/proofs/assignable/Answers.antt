@@ -1,7 +1,6 @@
-use Prim.Native.Nat.{◌-◌}
 use mathlib.Core.Path.{sym, ◌∙◌}
 use Rattle.table.specs.Loops.{try_next, try_yes, try_no}
-use Rattle.units.specs.Units.{is_unit, assignable}
+use Rattle.units.specs.Units.{assignable}
 use Rattle.units.proofs.assignable.Goals as goal
 
 pub returns-then-is_unit : goal.returns-then-is_unit
