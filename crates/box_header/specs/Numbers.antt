@@ -1,6 +1,6 @@
 -- The header of a machine as numbers alone, the form in which it crosses to C (docs/MACHINE.md, 13).
 use Rattle.std.specs.Prelude.{ℕ, ◌+◌, ◌*◌, ◌<◌, Bool, true, not, ◌&&◌, List, [], ◌∷◌, ◌++◌, ◌≡◌, eqb, ltb, length, get_or, take, drop}
-use Rattle.numbers.specs.Choice.{if◌then◌else◌}
+use Rattle.std.specs.Prelude.{if◌then◌else◌}
 use Rattle.numbers.specs.Limits.{PORTS, UNITS}
 use Rattle.numbers.specs.Meaning.{lowest_numbers}
 use Rattle.numbers.specs.declared.Lowest.{Lowest}

@@ -1,7 +1,7 @@
 -- What replay gives for a box (docs/MACHINE.md, 14): a number, the place of the next record, the answers, how many records were taken,
 -- and the box as it is left. Place and taken are rooms of one number.
 use Rattle.std.specs.Prelude.{ℕ, ◌&&◌, List, [], ◌∷◌, ◌≡◌, eqb, length, get_or}
-use Rattle.numbers.specs.Choice.{if◌then◌else◌}
+use Rattle.std.specs.Prelude.{if◌then◌else◌}
 use Rattle.numbers.specs.Meaning.{number_of}
 use Rattle.replay.specs.Replay.{Replayed, stop_number, replay}
 use Rattle.replay.specs.declared.Stop.{Stop}

@@ -1,7 +1,7 @@
 -- What the two functions over a log give (docs/MACHINE.md, 14): writing a number, the log and the place; reading a number, the place
 -- and the row. A row has eight numbers and a place one; where one has another length the number is 1, and nothing is written.
 use Rattle.std.specs.Prelude.{ℕ, Bool, ◌&&◌, List, [], ◌∷◌, eqb, length, get_or, replicate}
-use Rattle.numbers.specs.Choice.{if◌then◌else◌}
+use Rattle.std.specs.Prelude.{if◌then◌else◌}
 use Rattle.numbers.specs.Limits.{ROW_NUMBERS}
 use Rattle.numbers.specs.Meaning.{refusal_number}
 use Rattle.numbers.specs.declared.Refusal.TheVariants.{StateNotValid}

@@ -1,6 +1,6 @@
 -- What the pass over the pairs keeps: a set of pages for each VM, those that pairs lend to it.
 use Rattle.std.specs.Prelude.{ℕ, ◌*◌, ◌≤◌, ◌<◌, Bool, true, false, List, ◌≡◌, length, take}
-use Rattle.numbers.specs.Choice.{if◌then◌else◌}
+use Rattle.std.specs.Prelude.{if◌then◌else◌}
 use Rattle.numbers.specs.Decides.{Decides}
 use Rattle.numbers.specs.Limits.{PAGES, VMS, SETS, SET_WORDS}
 use Rattle.numbers.specs.Packing.{left_of, right_of, page_of}

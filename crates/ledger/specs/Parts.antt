@@ -1,7 +1,7 @@
 -- The parts of the contracts, by name. `Answer` is what an answer says, `Ready` what a deed asks of its arguments, `Done` what
 -- it does, `Left` what the operation leaves: its answer, and each list new or as it was.
 use Rattle.std.specs.Prelude.{ℕ, ◌+◌, ◌*◌, ◌≤◌, ◌<◌, List, ◌≡◌, length}
-use Rattle.numbers.specs.Choice.{if◌then◌else◌}
+use Rattle.std.specs.Prelude.{if◌then◌else◌}
 use Rattle.numbers.specs.Limits.{VMS, PAGES, PAGE_WORDS, SETS, SET_WORDS}
 use Rattle.numbers.specs.declared.Answer.{Answer}
 use Rattle.numbers.specs.declared.Answer.TheVariants.{Accepted}

@@ -1,7 +1,7 @@
 -- Room for one more word: there is some exactly where a place is empty. And the place that a new pair goes to.
 use Rattle.std.specs.Prelude.{ℕ, ◌<◌, Bool, true, false, List, ◌≡◌, refl, length}
 use Rattle.std.proofs.Common.{sym, ◌∙◌, ⊎_elim, le-leb, leb-true}
-use Rattle.numbers.specs.Choice.{if◌then◌else◌}
+use Rattle.std.specs.Prelude.{if◌then◌else◌}
 use Rattle.numbers.specs.Packing.{pair_key_of, pair_key, pair_word}
 use Rattle.numbers.specs.CaseLaws.{cases}
 use Rattle.table.specs.ScanLaws.{found_never}

@@ -1,7 +1,7 @@
 -- The parts of the contracts, by name. `May` or `Answer` is what an answer says, `Ready` what a deed asks of its
 -- arguments, `Done` what it does, `Left` what the operation leaves: its answer, and each list new or as it was.
 use Rattle.std.specs.Prelude.{ℕ, ◌<◌, List, ◌≡◌}
-use Rattle.numbers.specs.Choice.{if◌then◌else◌}
+use Rattle.std.specs.Prelude.{if◌then◌else◌}
 use Rattle.numbers.specs.Limits.{VMS, GUEST_PAGES, PAGES, PORTS, ACCESSES, GENERATIONS}
 use Rattle.numbers.specs.Packing.{key, key_of, slot_key, slot_word, entry_of}
 use Rattle.numbers.specs.declared.Answer.{Answer}

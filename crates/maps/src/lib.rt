@@ -3,7 +3,7 @@
 #![tactic(auto)]
 
 ghost use Rattle.std.specs.Prelude.{◌≡◌, ◌*◌, ◌<◌, ◌≤◌, length, set};
-ghost use Rattle.numbers.specs.Choice.{if◌then◌else◌};
+ghost use Rattle.std.specs.Prelude.{if◌then◌else◌};
 ghost use Rattle.numbers.specs.Limits.{PAGES, PORTS, SETS, SET_WORDS};
 ghost use Rattle.numbers.specs.Packing.{key_of};
 ghost use Rattle.table.specs.Table.{place, is_found, set_at};

@@ -10,7 +10,7 @@ use lib.Dec.{eqb, leb}
 use lib.ListN.{length, get_or}
 use borrow.Author.Tests.{leb-true, not-false}
 use Rattle.numbers.specs.CaseLaws.{equal}
-use Rattle.numbers.specs.Choice.{if◌then◌else◌}
+use Rattle.std.specs.Prelude.{if◌then◌else◌}
 use Rattle.numbers.specs.Limits.{ROW_NUMBERS, ANSWER_NUMBERS}
 use Rattle.numbers.specs.Meaning.{answer_numbers, number_of}
 use Rattle.numbers.specs.declared.Answer.{Answer}

@@ -6,7 +6,7 @@ use mathlib.Core.Path.{◌≡◌}
 use lib.Dec.{ltb}
 use borrow.Author.Tests.{ltb-true, ltb-false}
 use Rattle.numbers.specs.CaseLaws.{cases}
-use Rattle.numbers.specs.Choice.{if◌then◌else◌}
+use Rattle.std.specs.Prelude.{if◌then◌else◌}
 use Rattle.numbers.specs.Decides.{Decides}
 use Rattle.numbers.specs.DecidesLaws.{says_no, refutes, decides_as, decides_not, decides_then, decides_and}
 use Rattle.numbers.specs.declared.Answer.{Answer}

@@ -10,7 +10,7 @@ use borrow.Author.Tests.{eq-eqb, ltb-true, lt-ltb, le-leb, not-false}
 use lib.ListN.{length, get_or, replicate, length-replicate, get_or-replicate, get_or-eq_default}
 use lib.Pow.{pow_pos}
 use Rattle.numbers.specs.CaseLaws.{cases, equal}
-use Rattle.numbers.specs.Choice.{if◌then◌else◌}
+use Rattle.std.specs.Prelude.{if◌then◌else◌}
 use Rattle.numbers.specs.Limits.{PAGES, PAGE_WORDS, SETS, SET_WORDS, PAIRS, ENTRIES, SLOTS, PORTS, UNITS, IDLE}
 use Rattle.numbers.specs.Packing.{key_of, pair_key_of}
 use Rattle.numbers.specs.declared.Side.{Side}

@@ -10,7 +10,7 @@ use lib.Dec.{eqb}
 use lib.ListN.{get_or}
 use borrow.Author.Tests.{eqb-true, eqb-false, eq-eqb, ne_eqb, not-true}
 use Rattle.numbers.specs.CaseLaws.{cases, equal}
-use Rattle.numbers.specs.Choice.{if◌then◌else◌}
+use Rattle.std.specs.Prelude.{if◌then◌else◌}
 use Rattle.numbers.specs.Limits.{VMS, GUEST_PAGES, PAGES, ACCESSES, READ, WRITE}
 use Rattle.numbers.specs.Packing.{key, key_of, slot_key, address_of, pair_key, port_of, vm_of, guest_of, entry_of, filled_of, page_of, access_of, generation_of, VM_FIELD, GUEST_FIELD, PAGE_FIELD}
 use Rattle.numbers.specs.PackingLaws.{pair_either, pair_same, key_same}

@@ -10,7 +10,7 @@ use lib.ListN.{length, get_or, set, length-set}
 use lib.Seq.{get_or-set_same, get_or-set_other, set-get_or, set-set}
 use borrow.Author.Tests.{eq-eqb, ne_eqb, ltb-true, lt-ltb, not-false}
 use Rattle.numbers.specs.CaseLaws.{equal}
-use Rattle.numbers.specs.Choice.{if◌then◌else◌}
+use Rattle.std.specs.Prelude.{if◌then◌else◌}
 use Rattle.numbers.specs.Limits.{VMS, GUEST_PAGES, PORTS, SLOTS, IDLE}
 use Rattle.numbers.specs.Packing.{key, key_of, slot_key, slot_word, entry_of, port_of, vm_of, guest_of, filled_of, WordFits, VM_FIELD}
 use Rattle.numbers.specs.PackingLaws.{word_entry, word_filled, word_key, key_filled}

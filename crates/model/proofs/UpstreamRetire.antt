@@ -10,7 +10,7 @@ use native.Mathlib.Omega.{arith}
 use lib.Dec.{eqb}
 use borrow.Author.Tests.{eq-eqb, ne_eqb, eqb-true, eqb-false, not-true, lt-ltb}
 use Rattle.numbers.specs.CaseLaws.{cases, equal}
-use Rattle.numbers.specs.Choice.{if◌then◌else◌}
+use Rattle.std.specs.Prelude.{if◌then◌else◌}
 use Rattle.numbers.specs.Limits.{VMS, GUEST_PAGES, PAGES}
 use Rattle.numbers.specs.Packing.{key, key_of, address_of, pair_key, pair_key_of, vm_of, guest_of, page_of, filled_of, left_of, right_of}
 use Rattle.numbers.specs.PackingLaws.{unported, key_filled}

@@ -1,6 +1,6 @@
 -- Operations 21 to 24: a CPU or a device reads or writes one word (docs/MACHINE.md, 7).
 use Rattle.std.specs.Prelude.{ℕ, ◌/◌, ◌%◌, Bool, not, ◌&&◌, List, eqb}
-use Rattle.numbers.specs.Choice.{if◌then◌else◌}
+use Rattle.std.specs.Prelude.{if◌then◌else◌}
 use Rattle.numbers.specs.Packing.{slot_key, key, key_of, access_of, page_of}
 use Rattle.numbers.specs.declared.Answer.{Answer}
 use Rattle.numbers.specs.declared.Refusal.TheVariants.{OutOfRange, MappingDiffers, PortIdle, AccessLacking}

@@ -2,7 +2,7 @@
 use Rattle.std.specs.Prelude.{ℕ, ◌+◌, ◌≤◌, ◌<◌, Bool, true, false, not, ◌&&◌, ◌≡◌, refl, ltb}
 use Rattle.std.proofs.Common.{true≢false, sym, arith, ltb-true, leb-true}
 use Rattle.std.proofs.lemmas.Bool.{not-false}
-use Rattle.numbers.specs.Choice.{if◌then◌else◌}
+use Rattle.std.specs.Prelude.{if◌then◌else◌}
 use Rattle.numbers.specs.Limits.{VMS, GUEST_PAGES, ACCESSES, GENERATIONS}
 use Rattle.numbers.specs.declared.Answer.{Answer}
 use Rattle.numbers.specs.declared.Answer.TheVariants.{Accepted, Refused}

@@ -1,7 +1,7 @@
 -- Operations 1 to 6: VMs, ownership and sharing (docs/MACHINE.md, 7). Each has its answer, the first true condition
 -- giving the refusal, and what an accepted one leaves in each table that it changes.
 use Rattle.std.specs.Prelude.{ℕ, Bool, not, ◌&&◌, ◌||◌, List, [], ◌∷◌, eqb}
-use Rattle.numbers.specs.Choice.{if◌then◌else◌}
+use Rattle.std.specs.Prelude.{if◌then◌else◌}
 use Rattle.numbers.specs.Packing.{pair_word, pair_key, pair_key_of}
 use Rattle.numbers.specs.declared.Answer.{Answer}
 use Rattle.numbers.specs.declared.Refusal.TheVariants.{OutOfRange, VmUnknown, VmKnown, PageNotHeld, PageClaimed, StillInUse, PairWrong, VmBusy, NoRoom}

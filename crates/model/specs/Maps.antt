@@ -1,6 +1,6 @@
 -- Operations 7 to 10: map and unmap, for CPU or DMA (docs/MACHINE.md, 7).
 use Rattle.std.specs.Prelude.{ℕ, not, ◌&&◌, List}
-use Rattle.numbers.specs.Choice.{if◌then◌else◌}
+use Rattle.std.specs.Prelude.{if◌then◌else◌}
 use Rattle.numbers.specs.Packing.{entry, map_word, key, key_of, address_of}
 use Rattle.numbers.specs.declared.Answer.{Answer}
 use Rattle.numbers.specs.declared.Refusal.TheVariants.{OutOfRange, VmUnknown, PageNotHeld, MappingDiffers, NoRoom}

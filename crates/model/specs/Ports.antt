@@ -1,6 +1,6 @@
 -- Operations 15 to 20: switch a CPU or bind a device, fill and empty a slot (docs/MACHINE.md, 7).
 use Rattle.std.specs.Prelude.{ℕ, ◌+◌, Bool, true, not, ◌&&◌, List, ltb, get_or, set}
-use Rattle.numbers.specs.Choice.{if◌then◌else◌}
+use Rattle.std.specs.Prelude.{if◌then◌else◌}
 use Rattle.numbers.specs.Limits.{SLOTS, IDLE}
 use Rattle.numbers.specs.Meaning.{target_number}
 use Rattle.numbers.specs.Packing.{slot_word, slot_key, key, key_of, entry_of}

@@ -1,7 +1,7 @@
 -- Operations 11 to 14: insert and remove a region, for CPU or DMA (docs/MACHINE.md, 7). Every check searches the whole
 -- region for its lowest failing page before the next begins, and nothing is written before the last has passed.
 use Rattle.std.specs.Prelude.{ℕ, zero, suc, ◌+◌, Bool, false, not, ◌&&◌, ◌||◌, List, [], ◌∷◌, eqb, ltb, leb}
-use Rattle.numbers.specs.Choice.{if◌then◌else◌}
+use Rattle.std.specs.Prelude.{if◌then◌else◌}
 use Rattle.numbers.specs.Packing.{entry, map_word, key, key_of, vm_of, guest_of}
 use Rattle.numbers.specs.declared.Answer.{Answer}
 use Rattle.numbers.specs.declared.Answer.TheVariants.{Refused}

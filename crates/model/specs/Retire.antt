@@ -1,6 +1,6 @@
 -- Operation 27: a VM is retired with all that it has (docs/MACHINE.md, 7). Every list is said over the page sets as they were before.
 use Rattle.std.specs.Prelude.{ℕ, zero, suc, ◌+◌, Bool, false, ◌&&◌, ◌||◌, List, [], ◌∷◌, eqb, ltb}
-use Rattle.numbers.specs.Choice.{if◌then◌else◌}
+use Rattle.std.specs.Prelude.{if◌then◌else◌}
 use Rattle.numbers.specs.Limits.{PAGES}
 use Rattle.numbers.specs.Packing.{vm_of, page_of}
 use Rattle.numbers.specs.declared.Answer.{Answer}

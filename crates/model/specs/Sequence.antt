@@ -1,7 +1,7 @@
 -- Rows and the sequence (docs/MACHINE.md, 9): eight numbers a row, four numbers an answer.
 use Rattle.std.specs.Prelude.{ℕ, ◌+◌, ◌*◌, ◌/◌, ◌%◌, not, List, [], ◌∷◌, eqb, leb, length, get_or, set, take, drop}
 use Rattle.std.proofs.Math.Option.{Option, none, some}
-use Rattle.numbers.specs.Choice.{if◌then◌else◌}
+use Rattle.std.specs.Prelude.{if◌then◌else◌}
 use Rattle.numbers.specs.Limits.{ROW_NUMBERS, ANSWER_NUMBERS, IDLE}
 use Rattle.numbers.specs.Meaning.{answer_numbers}
 use Rattle.numbers.specs.declared.Answer.{Answer}

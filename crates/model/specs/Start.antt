@@ -1,6 +1,6 @@
 -- Start, the empty machine and the free query (docs/MACHINE.md, 5 and 8).
 use Rattle.std.specs.Prelude.{ℕ, zero, suc, ◌+◌, ◌*◌, ◌/◌, ◌%◌, Bool, not, ◌&&◌, List, [], ◌∷◌, eqb, ltb, leb, length, get_or, replicate}
-use Rattle.numbers.specs.Choice.{if◌then◌else◌}
+use Rattle.std.specs.Prelude.{if◌then◌else◌}
 use Rattle.numbers.specs.Limits.{PAGES, PAGE_WORDS, SETS, SET_WORDS, PAIRS, ENTRIES, SLOTS, PORTS, UNITS, IDLE}
 use Rattle.numbers.specs.declared.Answer.{Answer}
 use Rattle.numbers.specs.declared.Refusal.TheVariants.{StateNotValid, OutOfRange, BadSpan}

@@ -2,7 +2,7 @@
 use Rattle.std.specs.Prelude.{ℕ, zero, suc, ◌+◌, ◌*◌, ◌%◌, ◌≤◌, ◌<◌, true, false, not, ◌&&◌, List, ◌≡◌, refl, eqb, ltb, leb, length, get_or}
 use Rattle.std.proofs.Common.{arith, ltb-true, leb-true, eqb-true}
 use Rattle.std.proofs.lemmas.Bool.{not-false}
-use Rattle.numbers.specs.Choice.{if◌then◌else◌}
+use Rattle.std.specs.Prelude.{if◌then◌else◌}
 use Rattle.numbers.specs.Limits.{PAGES, PAGE_WORDS, SETS, SET_WORDS, PAIRS, ENTRIES, SLOTS, UNITS}
 use Rattle.numbers.specs.declared.Answer.TheVariants.{Accepted}
 use Rattle.table.specs.Scan.{any_below}

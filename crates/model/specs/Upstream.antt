@@ -3,7 +3,7 @@
 -- Sets and maps are functions. They are asked, and compared, at numbers in range alone: past it page bits stand for others.
 use Rattle.std.specs.Prelude.{ℕ, ◌+◌, ◌-◌, ◌/◌, ◌%◌, ◌<◌, Bool, true, false, not, ◌&&◌, ◌||◌, List, ◌⊎◌, ◌≡◌, eqb, ltb, length, get_or}
 use Rattle.std.proofs.Math.Option.{Option, none, some}
-use Rattle.numbers.specs.Choice.{if◌then◌else◌}
+use Rattle.std.specs.Prelude.{if◌then◌else◌}
 use Rattle.numbers.specs.Limits.{VMS, PAGES, GUEST_PAGES, PORTS, READ, WRITE, EXECUTE}
 use Rattle.numbers.specs.Packing.{key, slot_key, key_of, page_of, access_of, generation_of}
 use Rattle.table.specs.Table.{lookup}

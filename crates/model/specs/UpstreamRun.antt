@@ -2,7 +2,7 @@
 -- are in range (EarlyLaws), so that nothing it does falls outside of what views are compared at.
 use Rattle.std.specs.Prelude.{ℕ, zero, suc, ◌/◌, Bool, true, false, not, ◌&&◌, ◌||◌, List, [], ◌∷◌, ◌++◌, ◌≡◌, eqb, get_or}
 use Rattle.std.proofs.Math.Option.{Option, none, some}
-use Rattle.numbers.specs.Choice.{if◌then◌else◌}
+use Rattle.std.specs.Prelude.{if◌then◌else◌}
 use Rattle.numbers.specs.Limits.{PAGE_WORDS}
 use Rattle.numbers.specs.Packing.{key, slot_key, key_of, port_of, vm_of, guest_of}
 use Rattle.numbers.specs.declared.Side.{Side}

@@ -1,6 +1,5 @@
 -- What the machine's numbers mean.
 pub mod CaseLaws
-pub mod Choice
 pub mod Decides
 pub mod DecidesLaws
 pub mod Limits

@@ -11,7 +11,7 @@ use native.Mathlib.Omega.{arith}
 use lib.Dec.{ltb}
 use lib.ListN.{length, get_or, take, drop, length-append}
 use lib.Seq.{take_all}
-use Rattle.numbers.specs.Choice.{if◌then◌else◌}
+use Rattle.std.specs.Prelude.{if◌then◌else◌}
 use Rattle.numbers.specs.Meaning.{operation_number, operation_arguments}
 use Rattle.numbers.specs.declared.Operation.{Operation}
 use Rattle.model.specs.Sequence.{operation_of, operation_in, write_at}

@@ -1,6 +1,6 @@
 -- The kinds of record, which are the operations' numbers, and how long the body of each is (docs/MACHINE.md, 14).
 use Rattle.std.specs.Prelude.{ℕ, ◌+◌, ◌*◌, Bool, ◌&&◌, ◌||◌, List, [], ◌∷◌, eqb, ltb, leb, get_or}
-use Rattle.numbers.specs.Choice.{if◌then◌else◌}
+use Rattle.std.specs.Prelude.{if◌then◌else◌}
 
 -- the last kind
 abbrev pub KINDS : ℕ

@@ -1,7 +1,7 @@
 -- The log (docs/MACHINE.md, 14): records in a row, each a length, a kind and a body. What a row is as a record, what stands at a
 -- place of a log, and what writing a row there gives.
 use Rattle.std.specs.Prelude.{ℕ, zero, suc, ◌+◌, ◌*◌, ◌-◌, ◌/◌, ◌%◌, Bool, not, ◌&&◌, true, List, [], ◌∷◌, ◌++◌, eqb, ltb, leb, length, get_or}
-use Rattle.numbers.specs.Choice.{if◌then◌else◌}
+use Rattle.std.specs.Prelude.{if◌then◌else◌}
 use Rattle.model.specs.Sequence.{write_at}
 use Rattle.records.specs.Little.{two, four, bytes_of}
 use Rattle.operation_log.specs.Kinds.{is_kind, writes_value, field_count, body_length, FIELD_BYTES}

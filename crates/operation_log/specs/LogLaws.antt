@@ -8,7 +8,7 @@ use native.Mathlib.Omega.{arith}
 use Rattle.std.proofs.Math.ListN.{get_or, take, get_or-append}
 use Rattle.std.proofs.lemmas.Bool.{lt-leb, not-false}
 use Rattle.numbers.specs.CaseLaws.{cases}
-use Rattle.numbers.specs.Choice.{if◌then◌else◌}
+use Rattle.std.specs.Prelude.{if◌then◌else◌}
 use Rattle.numbers.specs.Limits.{ROW_NUMBERS}
 use Rattle.numbers.specs.DecidesLaws.{decides_and, decides_less, decides_itself}
 use Rattle.model.specs.Sequence.{write_at}

@@ -2,7 +2,7 @@
 -- after the other.
 use Prim.{Unit}
 use Rattle.std.specs.Prelude.{ℕ, zero, suc, true, List, [], ◌∷◌, ◌++◌, ◌≡◌, ltb}
-use Rattle.numbers.specs.Choice.{if◌then◌else◌}
+use Rattle.std.specs.Prelude.{if◌then◌else◌}
 use Rattle.operation_log.specs.Kinds.{is_kind, argument_count}
 use Rattle.operation_log.specs.Log.{kind_of, argument, fits, record_of, record_at}
 use Rattle.operation_log.specs.declared.Found.{Found}

@@ -1,7 +1,7 @@
 -- The page sets, one row of SET-WORDS words each (docs/MACHINE.md, 3): the pool, the shared span, and for each VM its
 -- CPU pages and its DMA pages.
 use Rattle.std.specs.Prelude.{ℕ, ◌+◌, ◌*◌, Bool, not, ◌&&◌, List, eqb}
-use Rattle.numbers.specs.Choice.{if◌then◌else◌}
+use Rattle.std.specs.Prelude.{if◌then◌else◌}
 use Rattle.numbers.specs.Limits.{PAGES, VMS}
 use Rattle.numbers.specs.declared.Lowest.{Lowest}
 use Rattle.numbers.specs.declared.Lowest.TheVariants.{Page, Nothing}

@@ -11,7 +11,7 @@ use lib.ListN.{length, get_or, drop}
 use lib.Seq.{take_at, drop_at, drop-drop}
 use borrow.Author.Tests.{le-leb, leb-true}
 use Rattle.numbers.specs.CaseLaws.{equal}
-use Rattle.numbers.specs.Choice.{if◌then◌else◌}
+use Rattle.std.specs.Prelude.{if◌then◌else◌}
 use Rattle.numbers.specs.Limits.{ROW_NUMBERS, ANSWER_NUMBERS}
 use Rattle.numbers.specs.Meaning.{answer_numbers}
 use Rattle.numbers.specs.declared.Answer.{Answer}

@@ -1,7 +1,7 @@
 -- Replay (docs/MACHINE.md, 14): records of a log carried out one after the other, each as a row of the sequence is, until as many as
 -- were asked for are taken, the log ends or a record cannot be read.
 use Rattle.std.specs.Prelude.{ℕ, zero, suc, ◌+◌, ◌*◌, List, leb, length}
-use Rattle.numbers.specs.Choice.{if◌then◌else◌}
+use Rattle.std.specs.Prelude.{if◌then◌else◌}
 use Rattle.numbers.specs.Limits.{ANSWER_NUMBERS}
 use Rattle.numbers.specs.Meaning.{answer_numbers, refusal_number}
 use Rattle.numbers.specs.declared.Answer.{Answer}

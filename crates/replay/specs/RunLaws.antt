@@ -5,7 +5,7 @@ use Rattle.std.proofs.Common.{append-nil, ap, ◌∙◌, take-append-drop, lengt
 use native.Mathlib.Omega.{arith}
 use Rattle.std.proofs.lemmas.List.{take-set-le, drop-set-add}
 use Rattle.std.proofs.lemmas.Bool.{lt-leb}
-use Rattle.numbers.specs.Choice.{if◌then◌else◌}
+use Rattle.std.specs.Prelude.{if◌then◌else◌}
 use Rattle.numbers.specs.Limits.{ROW_NUMBERS, ANSWER_NUMBERS}
 use Rattle.numbers.specs.Meaning.{answer_numbers}
 use Rattle.numbers.specs.declared.Answer.{Answer}

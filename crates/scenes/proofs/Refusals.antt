@@ -8,7 +8,7 @@ use mathlib.Core.List.{List, [], ◌∷◌, ◌++◌, map}
 use mathlib.Core.Path.{◌≡◌, refl}
 use native.Mathlib.Omega.{arith}
 use lib.ListN.{get_or, replicate}
-use Rattle.numbers.specs.Choice.{if◌then◌else◌}
+use Rattle.std.specs.Prelude.{if◌then◌else◌}
 use Rattle.numbers.specs.Limits.{PAGE_WORDS, IDLE, VMS, PORTS, GUEST_PAGES, ACCESSES, GENERATIONS, ENTRIES, SLOTS, PAIRS}
 use Rattle.numbers.specs.declared.Side.TheVariants.{Cpu, Dma}
 use Rattle.model.specs.State.{State}

@@ -1,7 +1,7 @@
 -- A bad line stays one: whatever bytes follow, it is not understood.
 use Rattle.std.specs.Prelude.{ℕ, Bool, true, false, List, [], ◌∷◌, ◌⊎◌, ◌≡◌, refl, eqb}
 use Rattle.std.proofs.Common.{true≢false, inl, inr, sym}
-use Rattle.numbers.specs.Choice.{if◌then◌else◌}
+use Rattle.std.specs.Prelude.{if◌then◌else◌}
 use Rattle.script.specs.Lines.{RETURN, HASH, is_blank}
 use Rattle.script.specs.Steps.{lengthened, begun, said, opened, may_idle, with_idle, added, ended, taken, arrived, fed_with, text_end, line_end, fed_all, is_spoilt, is_strange, is_bad}
 use Rattle.script.specs.declared.Word.{Word}

@@ -6,7 +6,7 @@ use Rattle.std.proofs.Math.Path.{refl, sym}
 use borrow.Author.Tests.{eqb-true, le-leb, lt-leb, lt-ltb, le-ltb, ltb-true, ltb-false, ne_eqb}
 use Rattle.std.proofs.Math.Seq.{append_snoc}
 use Rattle.numbers.specs.CaseLaws.{cases}
-use Rattle.numbers.specs.Choice.{if◌then◌else◌}
+use Rattle.std.specs.Prelude.{if◌then◌else◌}
 use Rattle.numbers.specs.Limits.{IDLE, ROW_NUMBERS}
 use Rattle.script.specs.Lines.{RETURN, HASH, is_blank, without_return, without_comment, whole, words_from, word_of, is_number, all_numbers, value_of, box_of, unit_of, row_of, free_of, numbers_in, takes_idle, second, without_idle, meaning, line_of}
 use Rattle.script.specs.Steps.{first_part, lengthened, spoilt, pushed, is_empty, number_by, opened, may_idle, with_idle, added, ended, line_from, taken, arrived, fed_with, no_words, no_text, line_start, text_end, line_end, fed_all}

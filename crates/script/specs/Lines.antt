@@ -2,7 +2,7 @@
 use Rattle.std.specs.Prelude.{ℕ, ◌+◌, ◌-◌, ◌*◌, Bool, true, false, List, [], ◌∷◌, ◌++◌, map, eqb, leb, length, get_or}
 use Prim.Native.Char.{code}
 use Prim.Native.String.{String}
-use Rattle.numbers.specs.Choice.{if◌then◌else◌}
+use Rattle.std.specs.Prelude.{if◌then◌else◌}
 use Rattle.numbers.specs.Limits.{IDLE, ROW_NUMBERS}
 use Rattle.script.specs.declared.Word.{Word}
 use Rattle.script.specs.declared.Word.TheVariants.{Number, BoxWord, UnitWord, FreeWord, IdleWord, OtherWord}

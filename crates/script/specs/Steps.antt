@@ -1,6 +1,6 @@
 -- A line read byte by byte: what the reader keeps, and how each byte changes it.
 use Rattle.std.specs.Prelude.{ℕ, ◌+◌, ◌-◌, ◌*◌, ◌/◌, ◌%◌, Bool, true, false, List, [], ◌∷◌, eqb, leb, ltb, get_or, set, replicate}
-use Rattle.numbers.specs.Choice.{if◌then◌else◌}
+use Rattle.std.specs.Prelude.{if◌then◌else◌}
 use Rattle.numbers.specs.Limits.{IDLE, ROW_NUMBERS}
 use Rattle.script.specs.Lines.{RETURN, HASH, LARGEST, is_blank, is_digit, takes_idle}
 use Rattle.script.specs.declared.Word.{Word}

@@ -6,7 +6,7 @@ use mathlib.Core.List.{List, [], ◌∷◌, ◌++◌}
 use Rattle.std.proofs.Math.Path.{refl}
 use native.Mathlib.Omega.{arith}
 use Rattle.std.proofs.lemmas.Bool.{lt-leb}
-use Rattle.numbers.specs.Choice.{if◌then◌else◌}
+use Rattle.std.specs.Prelude.{if◌then◌else◌}
 use Rattle.script.specs.Lines.{LARGEST, is_digit, all_digits, value_from, number_word, same, known_word, word_of}
 use Rattle.script.specs.Steps.{packed, OX, NIT, REE, DLE, first_part, more_digits, more_letters, lengthened, begun, said}
 use Rattle.script.specs.declared.Word.{Word}

@@ -1,6 +1,6 @@
 -- What the functions over one cache give, as include/tiligormis.h says it: a slot searched, filled, emptied.
 use Rattle.std.specs.Prelude.{ℕ, ◌<◌, Bool, not, ◌&&◌, List, ◌≡◌, eqb, length, get_or, set}
-use Rattle.numbers.specs.Choice.{if◌then◌else◌}
+use Rattle.std.specs.Prelude.{if◌then◌else◌}
 use Rattle.numbers.specs.Limits.{SLOTS, PAGES}
 use Rattle.numbers.specs.Meaning.{refusal_number}
 use Rattle.numbers.specs.Packing.{entry, slot_word, filled_of}

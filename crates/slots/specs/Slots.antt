@@ -1,6 +1,6 @@
 -- A slot record and its packed word, and a cache of slots as the words of the core.
 use Rattle.std.specs.Prelude.{ℕ, zero, suc, ◌<◌, not, List, map, eqb, ltb, length, get_or, set, replicate}
-use Rattle.numbers.specs.Choice.{if◌then◌else◌}
+use Rattle.std.specs.Prelude.{if◌then◌else◌}
 use Rattle.numbers.specs.Limits.{SLOTS}
 use Rattle.numbers.specs.Packing.{PORT_FIELD, VM_FIELD, GUEST_FIELD, GUEST_BIT, slot_word, port_of, vm_of, guest_of, entry_of}
 use Rattle.slots.specs.declared.Slot.{Slot}

@@ -4,7 +4,7 @@ use Rattle.std.proofs.Common.{⊎_elim, sym, ◌∙◌, arith, lt-ltb, le-ltb, l
 use Rattle.std.proofs.Math.Path.{ap}
 use Rattle.std.proofs.lemmas.List.{length-replicate, get_or-replicate}
 use Rattle.numbers.specs.CaseLaws.{cases, equal}
-use Rattle.numbers.specs.Choice.{if◌then◌else◌}
+use Rattle.std.specs.Prelude.{if◌then◌else◌}
 use Rattle.numbers.specs.declared.Answer.{Answer}
 use Rattle.numbers.specs.declared.Answer.TheVariants.{Accepted, Refused}
 use Rattle.numbers.specs.declared.Refusal.{Refusal}

@@ -4,7 +4,7 @@ use Rattle.std.proofs.Common.{true≢false, sym, ap, ◌∙◌, ⊎_elim, arith,
 use Rattle.std.proofs.lemmas.List.{length-map}
 use Rattle.std.proofs.Math.ListN.{get_or-map}
 use Rattle.numbers.specs.CaseLaws.{cases, equal}
-use Rattle.numbers.specs.Choice.{if◌then◌else◌}
+use Rattle.std.specs.Prelude.{if◌then◌else◌}
 use Rattle.numbers.specs.Decides.{Decides}
 use Rattle.table.specs.Scan.{first, first_from, any, count, cleared, wipe, lowest, lowest_from, any_from, any_below}
 use Rattle.table.specs.Table.{Has}

@@ -6,7 +6,7 @@ use Rattle.std.proofs.Common.{◌∙◌, arith, length-set, get_or-set_same, get
 use Rattle.std.proofs.Math.Logic.{inl, inr, ⊎_elim}
 use borrow.Author.Tests.{eq-eqb, ne_eqb, eqb-true, eqb-false, ltb-true, ltb-false}
 use Rattle.numbers.specs.CaseLaws.{cases, equal}
-use Rattle.numbers.specs.Choice.{if◌then◌else◌}
+use Rattle.std.specs.Prelude.{if◌then◌else◌}
 use Rattle.table.specs.Scan.{first, cleared, wipe}
 use Rattle.table.specs.ScanLaws.{IsFirst, first_at, first_none, first_is, first_lacks, first_set, first_map, length-wipe, wipe_at, count_set, count_found, found_count, count_wipe, at_most_one}
 use Rattle.table.specs.Table.{is_empty, lowest_free, free_entries, or_else, is_found, set_at, word_at, Has, has_key, find, lookup, place, put, erase, Distinct}
