@@ -73,7 +73,7 @@ pub fn print_text<W: Write>(to: &mut W, text: &[u8]) -> bool {
     to.write_all(text).is_ok()
 }
 
-// A number between two texts, to standard output or standard error.
+// A number between two texts.
 pub fn print_between<W: Write>(to: &mut W, before: &[u8], number: u64, after: &[u8]) -> bool {
     if !print_text(to, before) {
         return false;

@@ -1,4 +1,4 @@
--- A row that is put whole, and from what `log` says to what the functions for C give.
+-- A row that is put whole, and from what `operation_log` says to what the functions for C give.
 use Rattle.std.specs.Prelude.{ℕ, ◌+◌, ◌<◌, true, false, List, [], ◌∷◌, ◌≡◌, length, get_or, set, replicate}
 use Rattle.std.proofs.Common.{sym, ap, ◌∙◌, arith, ext_get_or}
 use Rattle.numbers.specs.DecidesLaws.{decides_and, decides_equal}

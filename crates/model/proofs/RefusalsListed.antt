@@ -1,6 +1,6 @@
 -- A refusal is one that the manual lists for its operation (docs/MACHINE.md, 7): for every row, and from any state, valid or not.
--- Nothing is listed that is not answered: `none-left-out` (Refusals), of the same lists, in computed valid states; and they are in
--- order: `neighbours-shown` (RefusalOrder).
+-- Nothing is listed that is not answered: `none_left_out` (Refusals), of the same lists, in computed valid states; and they are in
+-- order: `neighbours_shown` (RefusalOrder).
 use Prim.Native.Nat.{ℕ, ◌<◌}
 use mathlib.Core.Bool.{false, true, true≢false}
 use mathlib.Core.List.{List}

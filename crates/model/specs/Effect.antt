@@ -26,7 +26,7 @@ abbrev pub kept {ℓ} : {A : Type ℓ} → Answer → A → A → A
 kept (Accepted dropped word) old new = new
 kept (Refused refusal index) old new = old
 
--- ---- memory: page p's word k is word p * PAGE-WORDS + k; past the end nothing is read or written
+-- ---- memory: page p's word k is word p * PAGE_WORDS + k; past the end nothing is read or written
 abbrev pub memory_index : ℕ → ℕ → ℕ
 memory_index page word = page * PAGE_WORDS + word
 

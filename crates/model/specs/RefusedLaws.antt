@@ -1,4 +1,4 @@
--- A refused operation leaves the state as it was, a refused sequence the answer room too.
+-- What it is that a refusal leaves everything (of operations and rows: proofs/StepLeaves), and that a refused sequence leaves state and answer room.
 use Rattle.std.specs.Prelude.{ℕ, List, ◌≡◌, refl}
 use Rattle.numbers.specs.declared.Answer.{Answer}
 use Rattle.numbers.specs.declared.Answer.TheVariants.{Accepted, Refused}

@@ -1,4 +1,4 @@
--- No operation changes what start fixed, nor the length of any list.
+-- What an accepted operation leaves has the setup and the lengths of what was there (of every operation: proofs/StepShape).
 use Rattle.std.specs.Prelude.{ℕ, zero, suc, Bool, true, false, ◌≡◌}
 use mathlib.Core.List.{List}
 use Rattle.std.proofs.Math.Path.{refl}

@@ -1,5 +1,5 @@
 -- Upstream's page model over views of our state: its two views, the clauses of its `wf`, its steps and their guards, in the
--- order and under the names of its files, with hyphens. docs/CONTRACTS.md has a row for every clause and says what is left out.
+-- order and under the names of its files. docs/CONTRACTS.md has a row for every clause and says what is left out.
 -- Sets and maps are functions. They are asked, and compared, at numbers in range alone: past it page bits stand for others.
 use Rattle.std.specs.Prelude.{ℕ, ◌+◌, ◌-◌, ◌/◌, ◌%◌, ◌<◌, Bool, true, false, not, ◌&&◌, ◌||◌, List, ◌⊎◌, ◌≡◌, eqb, ltb, length, get_or}
 use Rattle.std.proofs.Math.Option.{Option, none, some}

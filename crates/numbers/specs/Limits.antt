@@ -1,4 +1,4 @@
--- Every limit of the machine, under the name that the code has for it, written with hyphens (docs/MACHINE.md, 1).
+-- Every limit of the machine, under the name that the code has for it (docs/MACHINE.md, 1).
 use Rattle.std.specs.Prelude.{ℕ, ◌+◌, ◌*◌, ◌/◌}
 
 -- a page is this many 64-bit words

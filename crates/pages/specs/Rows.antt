@@ -1,4 +1,4 @@
--- The page sets, one row of SET-WORDS words each (docs/MACHINE.md, 3): the pool, the shared span, and for each VM its
+-- The page sets, one row of SET_WORDS words each (docs/MACHINE.md, 3): the pool, the shared span, and for each VM its
 -- CPU pages and its DMA pages.
 use Rattle.std.specs.Prelude.{ℕ, ◌+◌, ◌*◌, Bool, not, ◌&&◌, List, eqb}
 use Rattle.std.specs.Prelude.{if◌then◌else◌}

@@ -48,9 +48,9 @@ played_both s order = answers s (map accepting order.way) ++ played_in (reached 
 abbrev pub expected_both : Order → List (List ℕ)
 expected_both order = expected (order.way ▸ order.both ∷ []) ++ expected (order.mend ▸ order.alone ∷ [])
 
--- ---- 1: add VM. Not 2 and 5: no id from 16 on is known (`knows-none`, KnownLaws)
+-- ---- 1: add VM. Not 2 and 5: no id from 16 on is known (`knows_none`, KnownLaws)
 
--- ---- 2 and 27: remove VM, retire VM. Not 4 and 13: a VM that is not known has nothing and is on no port (`named-known`, below)
+-- ---- 2 and 27: remove VM, retire VM. Not 4 and 13: a VM that is not known has nothing and is on no port (`named_known`, below)
 abbrev pub remove_vm : ℕ → List Order
 remove_vm operation =
     -- 2, 4: no id from 16 on is known

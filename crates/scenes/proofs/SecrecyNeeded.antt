@@ -264,7 +264,7 @@ writer_follows s s' (v, like) rows rows' count given = with_all s s' (v, like) r
         let valid = (after_valid rows k (beginning s []) v).tables in
         record { differ = record { shape = shape; near = own_effect t valid (reached t valid (operation_in (row_at rows k))) near }; shares_equal = shares }
 
--- ---- without `shares-equal`: VM 1 writes the value to page 0 and shares it, and VM 2 maps it and reads it
+-- ---- without `shares_equal`: VM 1 writes the value to page 0 and shares it, and VM 2 maps it and reads it
 shown_rows : ℕ → List ℕ
 shown_rows value =
     5 ∷ 1 ∷ 2 ∷ 1 ∷ 0 ∷ 0 ∷ 0 ∷ 0 ∷

@@ -72,7 +72,7 @@ pub kept_in_set_lem : map (answers started) kept_in_sets ≡ map (map heard_in) 
 unfolding computes
 kept_in_set_lem = refl
 
--- `shares-equal` is broken: VM 1 shares the page with VM 3, outside, which reads the value
+-- `shares_equal` is broken: VM 1 shares the page with VM 3, outside, which reads the value
 abbrev pub shared_outside : ℕ → List Line
 shared_outside value =
     (row (1 ∷ 1 ∷ []) ⟼ 0 ∷ 0 ∷ 0 ∷ 0 ∷ [])

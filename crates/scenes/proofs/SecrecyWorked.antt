@@ -131,7 +131,7 @@ unfolding computes
 kept_secret_retire = refl
 
 -- ---- without a premise on the rows
--- `shares-equal` is broken: page 0 is shared though its words are not equal in the two runs, and its borrower reads the value
+-- `shares_equal` is broken: page 0 is shared though its words are not equal in the two runs, and its borrower reads the value
 abbrev pub unequal_share : ℕ → List Line
 unequal_share value =
     (row (1 ∷ 1 ∷ []) ⟼ 0 ∷ 0 ∷ 0 ∷ 0 ∷ [])

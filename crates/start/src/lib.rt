@@ -265,7 +265,7 @@ fn clear_route(map: &mut [u64], walker: &mut [u64], cache: &mut [u64])
     table::clear_words(cache);
 }
 
-// ---- The two headers that start gives. Crate `header` reads one from numbers, and `changes` has its own to be damaged.
+// ---- The two headers that start gives. Crate `box_header` reads one from numbers, and `changes` has its own to be damaged.
 
 // No VM is known, every port is idle, and replacement begins at the first slot.
 fn fresh_registers() -> Registers

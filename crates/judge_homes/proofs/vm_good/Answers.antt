@@ -1,4 +1,4 @@
--- `judge_homes::vm_good` meets its contract: it is the test that `vm-decides` is of.
+-- `judge_homes::vm_good` meets its contract: it is the test that `vm_decides` is of.
 use native.Mathlib.Omega.{arith}
 use Rattle.judge_homes.specs.WordLaws.{vm_decides}
 use Rattle.judge_homes.proofs.vm_good.Goals as goal
