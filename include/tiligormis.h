@@ -135,14 +135,14 @@
  *     tiligormis_empty_slot      1,792     1,792
  *     tiligormis_fill_slot       1,792     1,792
  *     tiligormis_find_slot       1,280     1,280
- *     tiligormis_free           16,640    16,640
- *     tiligormis_log_read          512       512
- *     tiligormis_log_write         256       512
- *     tiligormis_operation      17,920    17,920
- *     tiligormis_replay         16,896    16,640
- *     tiligormis_sequence       18,176    18,176
- *     tiligormis_start           6,400     6,400
- *     tiligormis_valid          16,640    16,640
+ *     tiligormis_free           15,360    15,360
+ *     tiligormis_log_read            0       256
+ *     tiligormis_log_write         256       256
+ *     tiligormis_operation      18,944    18,944
+ *     tiligormis_replay         18,944    18,688
+ *     tiligormis_sequence       19,200    18,944
+ *     tiligormis_start           5,888     5,888
+ *     tiligormis_valid          15,360    15,360
  *
  * Link with libtiligormis.a. All functions may be called from several threads at once, on different boxes.
  */

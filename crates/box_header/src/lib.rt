@@ -110,6 +110,7 @@ fn registers_in(numbers: &[u64]) -> Registers
     }
 }
 
+#[inline(never)]
 pub fn machine_in(numbers: &[u64]) -> Machine
     requires { length numbers.now ≡ MACHINE_NUMBERS }
     ensures { result ≡ machine_of numbers.now }
