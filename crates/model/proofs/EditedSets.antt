@@ -81,7 +81,7 @@ module _ (side : Side) (vm : ℕ) (now : Bool) (first : ℕ) (sets : List ℕ) w
 -- ---- a claim is one of those that changed, or as it was
 pub record Changed (side : Side) (vm first count : ℕ) (s : Side) (other page : ℕ) : Type 0 where
   pub of_side : s ≡ side
-  pub of_vm_lem : other ≡ vm
+  pub of_vm : other ≡ vm
   pub low : first ≤ page
   pub high : page < first + count
 
@@ -98,12 +98,12 @@ changed_or side vm now first count sets sets' r s other page h =
     same n = inr (r.outside s other page h n)
 
     here : s ≡ side → other ≡ vm → Changed side vm first count s other page ⊎ (claims s sets' other page ≡ claims s sets other page)
-    here a b = ⊎_elim (λ c. inl (record { of_side = a; of_vm_lem = b; low = c.0; high = c.1 })) (λ o. same (λ e f. o)) (span_or first count page)
+    here a b = ⊎_elim (λ c. inl (record { of_side = a; of_vm = b; low = c.0; high = c.1 })) (λ o. same (λ e f. o)) (span_or first count page)
 
 -- ---- claims given: every claim stays
 module _ (side : Side) (vm first count : ℕ) (sets sets' : List ℕ) (r : Edited side vm true first count sets sets') (page : ℕ) (h : page < PAGES) where
   pub given_stays : (s : Side) (other : ℕ) → claims s sets other page ≡ true → claims s sets' other page ≡ true
-  given_stays s other e = ⊎_elim (λ c. rw (c.of_side, c.of_vm_lem) (r.inside page c.low c.high)) (λ q. q ∙ e) (changed_or side vm true first count sets sets' r s other page h)
+  given_stays s other e = ⊎_elim (λ c. rw (c.of_side, c.of_vm) (r.inside page c.low c.high)) (λ q. q ∙ e) (changed_or side vm true first count sets sets' r s other page h)
 
   pub given_holds : (other : ℕ) → holds_page sets other page ≡ true → holds_page sets' other page ≡ true
   given_holds other e = let (s, c) = holds_side sets other page e in side_holds s sets' other page (given_stays s other c)
@@ -125,20 +125,20 @@ module _ (side : Side) (vm first count : ℕ) (sets sets' : List ℕ) (r : Edite
       ended : (s : Side) → Changed side vm first count s other page → Ended side vm first count sets page
       ended s c =
           let was = r.outside (other_side side) other page h (λ o. absurd (other_differs side o)) in
-          record { low = c.low; high = c.high; unclaimed = rw c.of_vm_lem at (sym was ∙ holds_no_side (other_side side) sets' other page n) }
+          record { low = c.low; high = c.high; unclaimed = rw c.of_vm at (sym was ∙ holds_no_side (other_side side) sets' other page n) }
 
   -- a page on which the last claim of the VM ended is held by nobody: this VM alone held it
   pub ended_free : (pages base count' known : ℕ) → PagesGood pages base count' known sets → page < pages → vm < VMS → claims side sets vm page ≡ true → Ended side vm first count sets page → (other : ℕ) → other < VMS → holds_page sets' other page ≡ true → ⊥
   ended_free pages base count' known g l v own d other o e = let (s, held) = holds_side sets' other page e in unclaimed s held
     where
       lost : (s : Side) → Changed side vm first count s other page → claims s sets' other page ≡ false
-      lost s c = rw (c.of_side, c.of_vm_lem) (r.inside page c.low c.high)
+      lost s c = rw (c.of_side, c.of_vm) (r.inside page c.low c.high)
 
       unclaimed : (s : Side) → claims s sets' other page ≡ true → ⊥
       unclaimed s held =
           let was : claims s sets other page ≡ true = ⊎_elim (λ c. absurd (true≢false (sym held ∙ lost s c))) (λ q. sym q ∙ held) (changed_or side vm false first count sets sets' r s other page h) in
           let same = one_holder pages base count' known sets g other vm page o v l (side_holds s sets other page was) (side_holds side sets vm page own) in
-          ⊎_elim (λ q. true≢false (sym held ∙ lost s (record { of_side = q; of_vm_lem = same; low = d.low; high = d.high })))
+          ⊎_elim (λ q. true≢false (sym held ∙ lost s (record { of_side = q; of_vm = same; low = d.low; high = d.high })))
           (λ (q : s ≡ other_side side). true≢false (sym was ∙ rw (q, same) d.unclaimed)) (this_or_other side s)
 
 -- ---- one page

@@ -92,10 +92,10 @@ owns_as sets a b p q e f o = rw (← e, ← f) o
 
 -- ---- the whole
 module _ (t : Tables) (val : ValidTables t) (vm : ℕ) (p : RetirePassed t vm) where
-  abbrev side_route_lem : Side → Route
-  side_route_lem side = retire_route side t.sets vm (route side t)
+  abbrev retired_route : Side → Route
+  retired_route side = retire_route side t.sets vm (route side t)
 
-  route_retired : (side : Side) → GoodRoute side t (side_route_lem side)
+  route_retired : (side : Side) → GoodRoute side t (retired_route side)
   unfolding retire_table
   route_retired side =
       let g = route_of_lem side t val in
@@ -104,24 +104,24 @@ module _ (t : Tables) (val : ValidTables t) (vm : ℕ) (p : RetirePassed t vm) w
       (cache_wipe_both (route side t).walker (route side t).cache g.cache (goes side t.sets vm) (goes side t.sets vm) (goes_unported side t.sets vm) g.walker.once)
 
   abbrev one : Tables
-  one = with_route Cpu t (side_route_lem Cpu)
+  one = with_route Cpu t (retired_route Cpu)
 
   abbrev two : Tables
-  two = with_route Dma one (side_route_lem Dma)
+  two = with_route Dma one (retired_route Dma)
 
   one_valid : ValidTables one
-  one_valid = route_valid Cpu t (side_route_lem Cpu) val (same_retired t.cpu Cpu t.sets vm) (route_retired Cpu)
+  one_valid = route_valid Cpu t (retired_route Cpu) val (same_retired t.cpu Cpu t.sets vm) (route_retired Cpu)
 
   two_valid : ValidTables two
-  two_valid = route_valid Dma one (side_route_lem Dma) one_valid (same_retired t.dma Dma t.sets vm) (route_retired Dma)
+  two_valid = route_valid Dma one (retired_route Dma) one_valid (same_retired t.dma Dma t.sets vm) (route_retired Dma)
 
   -- an entry that is left, and what it was
-  left : (side : Side) (w : ℕ) → Has (side_route_lem side).map w → Has (route side t).map w × (goes side t.sets vm w ≡ false)
+  left : (side : Side) (w : ℕ) → Has (retired_route side).map w → Has (route side t).map w × (goes side t.sets vm w ≡ false)
   unfolding retire_table
   left side w h = has_wipe_inv (goes side t.sets vm) (route side t).map w h
 
   -- a pair that names the VM lends a page to an entry that stays only if that entry's VM owns it
-  lent_still : (w : ℕ) → Has (side_route_lem Cpu).map w → filled_of w ≡ 1 → shares t.pairs (vm_of w) (page_of w) ≡ true → may_map Cpu t.sets (retire_pairs t.pairs vm) (vm_of w) (page_of w) ≡ true
+  lent_still : (w : ℕ) → Has (retired_route Cpu).map w → filled_of w ≡ 1 → shares t.pairs (vm_of w) (page_of w) ≡ true → may_map Cpu t.sets (retire_pairs t.pairs vm) (vm_of w) (page_of w) ≡ true
   unfolding retire_pairs
   lent_still w h f e =
       let (was, stays) = left Cpu w h in

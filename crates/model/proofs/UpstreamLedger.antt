@@ -211,7 +211,7 @@ module _ (s : State) (valid : ValidTables s.tables) where
       let (cpu-pages, dma-pages) = neither (has_pages Cpu s.tables.sets vm) (has_pages Dma s.tables.sets vm) j in
       record {
         known = (vm_passed s.tables.known vm early).knows_vm;
-        no_pages_lem = λ page l. no_pages_lem Cpu s.tables.sets vm page cpu-pages l;
+        no_cpu = λ page l. no_pages_lem Cpu s.tables.sets vm page cpu-pages l;
         no_dma = λ page l. no_pages_lem Dma s.tables.sets vm page dma-pages l;
         no_mapping = unmapped Cpu s.tables.cpu.map valid.cpu.map vm cpu_map;
         no_dma_mapping = unmapped Dma s.tables.dma.map valid.dma.map vm dma_map;

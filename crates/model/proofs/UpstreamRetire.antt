@@ -137,7 +137,7 @@ module _ (t : Tables) (valid : ValidTables t) (vm : ℕ) where
     removable =
         record {
           known = early.knows_vm;
-          no_pages_lem = λ page l. rw (eq-eqb vm vm refl);
+          no_cpu = λ page l. rw (eq-eqb vm vm refl);
           no_dma = λ page l. rw (eq-eqb vm vm refl);
           no_mapping = λ v gpa h g. none_mapped Cpu v gpa;
           no_dma_mapping = λ v gpa h g. none_mapped Dma v gpa;

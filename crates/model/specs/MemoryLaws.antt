@@ -1,6 +1,7 @@
 -- Laws of memory: what clearing a part and storing words keep and change.
 use Rattle.std.specs.Prelude.{ℕ, zero, suc, ◌+◌, ◌-◌, ◌≤◌, ◌<◌, List, [], ◌∷◌, ◌++◌, ◌≡◌, refl, ltb, length, get_or, set, take, drop, replicate}
 use Rattle.std.proofs.Common.{⊎_elim, sym, ap, ◌∙◌, arith, length-set, length-drop, length-take-le, drop-drop, get_or-set_same, get_or-set_other, ltb-true, ltb-false}
+use Rattle.std.proofs.lemmas.List.{get_or_past}
 use Rattle.std.proofs.Math.Seq.{set_out}
 use Rattle.numbers.specs.CaseLaws.{cases, equal}
 use Rattle.numbers.specs.Limits.{PAGE_WORDS}
@@ -94,12 +95,6 @@ pub store_elsewhere : (memory : List ℕ) (page word value page' word' : ℕ) �
     word_in (set memory (memory_index page word) value) page' word' ≡ word_in memory page' word'
 store_elsewhere memory page word value page' word' h h' ne = store_another memory page word value page' word' h h' (λ e. ne e.0)
 
--- past the end a word reads as 0
-get_d_past : (ws : List ℕ) (i : ℕ) → length ws ≤ i → get_or ws i 0 ≡ 0
-get_d_past [] i h = refl
-get_d_past (w ∷ ws) zero h = absurd (omega arith)
-get_d_past (w ∷ ws) (suc i) h = get_d_past ws i (omega arith)
-
 -- memories of one length agree at the word that is stored, whatever stood there
 pub store_here : (a b : List ℕ) (page word value : ℕ) → length a ≡ length b → word_in (set a (memory_index page word) value) page word ≡ word_in (set b (memory_index page word) value) page word
 unfolding word_in
@@ -108,7 +103,7 @@ store_here a b page word value l =
     ⊎_elim (λ t. let h = ltb-true i (length a) t in get_or-set_same a i value 0 h ∙ sym (get_or-set_same b i value 0 (omega (arith, l))))
     (λ f.
     let h = ltb-false i (length a) f in
-    rw (set_out a i value h, set_out b i value (omega (arith, l))) (get_d_past a i h ∙ sym (get_d_past b i (omega (arith, l)))))
+    rw (set_out a i value h, set_out b i value (omega (arith, l))) (get_or_past a i 0 h ∙ sym (get_or_past b i 0 (omega (arith, l)))))
     (cases (ltb i (length a)))
 
 -- memories of one length that agree at a word agree there after the same store

@@ -133,7 +133,7 @@ pub record AddVmStep (vm : ℕ) (s s' : SoftwareView) : Type 0 where
 
 pub record RemoveVmEnabled (vm : ℕ) (s : SoftwareView) : Type 0 where
   pub known : s.all_vms vm ≡ true
-  pub no_pages_lem : (page : ℕ) → page < PAGES → s.vm_owned.pages vm page ≡ false
+  pub no_cpu : (page : ℕ) → page < PAGES → s.vm_owned.pages vm page ≡ false
   pub no_dma : (page : ℕ) → page < PAGES → s.iommu_owned.pages vm page ≡ false
   pub no_mapping : (v gpa : ℕ) → v < VMS → gpa < GUEST_PAGES → is_some (s.s2_map v gpa) ≡ true → v ≡ vm → ⊥
   pub no_dma_mapping : (v gpa : ℕ) → v < VMS → gpa < GUEST_PAGES → is_some (s.iommu_s2_map v gpa) ≡ true → v ≡ vm → ⊥

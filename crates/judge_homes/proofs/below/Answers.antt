@@ -8,11 +8,13 @@ use Rattle.judge_homes.proofs.below.Goals as goal
 
 pub returns-then-n-from : goal.returns-then-n-from
 unfolding below_word
-returns-then-n-from c = let e : min 64 (c.args.n - c.args.k * 64) ≡ 0 = omega arith in rw e
+returns-then-n-from c =
+    let e : min 64 (c.args.n - c.args.k * 64) ≡ 0 = omega arith in rw e
 
 pub returns-then-count-ge64 : goal.returns-then-count-ge64
 unfolding below_word
-returns-then-count-ge64 c = let e : min 64 (c.args.n - c.args.k * 64) ≡ 64 = omega arith in rw e
+returns-then-count-ge64 c =
+    let e : min 64 (c.args.n - c.args.k * 64) ≡ 64 = omega arith in rw e
 
 pub returns : goal.returns
 unfolding below_word

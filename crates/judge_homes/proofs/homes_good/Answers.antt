@@ -15,7 +15,8 @@ use Rattle.numbers.specs.DecidesLaws.{refutes}
 use Rattle.judge_homes.proofs.homes_good.Goals as goal
 
 pub returns-then-pool-shared-ne0 : goal.returns-then-pool-shared-ne0
-returns-then-pool-shared-ne0 c = let fit : (i : ℕ) → get_or c.args.sets.now i 0 < 2 ^ 64 = λ i. omega (arith, c.shared_slice_known-1.given i) in
+returns-then-pool-shared-ne0 c =
+    let fit : (i : ℕ) → get_or c.args.sets.now i 0 < 2 ^ 64 = λ i. omega (arith, c.shared_slice_known-1.given i) in
     let two : let a = c.args in
     Decides (eqb (bit_and c.column_word-pool.result c.column_word-shared.result) 0) (Apart (pool_word a.sets.now a.k) (shared_word a.sets.now a.k)) =
     let small = fit in
@@ -23,7 +24,8 @@ returns-then-pool-shared-ne0 c = let fit : (i : ℕ) → get_or c.args.sets.now 
     says_no (λ g. refutes two (ne_eqb _ 0 c.if-pool-shared-ne0.true) (two_apart _ _ _ fit _ g))
 
 pub loop-vm-init : goal.loop-vm-init
-loop-vm-init c = let fit : (i : ℕ) → get_or c.args.sets.now i 0 < 2 ^ 64 = λ i. omega (arith, c.shared_slice_known-1.given i) in
+loop-vm-init c =
+    let fit : (i : ℕ) → get_or c.args.sets.now i 0 < 2 ^ 64 = λ i. omega (arith, c.shared_slice_known-1.given i) in
     let two : let a = c.args in
     Decides (eqb (bit_and c.column_word-pool.result c.column_word-shared.result) 0) (Apart (pool_word a.sets.now a.k) (shared_word a.sets.now a.k)) =
     let small = fit in
@@ -33,7 +35,8 @@ loop-vm-init c = let fit : (i : ℕ) → get_or c.args.sets.now i 0 < 2 ^ 64 = �
 
 pub returns-then-not-vm_good : goal.returns-then-not-vm_good
 unfolding knows
-returns-then-not-vm_good c = let next : let a = c.args in
+returns-then-not-vm_good c =
+    let next : let a = c.args in
     let now = c.loop-vm in
     Decides c.vm_good.result (NextGood a.known a.sets.now a.k now.vm now.held now.dma_held) =
     rw (
@@ -48,7 +51,8 @@ returns-then-not-vm_good c = let next : let a = c.args in
 
 pub loop-vm-preserved : goal.loop-vm-preserved
 unfolding knows
-loop-vm-preserved c = let fit : (i : ℕ) → get_or c.args.sets.now i 0 < 2 ^ 64 = λ i. omega (arith, c.shared_slice_known-1.given i) in
+loop-vm-preserved c =
+    let fit : (i : ℕ) → get_or c.args.sets.now i 0 < 2 ^ 64 = λ i. omega (arith, c.shared_slice_known-1.given i) in
     let next : let a = c.args in
     let now = c.loop-vm in
     Decides c.vm_good.result (NextGood a.known a.sets.now a.k now.vm now.held now.dma_held) =

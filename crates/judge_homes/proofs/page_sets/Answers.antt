@@ -11,13 +11,15 @@ use Rattle.numbers.specs.DecidesLaws.{refutes}
 use Rattle.judge_homes.proofs.page_sets.Goals as goal
 
 pub returns-then-not-column_good : goal.returns-then-not-column_good
-returns-then-not-column_good c = let fit : (i : ℕ) → get_or c.args.sets.now i 0 < 2 ^ 64 = λ i. omega (arith, c.shared_slice_known-1.given i) in
+returns-then-not-column_good c =
+    let fit : (i : ℕ) → get_or c.args.sets.now i 0 < 2 ^ 64 = λ i. omega (arith, c.shared_slice_known-1.given i) in
     let column : let a = c.args in
     Decides c.column_good.result (ColumnGood a.pages a.shared_base a.shared_count a.known a.sets.now c.loop-k.k) = c.column_good.ensures in
     says_no (λ g. refutes column c.if-not-column_good.true (column_good _ _ _ _ _ (omega arith) g _ (omega arith) fit))
 
 pub loop-k-preserved : goal.loop-k-preserved
-loop-k-preserved c = let column : let a = c.args in
+loop-k-preserved c =
+    let column : let a = c.args in
     Decides c.column_good.result (ColumnGood a.pages a.shared_base a.shared_count a.known a.sets.now c.loop-k.k) = c.column_good.ensures in
     let now = c.loop-k in
     (omega arith, below_more _ now.k now.invariant.1 (column.sound c.if-not-column_good.false))

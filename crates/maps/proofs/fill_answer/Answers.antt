@@ -17,7 +17,8 @@ returns-then-not-port-guest c = rw (c.if-not-port-guest.true, c.refuse-answer.en
 
 pub returns-then-not-vm : goal.returns-then-not-vm
 unfolding fill_answer
-returns-then-not-vm c = let ranged : (c.args.port < PORTS) × (c.args.guest.0 < GUEST_PAGES) =
+returns-then-not-vm c =
+    let ranged : (c.args.port < PORTS) × (c.args.guest.0 < GUEST_PAGES) =
     let r = both _ _ c.if-not-port-guest.false in
     (ltb-true _ _ r.0, ltb-true _ _ r.1) in
     let on-port : let a = c.args in get_or a.ports a.port IDLE ≡ get_or a.ports a.port 0 =
@@ -29,7 +30,8 @@ returns-then-not-vm c = let ranged : (c.args.port < PORTS) × (c.args.guest.0 < 
 
 pub returns-then-found-eq0 : goal.returns-then-found-eq0
 unfolding fill_answer
-returns-then-found-eq0 c = let ranged : (c.args.port < PORTS) × (c.args.guest.0 < GUEST_PAGES) =
+returns-then-found-eq0 c =
+    let ranged : (c.args.port < PORTS) × (c.args.guest.0 < GUEST_PAGES) =
     let r = both _ _ c.if-not-port-guest.false in
     (ltb-true _ _ r.0, ltb-true _ _ r.1) in
     let on-port : let a = c.args in get_or a.ports a.port IDLE ≡ get_or a.ports a.port 0 =
@@ -43,7 +45,8 @@ returns-then-found-eq0 c = let ranged : (c.args.port < PORTS) × (c.args.guest.0
 
 pub returns : goal.returns
 unfolding fill_answer
-returns c = let ranged : (c.args.port < PORTS) × (c.args.guest.0 < GUEST_PAGES) =
+returns c =
+    let ranged : (c.args.port < PORTS) × (c.args.guest.0 < GUEST_PAGES) =
     let r = both _ _ c.if-not-port-guest.false in
     (ltb-true _ _ r.0, ltb-true _ _ r.1) in
     let on-port : let a = c.args in get_or a.ports a.port IDLE ≡ get_or a.ports a.port 0 =

@@ -8,7 +8,8 @@ use Rattle.model.specs.Maps.{matching_slots, without_slots, map_table}
 use Rattle.maps.proofs.map_do.Goals as goal
 
 pub offset_bounds-map-at : goal.offset_bounds-map-at
-offset_bounds-map-at c = let within : c.args.at < length c.args.map.now = place_within key_of _ _ _ c.requires.spot in
+offset_bounds-map-at c =
+    let within : c.args.at < length c.args.map.now = place_within key_of _ _ _ c.requires.spot in
     let h = within in search rules
 
 pub bounds-map-at : goal.bounds-map-at

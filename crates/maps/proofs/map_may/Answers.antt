@@ -28,7 +28,8 @@ returns-in_default-spot c =
 
 pub returns : goal.returns
 unfolding map_may
-returns c = let ranged : let a = c.args in MapPassed a.known a.pages a.vm.0 a.guest.0 a.page.0 a.access a.generation = map-passed _ _ _ _ _ _ _ (sym c.map_early-early.ensures ∙ c.in_default.is) in
+returns c =
+    let ranged : let a = c.args in MapPassed a.known a.pages a.vm.0 a.guest.0 a.page.0 a.access a.generation = map-passed _ _ _ _ _ _ _ (sym c.map_early-early.ensures ∙ c.in_default.is) in
     let r = ranged in
     let fit = c.requires in
     let k = c.key.ensures in

@@ -24,9 +24,36 @@ returns-then-not-is_kind c =
 pub returns-then-length-body : goal.returns-then-length-body
 unfolding record_at
 returns-then-length-body c =
-    rw (c.no_record-then-length-body.ensures, lt-leb _ _ c.if-log-at.false, le-ltb _ _ c.if-left-lt-HEAD_BYTES.false, ← c.two-length.ensures.0, le-ltb _ _ c.if-left-length.false, ← c.two-kind.ensures.0, ← c.is_kind.ensures, c.if-not-is_kind.false, ← c.body_length-body.ensures.0, ne_eqb _ _ c.if-length-body.true)
+    rw (
+      c.no_record-then-length-body.ensures,
+      lt-leb _ _ c.if-log-at.false,
+      le-ltb _ _ c.if-left-lt-HEAD_BYTES.false,
+      ← c.two-length.ensures.0,
+      le-ltb _ _
+          c.if-left-length.false,
+      ← c.two-kind.ensures.0,
+      ← c.is_kind.ensures,
+      c.if-not-is_kind.false,
+      ← c.body_length-body.ensures.0,
+      ne_eqb _ _
+          c.if-length-body.true,
+    )
 
 pub returns : goal.returns
 unfolding record_at
 returns c =
-    rw (lt-leb _ _ c.if-log-at.false, le-ltb _ _ c.if-left-lt-HEAD_BYTES.false, ← c.two-length.ensures.0, le-ltb _ _ c.if-left-length.false, ← c.two-kind.ensures.0, ← c.is_kind.ensures, c.if-not-is_kind.false, ← c.body_length-body.ensures.0, eq-eqb _ _ c.if-length-body.false, row_read c.args.log.now c.args.at c.two-kind.result c.body_length-body.result _ _ _ _ _ _ c.body_length-body.ensures.0 c.field_at-a.ensures.0 c.field_at-b.ensures.0 c.field_at-c.ensures.0 c.field_at-d.ensures.0 c.field_at-e.ensures.0 c.row_of.ensures)
+    rw (
+      lt-leb _ _ c.if-log-at.false,
+      le-ltb _ _ c.if-left-lt-HEAD_BYTES.false,
+      ← c.two-length.ensures.0,
+      le-ltb _ _ c.if-left-length.false,
+      ←
+          c.two-kind.ensures.0,
+      ← c.is_kind.ensures,
+      c.if-not-is_kind.false,
+      ← c.body_length-body.ensures.0,
+      eq-eqb _ _ c.if-length-body.false,
+      row_read
+          c.args.log.now c.args.at c.two-kind.result c.body_length-body.result _ _ _ _ _ _ c.body_length-body.ensures.0 c.field_at-a.ensures.0
+          c.field_at-b.ensures.0 c.field_at-c.ensures.0 c.field_at-d.ensures.0 c.field_at-e.ensures.0 c.row_of.ensures,
+    )

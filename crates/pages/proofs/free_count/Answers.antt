@@ -18,5 +18,8 @@ pub loop-page-preserved : goal.loop-page-preserved
 loop-page-preserved c =
     let test = sym c.is_free.ensures in (
       omega arith,
-      elim c.if-is_free.branch [ then-is_free w ↦ omega (arith, free_count-found _ _ (test ∙ w.if-is_free.true)) | else-is_free w ↦ omega (arith, free_count-passed _ _ (test ∙ w.if-is_free.false)) ],
+      elim c.if-is_free.branch [
+        | then-is_free w ↦ omega (arith, free_count-found _ _ (test ∙ w.if-is_free.true))
+        | else-is_free w ↦ omega (arith, free_count-passed _ _ (test ∙ w.if-is_free.false))
+      ],
     )

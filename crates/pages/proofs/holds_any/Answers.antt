@@ -10,7 +10,8 @@ use Rattle.pages.specs.RowLaws.{place_first}
 use Rattle.pages.proofs.holds_any.Goals as goal
 
 pub returns-then-sets-from-ne0 : goal.returns-then-sets-from-ne0
-returns-then-sets-from-ne0 c = let fit : (i : ℕ) → get_or c.args.sets.now i 0 < 2 ^ 64 = λ i. omega (arith, c.shared_slice_known-1.given i) in
+returns-then-sets-from-ne0 c =
+    let fit : (i : ℕ) → get_or c.args.sets.now i 0 < 2 ^ 64 = λ i. omega (arith, c.shared_slice_known-1.given i) in
     let word = rw (c.word_of-from.ensures, place_first) at c.if-sets-from-ne0.true in
     try_yes _ _ _ c.loop-k.invariant c.loop-k-test.true (rw (ne_eqb _ 0 word))
     ∙ holds_any _ _ fit
@@ -21,5 +22,6 @@ loop-k-preserved c =
     try_next _ _ _ c.loop-k.invariant c.loop-k-test.true (rw (eq-eqb _ 0 word))
 
 pub returns : goal.returns
-returns c = let fit : (i : ℕ) → get_or c.args.sets.now i 0 < 2 ^ 64 = λ i. omega (arith, c.shared_slice_known-1.given i) in
+returns c =
+    let fit : (i : ℕ) → get_or c.args.sets.now i 0 < 2 ^ 64 = λ i. omega (arith, c.shared_slice_known-1.given i) in
     try_no _ _ _ c.loop-k.invariant c.loop-k-test.false ∙ holds_any _ _ fit

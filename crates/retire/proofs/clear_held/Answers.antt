@@ -12,7 +12,10 @@ loop-page-preserved c =
     let r = c.loop-page.invariant in
     let h = c.loop-page-test.true in
     clear_skip _ _ _ _ _ _ _
-    (elim c.if-claims.branch [ then-claims w ↦ rw w.memory-is (clear_hit _ _ _ _ _ _ _ r h w.clear_page.auto.memory (rw (← c.claims.ensures, ← c.claims-in-loop-page.ensures) w.if-claims.true) w.clear_page.ensures) | else-claims w ↦ rw w.memory-is (clear_miss _ _ _ _ _ _ r h (rw (← c.claims.ensures, ← c.claims-in-loop-page.ensures) w.if-claims.false)) ])
+    (elim c.if-claims.branch [
+      | then-claims w ↦ rw w.memory-is (clear_hit _ _ _ _ _ _ _ r h w.clear_page.auto.memory (rw (← c.claims.ensures, ← c.claims-in-loop-page.ensures) w.if-claims.true) w.clear_page.ensures)
+      | else-claims w ↦ rw w.memory-is (clear_miss _ _ _ _ _ _ r h (rw (← c.claims.ensures, ← c.claims-in-loop-page.ensures) w.if-claims.false))
+    ])
     c.past_unheld-page-in-loop-page.ensures
 
 pub returns : goal.returns

@@ -12,7 +12,10 @@ loop-i-preserved c =
     let r = c.loop-i.invariant in
     let l = c.loop-i-test.true in
     let e = sym c.joins.ensures in
-    elim c.if-joins.branch [ then-joins w ↦ rw w.pairs-is (wipe_hit _ _ _ _ r l (e ∙ w.if-joins.true)) | else-joins w ↦ rw w.pairs-is (wipe_miss _ _ _ _ r l (e ∙ w.if-joins.false)) ]
+    elim c.if-joins.branch [
+      | then-joins w ↦ rw w.pairs-is (wipe_hit _ _ _ _ r l (e ∙ w.if-joins.true))
+      | else-joins w ↦ rw w.pairs-is (wipe_miss _ _ _ _ r l (e ∙ w.if-joins.false))
+    ]
 
 pub returns : goal.returns
 unfolding retire_pairs

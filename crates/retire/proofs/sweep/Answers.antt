@@ -13,7 +13,10 @@ loop-i-preserved c =
     let l = c.loop-i-test.true in
     let e = sym c.goes.ensures in
     let s = wipe_read _ _ _ _ r.0 l in
-    elim c.if-goes.branch [ then-goes w ↦ let t = e ∙ w.if-goes.true in rw (w.words-is, w.swept-is) (wipe_hit _ _ _ _ r.0 l t, tally_hit _ _ _ _ r.1 (omega arith) (rw s at t)) | else-goes w ↦ let t = e ∙ w.if-goes.false in rw (w.words-is, w.swept-is) (wipe_miss _ _ _ _ r.0 l t, tally_miss _ _ _ _ r.1 (omega arith) (rw s at t)) ]
+    elim c.if-goes.branch [
+      | then-goes w ↦ let t = e ∙ w.if-goes.true in rw (w.words-is, w.swept-is) (wipe_hit _ _ _ _ r.0 l t, tally_hit _ _ _ _ r.1 (omega arith) (rw s at t))
+      | else-goes w ↦ let t = e ∙ w.if-goes.false in rw (w.words-is, w.swept-is) (wipe_miss _ _ _ _ r.0 l t, tally_miss _ _ _ _ r.1 (omega arith) (rw s at t))
+    ]
 
 pub returns : goal.returns
 unfolding retire_table

@@ -15,7 +15,10 @@ loop-i-preserved c =
     let l = c.loop-i-test.true in
     let e = c.address_of.ensures in
     let s = wipe_read _ _ _ _ r.0 l in
-    elim c.if-address_of-address.branch [ then-address_of-address w ↦ let t = eq-eqb _ _ (sym e ∙ w.if-address_of-address.true) in rw (w.dropped-is, w.w-is) (wipe_hit _ _ _ _ r.0 l t, tally_hit _ _ _ _ r.1 (omega arith) (rw s at t)) | else-address_of-address w ↦ let t = ne_eqb _ _ (λ q. w.if-address_of-address.false (e ∙ q)) in rw (w.dropped-is, w.w-is, set-get_or g.cache g.i 0) (wipe_miss _ _ _ _ r.0 l t, tally_miss _ _ _ _ r.1 (omega arith) (rw s at t)) ]
+    elim c.if-address_of-address.branch [
+      | then-address_of-address w ↦ let t = eq-eqb _ _ (sym e ∙ w.if-address_of-address.true) in rw (w.dropped-is, w.w-is) (wipe_hit _ _ _ _ r.0 l t, tally_hit _ _ _ _ r.1 (omega arith) (rw s at t))
+      | else-address_of-address w ↦ let t = ne_eqb _ _ (λ q. w.if-address_of-address.false (e ∙ q)) in rw (w.dropped-is, w.w-is, set-get_or g.cache g.i 0) (wipe_miss _ _ _ _ r.0 l t, tally_miss _ _ _ _ r.1 (omega arith) (rw s at t))
+    ]
 
 pub returns : goal.returns
 unfolding erase

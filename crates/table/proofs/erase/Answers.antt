@@ -13,7 +13,10 @@ loop-i-preserved c =
     let r = g.invariant in
     let l = c.loop-i-test.true in
     let e = c.key_of.ensures in
-    elim c.if-key_of-key.branch [ then-key_of-key w ↦ rw w.words-is (wipe_hit _ _ _ _ r l (eq-eqb _ _ (sym e ∙ w.if-key_of-key.true))) | else-key_of-key w ↦ rw (w.words-is, set-get_or g.words g.i 0) (wipe_miss _ _ _ _ r l (ne_eqb _ _ (λ q. w.if-key_of-key.false (e ∙ q)))) ]
+    elim c.if-key_of-key.branch [
+      | then-key_of-key w ↦ rw w.words-is (wipe_hit _ _ _ _ r l (eq-eqb _ _ (sym e ∙ w.if-key_of-key.true)))
+      | else-key_of-key w ↦ rw (w.words-is, set-get_or g.words g.i 0) (wipe_miss _ _ _ _ r l (ne_eqb _ _ (λ q. w.if-key_of-key.false (e ∙ q))))
+    ]
 
 pub returns : goal.returns
 unfolding erase

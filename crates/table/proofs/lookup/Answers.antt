@@ -1,20 +1,16 @@
 -- `table::lookup` meets its contract. A place that was found is within the table.
 use borrow.Author.Rules.{scaled_Fits}
-use Prim.Native.Nat.{◌<◌}
 use mathlib.Core.Path.{sym, ◌∙◌}
-use lib.ListN.{length}
 use Rattle.numbers.specs.Packing.{key_of}
 use Rattle.table.specs.Table.{lookup}
 use Rattle.table.specs.TableLaws.{find_at}
 use Rattle.table.proofs.lookup.Goals as goal
 
 pub offset_bounds-words-i : goal.offset_bounds-words-i
-offset_bounds-words-i c = let within : c.in-At.i < length c.args.words.now = (find_at key_of _ _ _ (sym c.find-there.ensures ∙ c.in-At.is)).within in
-    scaled_Fits _ _ _ within c.well_formed.0.1
+offset_bounds-words-i c = scaled_Fits _ _ _ (find_at key_of _ _ _ (sym c.find-there.ensures ∙ c.in-At.is)).within c.well_formed.0.1
 
 pub bounds-words-i : goal.bounds-words-i
-bounds-words-i c = let within : c.in-At.i < length c.args.words.now = (find_at key_of _ _ _ (sym c.find-there.ensures ∙ c.in-At.is)).within in
-    within
+bounds-words-i c = (find_at key_of _ _ _ (sym c.find-there.ensures ∙ c.in-At.is)).within
 
 pub returns-in-At : goal.returns-in-At
 unfolding lookup

@@ -4,7 +4,8 @@ use Rattle.judge.specs.MarkLaws.{mark_start, mark_next, mark_stop, mark_end}
 use Rattle.judge.proofs.sharing.pairs.Goals as goal
 
 pub loop-i-init : goal.loop-i-init
-loop-i-init c = let p = c.requires in mark_start _ _ _ p.2 p.3 p.4 _ _ p.1
+loop-i-init c =
+    let p = c.requires in mark_start _ _ _ p.2 p.3 p.4 _ _ p.1
 
 pub returns-then-not-mark_pair : goal.returns-then-not-mark_pair
 returns-then-not-mark_pair c =

@@ -12,7 +12,10 @@ loop-i-preserved c =
     let r = c.loop-i.invariant in
     let l = c.loop-i-test.true in
     let e = c.pair_key_of.ensures in
-    elim c.if-pair_key_of-key.branch [ then-pair_key_of-key w ↦ rw w.pairs-is (wipe_hit _ _ _ _ r l (eq-eqb _ _ (sym e ∙ w.if-pair_key_of-key.true))) | else-pair_key_of-key w ↦ rw w.pairs-is (wipe_miss _ _ _ _ r l (ne_eqb _ _ (λ q. w.if-pair_key_of-key.false (e ∙ q)))) ]
+    elim c.if-pair_key_of-key.branch [
+      | then-pair_key_of-key w ↦ rw w.pairs-is (wipe_hit _ _ _ _ r l (eq-eqb _ _ (sym e ∙ w.if-pair_key_of-key.true)))
+      | else-pair_key_of-key w ↦ rw w.pairs-is (wipe_miss _ _ _ _ r l (ne_eqb _ _ (λ q. w.if-pair_key_of-key.false (e ∙ q))))
+    ]
 
 pub returns : goal.returns
 unfolding erase

@@ -14,7 +14,8 @@ returns-in-Refused c = rw (← c.pair_early-early.ensures, c.in-Refused.is) (rec
 
 pub returns-then-left-right : goal.returns-then-left-right
 unfolding share_answer
-returns-then-left-right c = let ready : let a = c.args in PairReady a.left.0 a.right.0 a.page.0 =
+returns-then-left-right c =
+    let ready : let a = c.args in PairReady a.left.0 a.right.0 a.page.0 =
     let a = c.args in
     let p = c.requires in
     let r = pair_passed a.known a.pages a.left.0 a.right.0 a.page.0 (sym c.pair_early-early.ensures ∙ c.in_default.is) in
@@ -23,7 +24,8 @@ returns-then-left-right c = let ready : let a = c.args in PairReady a.left.0 a.r
 
 pub returns-then-not-claims : goal.returns-then-not-claims
 unfolding share_answer
-returns-then-not-claims c = let ready : let a = c.args in PairReady a.left.0 a.right.0 a.page.0 =
+returns-then-not-claims c =
+    let ready : let a = c.args in PairReady a.left.0 a.right.0 a.page.0 =
     let a = c.args in
     let p = c.requires in
     let r = pair_passed a.known a.pages a.left.0 a.right.0 a.page.0 (sym c.pair_early-early.ensures ∙ c.in_default.is) in
@@ -39,7 +41,8 @@ returns-then-not-claims c = let ready : let a = c.args in PairReady a.left.0 a.r
 
 pub returns-in-At : goal.returns-in-At
 unfolding share_answer share_place paired
-returns-in-At c = let ready : let a = c.args in PairReady a.left.0 a.right.0 a.page.0 =
+returns-in-At c =
+    let ready : let a = c.args in PairReady a.left.0 a.right.0 a.page.0 =
     let a = c.args in
     let p = c.requires in
     let r = pair_passed a.known a.pages a.left.0 a.right.0 a.page.0 (sym c.pair_early-early.ensures ∙ c.in_default.is) in
@@ -50,7 +53,8 @@ returns-in-At c = let ready : let a = c.args in PairReady a.left.0 a.right.0 a.p
 
 pub returns-in-Nothing : goal.returns-in-Nothing
 unfolding share_answer paired
-returns-in-Nothing c = let ready : let a = c.args in PairReady a.left.0 a.right.0 a.page.0 =
+returns-in-Nothing c =
+    let ready : let a = c.args in PairReady a.left.0 a.right.0 a.page.0 =
     let a = c.args in
     let p = c.requires in
     let r = pair_passed a.known a.pages a.left.0 a.right.0 a.page.0 (sym c.pair_early-early.ensures ∙ c.in_default.is) in
@@ -71,7 +75,8 @@ returns-in-Nothing c = let ready : let a = c.args in PairReady a.left.0 a.right.
 
 pub returns : goal.returns
 unfolding share_answer share_place paired
-returns c = let ready : let a = c.args in PairReady a.left.0 a.right.0 a.page.0 =
+returns c =
+    let ready : let a = c.args in PairReady a.left.0 a.right.0 a.page.0 =
     let a = c.args in
     let p = c.requires in
     let r = pair_passed a.known a.pages a.left.0 a.right.0 a.page.0 (sym c.pair_early-early.ensures ∙ c.in_default.is) in

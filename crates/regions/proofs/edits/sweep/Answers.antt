@@ -11,7 +11,10 @@ loop-i-preserved c =
     let l = c.loop-i-test.true in
     let e = sym c.in_region.ensures in
     let s = wipe_read _ _ _ _ r.0 l in
-    elim c.if-in_region.branch [ then-in_region w ↦ let t = e ∙ w.if-in_region.true in rw (w.words-is, w.swept-is) (wipe_hit _ _ _ _ r.0 l t, tally_hit _ _ _ _ r.1 (omega arith) (rw s at t)) | else-in_region w ↦ let t = e ∙ w.if-in_region.false in rw (w.words-is, w.swept-is) (wipe_miss _ _ _ _ r.0 l t, tally_miss _ _ _ _ r.1 (omega arith) (rw s at t)) ]
+    elim c.if-in_region.branch [
+      | then-in_region w ↦ let t = e ∙ w.if-in_region.true in rw (w.words-is, w.swept-is) (wipe_hit _ _ _ _ r.0 l t, tally_hit _ _ _ _ r.1 (omega arith) (rw s at t))
+      | else-in_region w ↦ let t = e ∙ w.if-in_region.false in rw (w.words-is, w.swept-is) (wipe_miss _ _ _ _ r.0 l t, tally_miss _ _ _ _ r.1 (omega arith) (rw s at t))
+    ]
 
 pub returns : goal.returns
 unfolding remove_table
