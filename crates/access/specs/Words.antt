@@ -1,7 +1,7 @@
 -- What operations 21 to 24 answer and leave, as one step of the machine says it.
 use Rattle.std.specs.Prelude.{ℕ, List, [], ◌∷◌}
 use Rattle.numbers.specs.Limits.{READ, WRITE}
-use Rattle.numbers.specs.declared.Answer.{Answer}
+use Rattle.numbers.specs.Meaning.{Answer}
 use Rattle.model.specs.Effect.{accepted, refused, kept, quiet, reads, writes, apply, memory_index}
 use Rattle.model.specs.Ports.{vm_on}
 use Rattle.model.specs.Access.{access_answer, access_place}

@@ -1,9 +1,9 @@
 -- The header of a machine as numbers alone, the form in which it crosses to C (docs/MACHINE.md, 13).
-use Rattle.std.specs.Prelude.{ℕ, ◌+◌, ◌*◌, ◌<◌, Bool, true, not, ◌&&◌, List, [], ◌∷◌, ◌++◌, ◌≡◌, eqb, ltb, length, get_or, take, drop}
+use Rattle.std.specs.Prelude.{ℕ, ◌+◌, ◌*◌, ◌<◌, Bool, true, not, ◌&&◌, List, [], ◌∷◌, ◌++◌, ◌≡◌, eqb, ltb, length, get_or, take, drop, Option}
 use Rattle.std.specs.Prelude.{if◌then◌else◌}
 use Rattle.numbers.specs.Limits.{PORTS, UNITS}
 use Rattle.numbers.specs.Meaning.{lowest_numbers}
-use Rattle.numbers.specs.declared.Lowest.{Lowest}
+use Rattle.numbers.specs.declared.PhysPage.{PhysPage}
 use Rattle.table.specs.Scan.{repeat}
 use Rattle.units.specs.Units.{mark_number, is_mark, no_unit}
 use Rattle.units.specs.declared.Unit.{Unit}
@@ -117,8 +117,8 @@ answered room numbers = if eqb (length room) (length numbers) then write_at room
 abbrev pub NO_PAGE : ℕ
 NO_PAGE = 18446744073709551615
 
-abbrev pub lowest_number : Lowest → ℕ
+abbrev pub lowest_number : Option PhysPage → ℕ
 lowest_number lowest = get_or (lowest_numbers lowest) 0 NO_PAGE
 
-abbrev pub free_numbers : ℕ → Lowest → List ℕ
+abbrev pub free_numbers : ℕ → Option PhysPage → List ℕ
 free_numbers count lowest = count ∷ lowest_number lowest ∷ []

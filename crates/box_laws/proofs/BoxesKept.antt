@@ -6,8 +6,8 @@ use mathlib.Core.Option.{Option, none, some}
 use mathlib.Core.Path.{◌≡◌, refl, sym, ap, ◌∙◌, subst}
 use lib.ListN.{length-replicate}
 use Rattle.numbers.specs.Limits.{PORTS, UNITS, IDLE}
-use Rattle.numbers.specs.declared.Answer.{Answer}
-use Rattle.numbers.specs.declared.Answer.TheVariants.{Accepted, Refused}
+use Rattle.numbers.specs.Meaning.{Answer, refuse}
+use Rattle.std.specs.Prelude.{Ok, Err}
 use Rattle.numbers.specs.declared.Operation.{Operation}
 use Rattle.numbers.specs.declared.Refusal.{Refusal}
 use Rattle.units.specs.Units.{no_unit}
@@ -57,8 +57,8 @@ sequence_setup s rows room = whole (shape_answer rows room)
     p = beginning s room
 
     whole : (answer : Answer) → (kept answer p (after rows (row_count rows) p)).state.tables.setup ≡ s.tables.setup
-    whole (Accepted dropped word) = after_setup rows (row_count rows) p
-    whole (Refused refusal index) = refl
+    whole (Ok ok) = after_setup rows (row_count rows) p
+    whole (Err err) = refl
 
 module _ {C : Type 0} (words_of : C → List ℕ) (cacheOf : List ℕ → C) (back : (ws : List ℕ) → words_of (cacheOf ws) ≡ ws) where
   -- the state of a box that was left, from its header and the words of its caches
@@ -79,12 +79,12 @@ module _ {C : Type 0} (words_of : C → List ℕ) (cacheOf : List ℕ → C) (ba
   module _ (b : Box C) (v : BoxValid words_of b) where
     kept_state : (answer : Answer) (new : State) → new ≡ kept answer (state_in words_of b) new → Valid new → new.tables.setup ≡ setup_of (fixed_of b.header)
         → state_in words_of (kept answer b (left_in cacheOf b new)) ≡ new
-    kept_state (Accepted dropped word) new k w e = left_state b new v.header w e
-    kept_state (Refused refusal index) new k w e = sym k
+    kept_state (Ok ok) new k w e = left_state b new v.header w e
+    kept_state (Err err) new k w e = sym k
 
     kept_valid : (answer : Answer) (new : State) → Valid new → new.tables.setup ≡ setup_of (fixed_of b.header) → BoxValid words_of (kept answer b (left_in cacheOf b new))
-    kept_valid (Accepted dropped word) new w e = left_valid b new v.header w e
-    kept_valid (Refused refusal index) new w e = v
+    kept_valid (Ok ok) new w e = left_valid b new v.header w e
+    kept_valid (Err err) new w e = v
 
     -- ---- one operation
     pub operation_state : (row room : List ℕ) → state_in words_of (operation_gives words_of cacheOf b row room).box ≡ (step_row (state_in words_of b) row).state
@@ -140,11 +140,11 @@ module _ {C : Type 0} (words_of : C → List ℕ) (cacheOf : List ℕ → C) (ba
         })
 
   -- refused, it leaves a box that is not valid: its header says the empty machine
-  module _ (b : Box C) (told : Told) (h : HeaderWhole b.header) {refusal : Refusal} {index : ℕ} (e : start_answer told (lent_in words_of b) ≡ Refused refusal index) where
+  module _ (b : Box C) (told : Told) (h : HeaderWhole b.header) {refusal : Refusal} {index : ℕ} (e : start_answer told (lent_in words_of b) ≡ refuse refusal index) where
     abbrev nothing : State
     nothing = empty_state (lent_in words_of b)
 
-    no : (start told (lent_in words_of b)).answer ≡ Refused refusal index
+    no : (start told (lent_in words_of b)).answer ≡ refuse refusal index
     unfolding start
     no = e
 

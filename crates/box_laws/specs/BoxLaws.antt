@@ -1,5 +1,5 @@
 -- From what a core gives for a box of words to what an entry gives for the box of slots behind it.
-use Rattle.std.specs.Prelude.{ℕ, ◌<◌, Bool, List, ◌≡◌, length}
+use Rattle.std.specs.Prelude.{ℕ, ◌<◌, Bool, List, ◌≡◌, length, Ok, Err}
 use Rattle.std.proofs.Math.Logic.{⊎_elim}
 use Rattle.std.proofs.Math.Path.{sym}
 use Rattle.std.proofs.Common.{ap, ◌∙◌, arith}
@@ -7,10 +7,8 @@ use Rattle.std.proofs.lemmas.List.{length-map}
 use Rattle.numbers.specs.Decides.{Decides}
 use Rattle.numbers.specs.DecidesLaws.{decides_as}
 use Rattle.numbers.specs.Limits.{SLOTS}
-use Rattle.numbers.specs.Meaning.{number_of}
+use Rattle.numbers.specs.Meaning.{number_of, Answer}
 use Rattle.numbers.specs.MeaningLaws.{refusal_above}
-use Rattle.numbers.specs.declared.Answer.{Answer}
-use Rattle.numbers.specs.declared.Answer.TheVariants.{Accepted, Refused}
 use Rattle.numbers.specs.CaseLaws.{cases}
 use Rattle.model.specs.Effect.{kept}
 use Rattle.model.specs.Sequence.{step_row, sequence}
@@ -96,8 +94,8 @@ module _ (header sets pairs cpu_map cpu_walker : List ℕ) (cpuSlots : List Slot
         rw (p, q) (ap (λ (x : Box (List ℕ)). box x.header x.sets x.pairs x.cpu_map x.cpu_walker (slots_of x.cpu_cache) x.dma_map x.dma_walker (slots_of x.dma_cache) x.memory) e)
 
     stored_kept : AllThere → (answer : Answer) (old new : List ℕ) (s : State) → number ≡ number_of answer → left_words ≡ kept answer (with_header of_words old) (box_of same new s) → kept_in left_words ≡ kept answer (with_header of_slots old) (box_of slots_of new s)
-    stored_kept w (Accepted dropped word) old new s z e = stored_new w z new s e
-    stored_kept w (Refused refusal index) old new s z e = ap kept_in e ∙ stored_back (omega (arith, refusal_above refusal, z)) old
+    stored_kept w (Ok ok) old new s z e = stored_new w z new s e
+    stored_kept w (Err err) old new s z e = ap kept_in e ∙ stored_back (omega (arith, refusal_above err.refusal, z)) old
 
     -- the box was not judged
     pub stored_unjudged : (h : List ℕ) → number ≡ number_of not_valid_answer → left_words ≡ with_header of_words h → kept_in left_words ≡ with_header of_slots h

@@ -1,14 +1,12 @@
 -- The parts of the contracts, by name. `May` or `Answer` is what an answer says, `Ready` what a deed asks of its
 -- arguments, `Done` what it does, `Left` what the operation leaves: its answer, and each list new or as it was.
-use Rattle.std.specs.Prelude.{ℕ, ◌<◌, List, ◌≡◌}
+use Rattle.std.specs.Prelude.{ℕ, ◌<◌, List, ◌≡◌, Option, Some}
 use Rattle.std.specs.Prelude.{if◌then◌else◌}
 use Rattle.numbers.specs.Limits.{VMS, GUEST_PAGES, PAGES, PORTS, ACCESSES, GENERATIONS}
 use Rattle.numbers.specs.Packing.{key, key_of, slot_key, slot_word, entry_of}
-use Rattle.numbers.specs.declared.Answer.{Answer}
-use Rattle.numbers.specs.declared.Answer.TheVariants.{Accepted}
-use Rattle.numbers.specs.declared.Target.{Target}
+use Rattle.numbers.specs.Meaning.{Answer, accept}
+use Rattle.numbers.specs.declared.VmId.{VmId}
 use Rattle.table.specs.Table.{place, lookup, is_found, set_at}
-use Rattle.table.specs.declared.Found.TheVariants.{At}
 use Rattle.model.specs.Effect.{kept}
 use Rattle.model.specs.Maps.{matching_slots, without_slots, map_table, unmap_table}
 use Rattle.model.specs.Ports.{vm_on, port_ports, fill_place, fill_cache, next_hand, fill_hand, empty_cache}
@@ -21,12 +19,12 @@ pub record MapReady (table : List ℕ) (vm guest page access generation at : ℕ
   pub page_ok : page < PAGES
   pub access_ok : access < ACCESSES
   pub generation_ok : generation < GENERATIONS
-  pub spot : place key_of table (key vm guest) ≡ At at
+  pub spot : place key_of table (key vm guest) ≡ Some at
 
 -- the answer is the one that it should be, and where it accepts the deed is ready
 pub record MapMay (should : Answer) (table : List ℕ) (vm guest page access generation : ℕ) (told : Answer) (at : ℕ) : Type 0 where
   pub answer : told ≡ should
-  pub ready : {dropped word : ℕ} → told ≡ Accepted dropped word → MapReady table vm guest page access generation at
+  pub ready : {dropped word : ℕ} → told ≡ accept dropped word → MapReady table vm guest page access generation at
 
 -- the entry stands in both maps, and its slots went, so many
 pub record MapDone (map₀ walker₀ cache₀ : List ℕ) (vm guest page access generation count : ℕ) (map₁ walker₁ cache₁ : List ℕ) : Type 0 where
@@ -64,7 +62,7 @@ pub record UnmapLeft (should : Answer) (map₀ walker₀ cache₀ : List ℕ) (v
 
 -- ---- ports and slots
 -- an accepted switch puts the target on the port, a refused one leaves the ports
-pub record PortLeft (should : Answer) (ports₀ : List ℕ) (port : ℕ) (target : Target) (told : Answer) (ports₁ : List ℕ) : Type 0 where
+pub record PortLeft (should : Answer) (ports₀ : List ℕ) (port : ℕ) (target : Option VmId) (told : Answer) (ports₁ : List ℕ) : Type 0 where
   pub answer : told ≡ should
   pub ports : ports₁ ≡ kept should ports₀ (port_ports ports₀ port target)
 
@@ -83,7 +81,7 @@ pub record FillFound (ports walker : List ℕ) (port guest on found : ℕ) : Typ
 -- the answer is the one that it should be, and where it accepts it hands on what it found
 pub record FillAnswer (should : Answer) (ports walker : List ℕ) (port guest : ℕ) (told : Answer) (on found : ℕ) : Type 0 where
   pub answer : told ≡ should
-  pub given : {dropped word : ℕ} → told ≡ Accepted dropped word → FillFound ports walker port guest on found
+  pub given : {dropped word : ℕ} → told ≡ accept dropped word → FillFound ports walker port guest on found
 
 -- the slot has the word that was found; the hand steps only where its slot was taken
 pub record FillDone (cache₀ : List ℕ) (hand₀ port vm guest found : ℕ) (cache₁ : List ℕ) (hand₁ : ℕ) : Type 0 where

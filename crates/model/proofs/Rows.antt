@@ -6,8 +6,8 @@ use mathlib.Core.Path.{◌≡◌, refl}
 use lib.Dec.{eqb}
 use Rattle.numbers.specs.Limits.{IDLE}
 use Rattle.numbers.specs.Meaning.{target_number, side_number, operation_number, side_arguments, operation_arguments}
-use Rattle.numbers.specs.declared.Target.{Target}
-use Rattle.numbers.specs.declared.Target.TheVariants.{Idle, Vm}
+use Rattle.std.specs.Prelude.{Option, None, Some}
+use Rattle.numbers.specs.declared.VmId.{VmId}
 use Rattle.numbers.specs.declared.Operation.{Operation}
 use Rattle.numbers.specs.declared.Operation.TheVariants as op
 use Rattle.numbers.specs.declared.Side.{Side}
@@ -17,9 +17,9 @@ use Rattle.numbers.specs.declared.SideOperation.TheVariants as sided
 use Rattle.model.specs.Sequence.{operation_in, target_of}
 
 -- rows write every target but a VM of idle's number, which is no VM's
-abbrev pub Writable : Target → Type 0
-Writable Idle = Unit {0}
-Writable (Vm vm) = eqb vm.0 IDLE ≡ false
+abbrev pub Writable : Option VmId → Type 0
+Writable None = Unit {0}
+Writable (Some vm) = eqb vm.0 IDLE ≡ false
 
 abbrev pub SideWritable : SideOperation → Type 0
 SideWritable (sided.MapPage vm guest page access generation) = Unit {0}
@@ -44,9 +44,9 @@ RowWritable op.DataBarrier = Unit {0}
 RowWritable op.InstructionBarrier = Unit {0}
 RowWritable (op.RetireVm vm) = Unit {0}
 
-target_back : (target : Target) → Writable target → target_of (target_number target) ≡ target
-target_back Idle w = refl
-target_back (Vm vm) w = rw w
+target_back : (target : Option VmId) → Writable target → target_of (target_number target) ≡ target
+target_back None w = refl
+target_back (Some vm) w = rw w
 
 side_back : (side : Side) (operation : SideOperation) → SideWritable operation → operation_in (side_number side operation ∷ side_arguments operation) ≡ some (op.On side operation)
 unfolding operation_in

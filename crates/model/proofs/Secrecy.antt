@@ -12,8 +12,8 @@ use borrow.Author.Tests.{eqb-true, eq-eqb, ne_eqb}
 use Rattle.numbers.specs.CaseLaws.{none_some}
 use Rattle.numbers.specs.Limits.{PAGE_WORDS}
 use Rattle.numbers.specs.Packing.{left_of, right_of}
-use Rattle.numbers.specs.declared.Answer.{Answer}
-use Rattle.numbers.specs.declared.Answer.TheVariants.{Accepted, Refused}
+use Rattle.numbers.specs.Meaning.{Answer}
+use Rattle.std.specs.Prelude.{Ok, Err}
 use Rattle.numbers.specs.declared.Side.{Side}
 use Rattle.numbers.specs.declared.SideOperation.{SideOperation}
 use Rattle.numbers.specs.declared.SideOperation.TheVariants as sided
@@ -75,8 +75,8 @@ module _ (t : Tables) where
 
 -- ---- answers but for the word
 unread : (effect : Effect) (memory : List ℕ) (x : Answer) → without_word (answer_with effect memory x) ≡ without_word x
-unread (reads vm places) memory (Accepted dropped word) = refl
-unread (reads vm places) memory (Refused refusal index) = refl
+unread (reads vm places) memory (Ok ok) = refl
+unread (reads vm places) memory (Err err) = refl
 unread (writes vm xs) memory x = refl
 unread (clears pages) memory x = refl
 

@@ -11,8 +11,8 @@ use lib.ListN.{length, length-set}
 use Rattle.numbers.specs.CaseLaws.{cases, equal}
 use Rattle.numbers.specs.Limits.{VMS, PAGE_WORDS, READ, WRITE}
 use Rattle.numbers.specs.Packing.{left_of, right_of, page_of}
-use Rattle.numbers.specs.declared.Answer.{Answer}
-use Rattle.numbers.specs.declared.Answer.TheVariants.{Accepted, Refused}
+use Rattle.numbers.specs.Meaning.{Answer}
+use Rattle.std.specs.Prelude.{Ok, Err}
 use Rattle.numbers.specs.declared.Operation.{Operation}
 use Rattle.table.specs.Table.{Has}
 use Rattle.model.specs.State.{Tables}
@@ -99,8 +99,8 @@ module _ (members : ℕ → Bool) (t : Tables) (v : ValidTables t) where
       same_read (clears pages) s k n = refl
 
       pub same_answer : (effect : Effect) → SoundWith effect → (Seen members (Private members) t effect 0 → ⊥) → (x : Answer) → answer_with effect a x ≡ answer_with effect b x
-      same_answer (reads vm places) s n (Accepted dropped word) = rw (same_read (reads vm places) s 0 n)
-      same_answer (reads vm places) s n (Refused refusal index) = refl
+      same_answer (reads vm places) s n (Ok ok) = rw (same_read (reads vm places) s 0 n)
+      same_answer (reads vm places) s n (Err err) = refl
       same_answer (writes vm xs) s n x = refl
       same_answer (clears pages) s n x = refl
 

@@ -19,8 +19,7 @@ use Rattle.table.specs.ScanLaws.{found_never, cleared_empty}
 use Rattle.table.specs.Table.{find, lookup, place, put, erase, is_found, word_at, Has, Distinct}
 use Rattle.table.specs.TableLaws.{find_none, lookup_has, lookup_nothing, lookup_put_same, lookup_put_other, lookup_erase_same, lookup_erase_other}
 use Rattle.table.specs.AgreeLaws.{lookup_wipe}
-use Rattle.table.specs.declared.Found.{Found}
-use Rattle.table.specs.declared.Found.TheVariants.{At, Nothing}
+use Rattle.std.specs.Prelude.{Option, Some, None}
 use Rattle.model.specs.EarlyLaws.{both}
 use Rattle.model.specs.Upstream.{AccessPerms, S2Entry, perms_of, entry_in, seen, map_seen, is_some}
 use Rattle.model.specs.UpstreamStep.{is_edge}
@@ -49,12 +48,12 @@ module _ (key_of : ℕ → ℕ) (empty : key_of 0 ≡ 0) where
   unfolding lookup
   found_looked ws k o = go (find key_of ws k) refl
     where
-      go : (f : Found) → find key_of ws k ≡ f → is_found f ≡ not (eqb (word_at ws f) 0)
-      go (At i) q = ⊎_elim (λ t. absurd (found_never i (sym q ∙ lookup_nothing key_of empty ws k o (rw q (eqb-true _ _ t))))) (λ f. rw f) (cases (eqb (get_or ws i 0) 0))
-      go Nothing q = refl
+      go : (f : Option ℕ) → find key_of ws k ≡ f → is_found f ≡ not (eqb (word_at ws f) 0)
+      go (Some i) q = ⊎_elim (λ t. absurd (found_never i (sym q ∙ lookup_nothing key_of empty ws k o (rw q (eqb-true _ _ t))))) (λ f. rw f) (cases (eqb (get_or ws i 0) 0))
+      go None q = refl
 
   -- and so after a word is put, or a key erased
-  pub found_put_same : (ws : List ℕ) (k w i : ℕ) → 0 < k → key_of w ≡ k → place key_of ws k ≡ At i → is_found (find key_of (put key_of ws k w) k) ≡ true
+  pub found_put_same : (ws : List ℕ) (k w i : ℕ) → 0 < k → key_of w ≡ k → place key_of ws k ≡ Some i → is_found (find key_of (put key_of ws k w) k) ≡ true
   found_put_same ws k w i o e p =
       let n : w ≡ 0 → ⊥ = λ z. let q : 0 ≡ k = sym empty ∙ rw z at e in omega arith in
       found_looked (put key_of ws k w) k o ∙ rw (lookup_put_same key_of ws k w i e p, ne_eqb w 0 n)
@@ -75,9 +74,9 @@ module _ (key_of : ℕ → ℕ) (empty : key_of 0 ≡ 0) where
   pub has_found : (ws : List ℕ) (w : ℕ) → Has ws w → is_found (find key_of ws (key_of w)) ≡ true
   has_found ws w r = go (find key_of ws (key_of w)) refl
     where
-      go : (f : Found) → find key_of ws (key_of w) ≡ f → is_found f ≡ true
-      go (At i) q = refl
-      go Nothing q = absurd (find_none key_of ws (key_of w) q r.spot r.within (rw r.holds))
+      go : (f : Option ℕ) → find key_of ws (key_of w) ≡ f → is_found f ≡ true
+      go (Some i) q = refl
+      go None q = absurd (find_none key_of ws (key_of w) q r.spot r.within (rw r.holds))
 
 -- ---- wipes
 wiped_word : (p : ℕ → Bool) (w : ℕ) (gone : Bool) → ((w ≡ 0 → ⊥) → p w ≡ gone) → seen (cleared p w) ≡ (if gone then none else seen w)

@@ -13,7 +13,7 @@ use Rattle.std.specs.Prelude.{if◌then◌else◌}
 use Rattle.numbers.specs.Limits.{VMS, GUEST_PAGES, PAGES, ACCESSES, GENERATIONS}
 use Rattle.numbers.specs.Packing.{key, key_of, slot_key, address_of, map_word, entry}
 use Rattle.numbers.specs.PackingLaws.{key_filled, entry_page, entry_access, entry_generation, word_page, word_access, word_generation}
-use Rattle.numbers.specs.declared.Answer.TheVariants.{Accepted}
+use Rattle.numbers.specs.Meaning.{accept}
 use Rattle.numbers.specs.declared.GuestPage.{GuestPage}
 use Rattle.numbers.specs.declared.Operation.TheVariants as op
 use Rattle.numbers.specs.declared.PhysPage.{PhysPage}
@@ -23,7 +23,7 @@ use Rattle.numbers.specs.declared.VmId.{VmId}
 use Rattle.table.specs.Table.{has_key, find, lookup, place, erase, is_found}
 use Rattle.table.specs.TableLaws.{lookup_put_same, lookup_put_other, lookup_erase_same, lookup_erase_other, lookup_wipe_same, lookup_wipe_other}
 use Rattle.table.specs.AgreeLaws.{agree_place}
-use Rattle.table.specs.declared.Found.TheVariants.{At}
+use Rattle.std.specs.Prelude.{Some}
 use Rattle.model.specs.State.{Tables, Route, State, route, with_side}
 use Rattle.model.specs.Valid.{SameMap, CacheGood, ValidTables}
 use Rattle.model.specs.EarlyLaws.{past, both, then_passed, unmap_passed}
@@ -64,7 +64,7 @@ at_key table table' vm gpa answer h here there v g l h' =
     (equal (key vm gpa) (key v g)))
 
 pub put_seen : (table : List ℕ) (vm gpa page access generation i : ℕ) → vm < VMS → gpa < GUEST_PAGES → page < PAGES → access < ACCESSES → generation < GENERATIONS →
-    place key_of table (key vm gpa) ≡ At i →
+    place key_of table (key vm gpa) ≡ Some i →
     SameS2Map (map_seen (map_table table vm gpa page access generation)) (map_at (map_seen table) vm gpa (some (entry_of page access generation)))
 unfolding map_table
 put_seen table vm gpa page access generation i v g p a n at =
@@ -125,7 +125,7 @@ module _ (side : Side) (t : Tables) (memory : List ℕ) (r : Route) where
       none_there e = not_some _ (not_so _ (λ s. true≢false (sym s ∙ ap is_some (slot_seen r.walker r.cache good c v g v' g' s) ∙ absent e)))
 
   module _ (vm gpa page access generation i : ℕ) (v : vm < VMS) (g : gpa < GUEST_PAGES) (p : page < PAGES) (a : access < ACCESSES) (n : generation < GENERATIONS)
-      (at : place key_of r.walker (key vm gpa) ≡ At i) where
+      (at : place key_of r.walker (key vm gpa) ≡ Some i) where
     -- onto an absent key; and onto one that has just been unmapped and invalidated
     reach_new : CacheGood r.walker r.cache → is_found (find key_of r.walker (key vm gpa)) ≡ false →
         HardwareMapStep side vm gpa (entry_of page access generation) (shown side t memory r) (shown side t memory (map_route r vm gpa page access generation))
@@ -165,7 +165,7 @@ module _ (side : Side) (t : Tables) (memory : List ℕ) (r : Route) where
 -- ---- the operations
 module _ (side : Side) (s : State) (valid : ValidTables s.tables) where
   -- the walker has a place where the software map has one
-  walker_place : (k i : ℕ) → 0 < k → place key_of (route side s.tables).map k ≡ At i → (j : ℕ) × (place key_of (route side s.tables).walker k ≡ At j)
+  walker_place : (k i : ℕ) → 0 < k → place key_of (route side s.tables).map k ≡ Some i → (j : ℕ) × (place key_of (route side s.tables).walker k ≡ Some j)
   unfolding SameMap
   walker_place k i o p =
       let m = maps_of side s.tables valid in
@@ -192,7 +192,7 @@ module _ (side : Side) (s : State) (valid : ValidTables s.tables) where
       }
 
   pub map-follows : (vm : VmId) (guest : GuestPage) (page : PhysPage) (access generation : ℕ) {dropped word : ℕ} →
-      answer_of s.tables (op.On side (sided.MapPage vm guest page access generation)) ≡ Accepted dropped word →
+      answer_of s.tables (op.On side (sided.MapPage vm guest page access generation)) ≡ accept dropped word →
       AcceptedFollows s (op.On side (sided.MapPage vm guest page access generation))
   unfolding apply cleared_pages
   map-follows vm guest page access generation e =
@@ -218,7 +218,7 @@ module _ (side : Side) (s : State) (valid : ValidTables s.tables) where
         next = rw (map_of_lem side s.tables) (route_software side s.tables (unmap_route r vm gpa) _ (erase_seen r.map vm gpa g));
       }
 
-  pub unmap_follows : (vm : VmId) (guest : GuestPage) {dropped word : ℕ} → answer_of s.tables (op.On side (sided.UnmapPage vm guest)) ≡ Accepted dropped word →
+  pub unmap_follows : (vm : VmId) (guest : GuestPage) {dropped word : ℕ} → answer_of s.tables (op.On side (sided.UnmapPage vm guest)) ≡ accept dropped word →
       AcceptedFollows s (op.On side (sided.UnmapPage vm guest))
   unfolding unmap_answer unmap_may apply cleared_pages
   unmap_follows vm guest e =

@@ -14,19 +14,17 @@ use Rattle.std.specs.Prelude.{if◌then◌else◌}
 use Rattle.numbers.specs.Limits.{VMS, GUEST_PAGES, PORTS, SLOTS, IDLE}
 use Rattle.numbers.specs.Packing.{key, key_of, slot_key, slot_word, entry_of, port_of, vm_of, guest_of, filled_of, WordFits, VM_FIELD}
 use Rattle.numbers.specs.PackingLaws.{word_entry, word_filled, word_key, key_filled}
-use Rattle.numbers.specs.declared.Answer.TheVariants.{Accepted}
+use Rattle.numbers.specs.Meaning.{accept}
 use Rattle.numbers.specs.declared.GuestPage.{GuestPage}
 use Rattle.numbers.specs.declared.Operation.TheVariants as op
-use Rattle.numbers.specs.declared.Target.{Target}
-use Rattle.numbers.specs.declared.Target.TheVariants.{Idle, Vm}
+use Rattle.std.specs.Prelude.{Option, None, Some}
+use Rattle.numbers.specs.declared.VmId.{VmId}
 use Rattle.numbers.specs.declared.Side.{Side}
 use Rattle.numbers.specs.declared.Side.TheVariants.{Cpu, Dma}
 use Rattle.numbers.specs.declared.SideOperation.TheVariants as sided
 use Rattle.table.specs.ScanLaws.{found_never, found_count}
 use Rattle.table.specs.Table.{is_empty, free_entries, lookup, place, Has, Distinct}
 use Rattle.table.specs.TableLaws.{IsPlace, find_none, place_is, place_none, place_room, distinct_alone, lookup_has, lookup_none, has_lookup, has_set_inv, has_set_keep, lookup_set_same, lookup_set_other}
-use Rattle.table.specs.declared.Found.{Found}
-use Rattle.table.specs.declared.Found.TheVariants.{At, Nothing}
 use Rattle.model.specs.State.{Tables, Route, State, route, with_side, with_cache, with_ports}
 use Rattle.model.specs.Ports.{is_target, port_answer, port_ports, vm_on, fill_place, fill_cache, empty_answer, empty_cache}
 use Rattle.model.specs.Views.{is_port, is_slot, is_idle}
@@ -141,14 +139,14 @@ fill_step Dma t memory r cache hand port gpa v n e =
     }
 
 -- ---- a fill: the key's slot, an empty one, or the one at the hand, which is given up first
-full_slot : (ws : List ℕ) (k i : ℕ) → place key_of ws k ≡ Nothing → i < length ws → get_or ws i 0 ≡ 0 → ⊥
+full_slot : (ws : List ℕ) (k i : ℕ) → place key_of ws k ≡ None → i < length ws → get_or ws i 0 ≡ 0 → ⊥
 unfolding free_entries
 full_slot ws k i e h z =
     let (j, at) = place_room key_of ws k (λ q. found_count is_empty ws i h (eq-eqb (get_or ws i 0) 0 z)) in
     found_never j (sym at ∙ e)
 
 -- once given up it is a place for the key
-given_up_lem : (ws : List ℕ) (k i : ℕ) → place key_of ws k ≡ Nothing → i < length ws → IsPlace key_of (set ws i 0) k i
+given_up_lem : (ws : List ℕ) (k i : ℕ) → place key_of ws k ≡ None → i < length ws → IsPlace key_of (set ws i 0) k i
 given_up_lem ws k i e h =
     record {
       within = rw length-set h;
@@ -174,9 +172,9 @@ module _ (side : Side) (t : Tables) (memory : List ℕ) (r : Route) (good : Cach
       goal : Type 0
       goal = HardwareRun (fill_calls side r port gpa) (shown side t memory r) (shown side t memory (fill_route r port gpa))
 
-      by_place : (f : Found) → place key_of r.cache (slot_key port (vm_on r.ports port) gpa) ≡ f → goal
-      by_place (At i) e = rw e (hardware_once (filled_at r.cache i _ (place_is key_of r.cache _ i good.once (omega arith) e)))
-      by_place Nothing e =
+      by_place : (f : Option ℕ) → place key_of r.cache (slot_key port (vm_on r.ports port) gpa) ≡ f → goal
+      by_place (Some i) e = rw e (hardware_once (filled_at r.cache i _ (place_is key_of r.cache _ i good.once (omega arith) e)))
+      by_place None e =
           let h : r.hand < length r.cache = omega arith in
           let n = full_slot r.cache _ r.hand e h in
           rw (e, ← set-set r.cache r.hand 0 _)
@@ -213,16 +211,16 @@ ports_hardware : (s : State) (ports : List ℕ) (active : ℕ → Option ℕ) �
 ports_hardware s ports active e =
     same_with (hardware_view (record { tables = with_side Cpu s.tables (with_ports s.tables.cpu ports) s.tables.sets; memory = s.memory })) _ active (λ address. refl) e
 
-switch_run : (s : State) (port : ℕ) (target : Target) → port < length s.tables.cpu.ports → is_target target ≡ true →
+switch_run : (s : State) (port : ℕ) (target : Option VmId) → port < length s.tables.cpu.ports → is_target target ≡ true →
     HardwareRun (port_calls Cpu port target) (hardware_view s)
     (hardware_view (record { tables = with_side Cpu s.tables (with_ports s.tables.cpu (port_ports s.tables.cpu.ports port target)) s.tables.sets; memory = s.memory }))
-switch_run s port Idle h e = hardware_once (ports_hardware s (set s.tables.cpu.ports port IDLE) _ (active_set s.tables.cpu.ports port IDLE h))
-switch_run s port (Vm vm) h e =
+switch_run s port None h e = hardware_once (ports_hardware s (set s.tables.cpu.ports port IDLE) _ (active_set s.tables.cpu.ports port IDLE h))
+switch_run s port (Some vm) h e =
     hardware_once (ports_hardware s (set s.tables.cpu.ports port vm.0) _ (λ cpu. active_set s.tables.cpu.ports port vm.0 h cpu ∙ rw e))
 
 -- ---- the operations
 -- what a device is bound to is in neither view
-port_run : (side : Side) (s : State) (port : ℕ) (target : Target) → port < length (route side s.tables).ports → is_target target ≡ true →
+port_run : (side : Side) (s : State) (port : ℕ) (target : Option VmId) → port < length (route side s.tables).ports → is_target target ≡ true →
     Follows s (record {
       tables = with_side side s.tables
           (with_ports (route side s.tables) (port_ports (route side s.tables).ports port target)) s.tables.sets;
@@ -231,7 +229,7 @@ port_run : (side : Side) (s : State) (port : ℕ) (target : Target) → port < l
 port_run Cpu s port target h e = record { software = stop (same_software _); hardware = switch_run s port target h e }
 port_run Dma s port target h e = record { software = stop (same_software _); hardware = stop (same_hardware _) }
 
-slot_below : (slot : ℕ) {dropped word : ℕ} → empty_answer slot ≡ Accepted dropped word → slot < SLOTS
+slot_below : (slot : ℕ) {dropped word : ℕ} → empty_answer slot ≡ accept dropped word → slot < SLOTS
 unfolding empty_answer
 slot_below slot e = ltb-true slot SLOTS (not-false _ (past (not (is_slot slot)) _ _ _ e).0)
 
@@ -243,7 +241,7 @@ cache_only Cpu s cache hand calls run = record { software = stop (same_software 
 cache_only Dma s cache hand calls run = record { software = stop (same_software _); hardware = run }
 
 module _ (side : Side) (s : State) (valid : ValidTables s.tables) where
-  pub port_follows : (port : ℕ) (target : Target) {dropped word : ℕ} → answer_of s.tables (op.On side (sided.GivePort port target)) ≡ Accepted dropped word →
+  pub port_follows : (port : ℕ) (target : Option VmId) {dropped word : ℕ} → answer_of s.tables (op.On side (sided.GivePort port target)) ≡ accept dropped word →
       AcceptedFollows s (op.On side (sided.GivePort port target))
   unfolding port_answer apply cleared_pages
   port_follows port target e =
@@ -251,7 +249,7 @@ module _ (side : Side) (s : State) (valid : ValidTables s.tables) where
       let (p, r) = hold (is_port port) (is_target target) a in
       port_run side s port target (rw (lengths_of side s.tables valid).ports (ltb-true port PORTS p)) r
 
-  pub fill_follows : (port : ℕ) (guest : GuestPage) {dropped word : ℕ} → answer_of s.tables (op.On side (sided.FillSlot port guest)) ≡ Accepted dropped word →
+  pub fill_follows : (port : ℕ) (guest : GuestPage) {dropped word : ℕ} → answer_of s.tables (op.On side (sided.FillSlot port guest)) ≡ accept dropped word →
       AcceptedFollows s (op.On side (sided.FillSlot port guest))
   unfolding apply cleared_pages
   fill_follows port guest e =
@@ -260,7 +258,7 @@ module _ (side : Side) (s : State) (valid : ValidTables s.tables) where
       cache_only side s _ _ _ (fill_run side s.tables s.memory r g.cache (lengths_of side s.tables valid).cache g.hand port guest.0
       (fill_passed r.ports r.walker port guest.0 e))
 
-  pub empty_follows : (slot : ℕ) {dropped word : ℕ} → answer_of s.tables (op.On side (sided.EmptySlot slot)) ≡ Accepted dropped word →
+  pub empty_follows : (slot : ℕ) {dropped word : ℕ} → answer_of s.tables (op.On side (sided.EmptySlot slot)) ≡ accept dropped word →
       AcceptedFollows s (op.On side (sided.EmptySlot slot))
   unfolding apply cleared_pages
   empty_follows slot e =

@@ -14,7 +14,7 @@ use Rattle.std.specs.Prelude.{if◌then◌else◌}
 use Rattle.numbers.specs.Limits.{VMS, GUEST_PAGES, PAGES}
 use Rattle.numbers.specs.Packing.{key, key_of, address_of, pair_key, pair_key_of, vm_of, guest_of, page_of, filled_of, left_of, right_of}
 use Rattle.numbers.specs.PackingLaws.{unported, key_filled}
-use Rattle.numbers.specs.declared.Answer.TheVariants.{Accepted}
+use Rattle.numbers.specs.Meaning.{accept}
 use Rattle.numbers.specs.declared.Operation.TheVariants as op
 use Rattle.numbers.specs.declared.Side.{Side}
 use Rattle.numbers.specs.declared.Side.TheVariants.{Cpu, Dma}
@@ -258,7 +258,7 @@ module _ (side : Side) (t : Tables) (valid : ValidTables t) (vm : ℕ) where
       ) rest)
 
 -- ---- the operation
-pub retire_follows : (s : State) → ValidTables s.tables → (vm : VmId) {dropped word : ℕ} → answer_of s.tables (op.RetireVm vm) ≡ Accepted dropped word →
+pub retire_follows : (s : State) → ValidTables s.tables → (vm : VmId) {dropped word : ℕ} → answer_of s.tables (op.RetireVm vm) ≡ accept dropped word →
     AcceptedFollows s (op.RetireVm vm)
 unfolding apply
 retire_follows s valid vm e =

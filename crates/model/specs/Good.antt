@@ -5,7 +5,7 @@ use Rattle.std.specs.Prelude.{ℕ, ◌<◌, Bool, true, false, ◌||◌, List, [
 use Rattle.std.proofs.Math.Option.{Option, none, some}
 use Rattle.numbers.specs.Limits.{VMS, READ, WRITE}
 use Rattle.numbers.specs.Packing.{vm_of, left_of, right_of, page_of}
-use Rattle.numbers.specs.declared.Answer.{Answer}
+use Rattle.numbers.specs.Meaning.{Answer}
 use Rattle.numbers.specs.declared.Operation.{Operation}
 use Rattle.numbers.specs.declared.Operation.TheVariants as op
 use Rattle.numbers.specs.declared.Side.{Side}

@@ -1,11 +1,10 @@
 -- Demand 3 (docs/MACHINE.md, 12): two runs that differ only in the private words of a set of VMs stay equal everywhere else.
 -- Over any reading of "private", since one VM's and a set's are two readings of it.
-use Rattle.std.specs.Prelude.{ℕ, zero, suc, ◌≤◌, ◌<◌, Bool, true, false, List, [], ◌∷◌, ◌≡◌, length, get_or}
+use Rattle.std.specs.Prelude.{ℕ, zero, suc, ◌≤◌, ◌<◌, Bool, true, false, List, [], ◌∷◌, ◌≡◌, length, get_or, Ok, Err}
 use Rattle.std.proofs.Math.Option.{Option, none, some}
 use Rattle.numbers.specs.Limits.{VMS, PAGE_WORDS}
 use Rattle.numbers.specs.Packing.{left_of, right_of, page_of}
-use Rattle.numbers.specs.declared.Answer.{Answer}
-use Rattle.numbers.specs.declared.Answer.TheVariants.{Accepted, Refused}
+use Rattle.numbers.specs.Meaning.{Answer, accept}
 use Rattle.numbers.specs.declared.Refusal.TheVariants.{OutOfRange}
 use Rattle.numbers.specs.declared.SideOperation.{SideOperation}
 use Rattle.numbers.specs.declared.SideOperation.TheVariants as sided
@@ -101,8 +100,8 @@ words_read (clears pages) memory = []
 
 -- the answer but for the word that was read
 abbrev pub without_word : Answer → Answer
-without_word (Accepted dropped word) = Accepted dropped 0
-without_word (Refused refusal index) = Refused refusal index
+without_word (Ok ok) = accept ok.dropped 0
+without_word (Err err) = Err err
 
 -- ---- two runs, over a set of VMs and a reading of "private"
 module _ (members : ℕ → Bool) (Secret : Tables → ℕ → Type 0) where

@@ -1,16 +1,13 @@
 -- Rows and the sequence (docs/MACHINE.md, 9): eight numbers a row, four numbers an answer.
-use Rattle.std.specs.Prelude.{ℕ, ◌+◌, ◌*◌, ◌/◌, ◌%◌, not, List, [], ◌∷◌, eqb, leb, length, get_or, set, take, drop}
+use Rattle.std.specs.Prelude.{ℕ, ◌+◌, ◌*◌, ◌/◌, ◌%◌, not, List, [], ◌∷◌, eqb, leb, length, get_or, set, take, drop, Option, None, Some}
 use Rattle.std.proofs.Math.Option.{Option, none, some}
 use Rattle.std.specs.Prelude.{if◌then◌else◌}
 use Rattle.numbers.specs.Limits.{ROW_NUMBERS, ANSWER_NUMBERS, IDLE}
-use Rattle.numbers.specs.Meaning.{answer_numbers}
-use Rattle.numbers.specs.declared.Answer.{Answer}
+use Rattle.numbers.specs.Meaning.{answer_numbers, Answer}
 use Rattle.numbers.specs.declared.Refusal.TheVariants.{OutOfRange}
 use Rattle.numbers.specs.declared.VmId.{VmId}
 use Rattle.numbers.specs.declared.GuestPage.{GuestPage}
 use Rattle.numbers.specs.declared.PhysPage.{PhysPage}
-use Rattle.numbers.specs.declared.Target.{Target}
-use Rattle.numbers.specs.declared.Target.TheVariants.{Idle, Vm}
 use Rattle.numbers.specs.declared.Region.{Region}
 use Rattle.numbers.specs.declared.Side.TheVariants.{Cpu, Dma}
 use Rattle.numbers.specs.declared.SideOperation.TheVariants as sided
@@ -32,8 +29,8 @@ abbrev pub phys_page : ℕ → PhysPage
 phys_page n = record { 0 = n }
 
 -- the one place that reads a row's number as idle; `target_number` writes it
-abbrev pub target_of : ℕ → Target
-target_of n = if eqb n IDLE then Idle else Vm (vm_id n)
+abbrev pub target_of : ℕ → Option VmId
+target_of n = if eqb n IDLE then None else Some (vm_id n)
 
 abbrev pub region_of : ℕ → ℕ → ℕ → ℕ → ℕ → Region
 region_of vm guest page count access = record { vm = vm_id vm; guest = guest_page guest; page = phys_page page; count = count; access = access }

@@ -1,11 +1,10 @@
 -- Start, the empty machine and the free query (docs/MACHINE.md, 5 and 8).
-use Rattle.std.specs.Prelude.{ℕ, zero, suc, ◌+◌, ◌*◌, ◌/◌, ◌%◌, Bool, not, ◌&&◌, List, [], ◌∷◌, eqb, ltb, leb, length, get_or, replicate}
+use Rattle.std.specs.Prelude.{ℕ, zero, suc, ◌+◌, ◌*◌, ◌/◌, ◌%◌, Bool, not, ◌&&◌, List, [], ◌∷◌, eqb, ltb, leb, length, get_or, replicate, Option, None}
 use Rattle.std.specs.Prelude.{if◌then◌else◌}
 use Rattle.numbers.specs.Limits.{PAGES, PAGE_WORDS, SETS, SET_WORDS, PAIRS, ENTRIES, SLOTS, PORTS, UNITS, IDLE}
-use Rattle.numbers.specs.declared.Answer.{Answer}
+use Rattle.numbers.specs.Meaning.{Answer}
 use Rattle.numbers.specs.declared.Refusal.TheVariants.{StateNotValid, OutOfRange, BadSpan}
-use Rattle.numbers.specs.declared.Lowest.{Lowest}
-use Rattle.numbers.specs.declared.Lowest.TheVariants.{Nothing}
+use Rattle.numbers.specs.declared.PhysPage.{PhysPage}
 use Rattle.table.specs.Scan.{any_below, repeat}
 use Rattle.pages.specs.Rows.{add, pool_row, shared_row, free_count, lowest_free}
 use Rattle.units.specs.Spans.{span_within, region_span}
@@ -162,10 +161,10 @@ start told lent = record { answer = start_answer told lent; state = kept (start_
 pub record Free : Type 0 where
   pub answer : Answer
   pub count : ℕ
-  pub lowest : Lowest
+  pub lowest : Option PhysPage
 
 unfoldable pub free : Tables → Free
 free t = record { answer = accepted; count = free_count t.sets t.setup.pages; lowest = lowest_free t.sets t.setup.pages }
 
 abbrev pub free_refused : Free
-free_refused = record { answer = refused StateNotValid; count = 0; lowest = Nothing }
+free_refused = record { answer = refused StateNotValid; count = 0; lowest = None }

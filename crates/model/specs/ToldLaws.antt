@@ -4,7 +4,7 @@ use Rattle.std.proofs.Common.{arith, ltb-true, leb-true, eqb-true}
 use Rattle.std.proofs.lemmas.Bool.{not-false}
 use Rattle.std.specs.Prelude.{if◌then◌else◌}
 use Rattle.numbers.specs.Limits.{PAGES, PAGE_WORDS, SETS, SET_WORDS, PAIRS, ENTRIES, SLOTS, UNITS}
-use Rattle.numbers.specs.declared.Answer.TheVariants.{Accepted}
+use Rattle.numbers.specs.Meaning.{accept}
 use Rattle.table.specs.Scan.{any_below}
 use Rattle.table.specs.ScanLaws.{any_below_false}
 use Rattle.units.specs.Spans.{span_within}
@@ -66,7 +66,7 @@ pub record StartPassed (t : Told) (l : Lent) : Type 0 where
   pub spans_ok : (k : ℕ) → k < count_told t.units → bad_span t.pages t.units k ≡ false
   pub shared_ok : t.shared_base + t.shared_count ≤ t.pages
 
-pub start_passed : (t : Told) (l : Lent) {dropped word : ℕ} → start_answer t l ≡ Accepted dropped word → StartPassed t l
+pub start_passed : (t : Told) (l : Lent) {dropped word : ℕ} → start_answer t l ≡ accept dropped word → StartPassed t l
 unfolding start_answer
 start_passed t l e =
     let count = count_told t.units in

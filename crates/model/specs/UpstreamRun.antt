@@ -1,14 +1,13 @@
 -- Which steps of upstream's an accepted operation is, and what it is to be a run of them. The numbers of an accepted operation
 -- are in range (EarlyLaws), so that nothing it does falls outside of what views are compared at.
-use Rattle.std.specs.Prelude.{ℕ, zero, suc, ◌/◌, Bool, true, false, not, ◌&&◌, ◌||◌, List, [], ◌∷◌, ◌++◌, ◌≡◌, eqb, get_or}
+use Rattle.std.specs.Prelude.{ℕ, zero, suc, ◌/◌, Bool, true, false, not, ◌&&◌, ◌||◌, List, [], ◌∷◌, ◌++◌, ◌≡◌, eqb, get_or, Option, None, Some}
 use Rattle.std.proofs.Math.Option.{Option, none, some}
 use Rattle.std.specs.Prelude.{if◌then◌else◌}
 use Rattle.numbers.specs.Limits.{PAGE_WORDS}
 use Rattle.numbers.specs.Packing.{key, slot_key, key_of, port_of, vm_of, guest_of}
 use Rattle.numbers.specs.declared.Side.{Side}
 use Rattle.numbers.specs.declared.Side.TheVariants.{Cpu, Dma}
-use Rattle.numbers.specs.declared.Target.{Target}
-use Rattle.numbers.specs.declared.Target.TheVariants.{Idle, Vm}
+use Rattle.numbers.specs.declared.VmId.{VmId}
 use Rattle.numbers.specs.declared.SideOperation.{SideOperation}
 use Rattle.numbers.specs.declared.SideOperation.TheVariants as sided
 use Rattle.numbers.specs.declared.Operation.{Operation}
@@ -226,9 +225,9 @@ retire_calls side sets vm [] = []
 retire_calls side sets vm (w ∷ ws) = if goes side sets vm w then unmap_invalidate side (vm_of w) (guest_of w) ∷ retire_calls side sets vm ws else retire_calls side sets vm ws
 
 -- HardwareView knows no device's VM
-abbrev pub port_calls : Side → ℕ → Target → List HardwareCall
-port_calls Cpu port Idle = idle port ∷ []
-port_calls Cpu port (Vm vm) = context_switch port vm.0 ∷ []
+abbrev pub port_calls : Side → ℕ → Option VmId → List HardwareCall
+port_calls Cpu port None = idle port ∷ []
+port_calls Cpu port (Some vm) = context_switch port vm.0 ∷ []
 port_calls Dma port target = []
 
 abbrev pub fill_call : Side → ℕ → ℕ → ℕ → HardwareCall

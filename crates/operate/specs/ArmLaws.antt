@@ -1,9 +1,8 @@
 -- What each operation's step leaves, part by part: a part that an accepted operation replaces is `kept` by a refused one.
-use Rattle.std.specs.Prelude.{ℕ, Bool, List, ◌≡◌}
+use Rattle.std.specs.Prelude.{ℕ, Bool, List, ◌≡◌, Ok, Err}
 use Rattle.std.proofs.Math.Path.{refl, sym}
 use Rattle.std.proofs.Common.{ap, ◌∙◌}
-use Rattle.numbers.specs.declared.Answer.{Answer}
-use Rattle.numbers.specs.declared.Answer.TheVariants.{Accepted, Refused}
+use Rattle.numbers.specs.Meaning.{Answer}
 use Rattle.numbers.specs.declared.Side.{Side}
 use Rattle.numbers.specs.declared.Side.TheVariants.{Cpu, Dma}
 use Rattle.numbers.specs.declared.SideOperation.{SideOperation}
@@ -31,24 +30,24 @@ module _ (t : Tables) (memory : List ℕ) where
   -- ---- what changes is one part
   known_arm : (a : Answer) (known : ℕ) → carried_out (decided t a (with_known t known) quiet) memory ≡ stepped a (with_known t (kept a t.known known)) memory
   unfolding decided apply cleared_pages
-  known_arm (Accepted dropped word) known = refl
-  known_arm (Refused refusal index) known = refl
+  known_arm (Ok ok) known = refl
+  known_arm (Err err) known = refl
 
   pairs_arm : (a : Answer) (pairs : List ℕ) → carried_out (decided t a (with_pairs t pairs) quiet) memory ≡ stepped a (with_pairs t (kept a t.pairs pairs)) memory
   unfolding decided apply cleared_pages
-  pairs_arm (Accepted dropped word) pairs = refl
-  pairs_arm (Refused refusal index) pairs = refl
+  pairs_arm (Ok ok) pairs = refl
+  pairs_arm (Err err) pairs = refl
 
   -- pages that move, with nothing cleared
   move_arm : (a : Answer) (sets : List ℕ) → carried_out (decided t a (with_sets t sets) quiet) memory ≡ stepped a (with_sets t (kept a t.sets sets)) memory
   unfolding decided apply cleared_pages
-  move_arm (Accepted dropped word) sets = refl
-  move_arm (Refused refusal index) sets = refl
+  move_arm (Ok ok) sets = refl
+  move_arm (Err err) sets = refl
 
   sets_arm : (a : Answer) (sets pages : List ℕ) → carried_out (decided t a (with_sets t sets) (clears pages)) memory ≡ stepped a (with_sets t (kept a t.sets sets)) (apply (kept a quiet (clears pages)) memory)
   unfolding decided
-  sets_arm (Accepted dropped word) sets pages = refl
-  sets_arm (Refused refusal index) sets pages = refl
+  sets_arm (Ok ok) sets pages = refl
+  sets_arm (Err err) sets pages = refl
 
   -- every list, with pages cleared
   abbrev kept_maps : Answer → Route → Route → Route
@@ -60,8 +59,8 @@ module _ (t : Tables) (memory : List ℕ) where
       (replaced t (kept a t.known new.known) (kept a t.sets new.sets) (kept a t.pairs new.pairs) (kept_maps a t.cpu new.cpu) (kept_maps a t.dma new.dma))
       (apply (kept a quiet (clears pages)) memory)
   unfolding decided
-  retire_arm (Accepted dropped word) vm pages = refl
-  retire_arm (Refused refusal index) vm pages = refl
+  retire_arm (Ok ok) vm pages = refl
+  retire_arm (Err err) vm pages = refl
 
   -- one side's route and the page sets, by what a step over that side leaves
   abbrev sight_of : Side → Sight
@@ -74,10 +73,10 @@ module _ (t : Tables) (memory : List ℕ) where
       (side : Side) (a : Answer) (r : Route) (sets : List ℕ) (effect : Effect) →
       carried_out (decided t a (with_side side t r sets) effect) memory ≡ joined side (side_decided (sight_of side) a sets r effect)
   unfolding decided
-  side_arm Cpu (Accepted dropped word) r sets effect = refl
-  side_arm Cpu (Refused refusal index) r sets effect = refl
-  side_arm Dma (Accepted dropped word) r sets effect = refl
-  side_arm Dma (Refused refusal index) r sets effect = refl
+  side_arm Cpu (Ok ok) r sets effect = refl
+  side_arm Cpu (Err err) r sets effect = refl
+  side_arm Dma (Ok ok) r sets effect = refl
+  side_arm Dma (Err err) r sets effect = refl
 
   side_step_lem :
       (side : Side) (operation : SideOperation) →

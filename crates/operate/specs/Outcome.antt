@@ -1,6 +1,6 @@
 -- An answer, a header and the lists behind the lent slices, as a step of the model has them.
 use Rattle.std.specs.Prelude.{ℕ, List}
-use Rattle.numbers.specs.declared.Answer.{Answer}
+use Rattle.numbers.specs.Meaning.{Answer}
 use Rattle.model.specs.Header.{state_of}
 use Rattle.model.specs.Step.{Stepped}
 use Rattle.model.specs.declared.Machine.{Machine}

@@ -2,7 +2,7 @@
 -- deed asks, `Done` what it does, `Left` what the operation leaves: its answer, and each list new or as it was.
 use Rattle.std.specs.Prelude.{ℕ, ◌+◌, ◌*◌, ◌≤◌, ◌<◌, List, ◌≡◌, length}
 use Rattle.numbers.specs.Limits.{VMS, ACCESSES, GUEST_PAGES, PAGES, SETS, SET_WORDS, PAGE_WORDS}
-use Rattle.numbers.specs.declared.Answer.{Answer}
+use Rattle.numbers.specs.Meaning.{Answer}
 use Rattle.numbers.specs.declared.Region.{Region}
 use Rattle.numbers.specs.declared.Side.{Side}
 use Rattle.table.specs.Scan.{count}

@@ -7,8 +7,7 @@ use Rattle.std.proofs.Common.{sym, ◌∙◌, get_or-take, length-take-le}
 use Rattle.std.proofs.Math.Numerals.{add-one}
 use native.Mathlib.Omega.{arith}
 use Rattle.numbers.specs.Limits.{PAGES}
-use Rattle.numbers.specs.declared.Answer.{Answer}
-use Rattle.numbers.specs.declared.Answer.TheVariants.{Accepted}
+use Rattle.numbers.specs.Meaning.{Answer, accept}
 use Rattle.numbers.specs.declared.Region.{Region}
 use Rattle.numbers.specs.declared.Side.{Side}
 use Rattle.numbers.specs.declared.Side.TheVariants.{Cpu, Dma}
@@ -26,14 +25,14 @@ region_placed h r = record { vm_ok = r.vm_ok; access_ok = r.access_ok; guest_ok 
 
 module _ (side : Side) (known pages : ℕ) (unit : Bool) where
   pub insert_ready : (sets map : List ℕ) (region : Region) {told : Answer} {dropped word : ℕ} → Sized pages sets →
-      told ≡ insert_answer side known pages unit sets map region → told ≡ Accepted dropped word → InsertReady sets region
+      told ≡ insert_answer side known pages unit sets map region → told ≡ accept dropped word → InsertReady sets region
   unfolding insert_answer
   insert_ready sets map region s e a =
       let (d, w, early, rest) = then_passed (region_early known pages region) _ (sym e ∙ a) in
       record { placed = region_placed s.few_pages (region_passed known pages region early); sets_length = s.sets_length }
 
   pub remove_ready : (sets pairs map memory : List ℕ) (region : Region) {told : Answer} {dropped word : ℕ} → RemoveSized pages sets memory →
-      told ≡ remove_may side known pages unit sets pairs map region → told ≡ Accepted dropped word → RemoveReady sets memory region
+      told ≡ remove_may side known pages unit sets pairs map region → told ≡ accept dropped word → RemoveReady sets memory region
   unfolding remove_may
   remove_ready sets pairs map memory region s e a =
       let (d, w, early, rest) = then_passed (region_early known pages region) _ (sym e ∙ a) in

@@ -2,7 +2,7 @@
 -- the operation leaves: its answer, and each list new or as it was.
 use Rattle.std.specs.Prelude.{ℕ, ◌*◌, ◌≤◌, ◌<◌, List, ◌≡◌, length}
 use Rattle.numbers.specs.Limits.{VMS, PAGES, PAGE_WORDS, SETS, SET_WORDS}
-use Rattle.numbers.specs.declared.Answer.{Answer}
+use Rattle.numbers.specs.Meaning.{Answer}
 use Rattle.numbers.specs.declared.Side.{Side}
 use Rattle.numbers.specs.declared.Side.TheVariants.{Cpu, Dma}
 use Rattle.table.specs.Scan.{count}

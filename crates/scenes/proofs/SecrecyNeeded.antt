@@ -11,9 +11,8 @@ use native.Mathlib.Omega.{arith}
 use lib.Dec.{eqb, lit<}
 use lib.ListN.{length, get_or, replicate, length-set, length-replicate}
 use Rattle.numbers.specs.Limits.{PAGE_WORDS, WRITE}
-use Rattle.numbers.specs.declared.Answer.{Answer}
-use Rattle.numbers.specs.declared.Answer.TheVariants.{Accepted, Refused}
-use Rattle.numbers.specs.Meaning.{operation_number}
+use Rattle.numbers.specs.Meaning.{Answer, accept, operation_number}
+use Rattle.std.specs.Prelude.{Ok, Err}
 use Rattle.numbers.specs.declared.Operation.{Operation}
 use Rattle.numbers.specs.declared.Side.TheVariants.{Cpu}
 use Rattle.model.specs.State.{Tables, State}
@@ -64,7 +63,7 @@ pub with_all : Statement (λ s s'. Valid s × AlikeOne s s') All
 with_all s s' (v, like) rows rows' count given = secrecy_one 1 (beginning s []) (beginning s' []) rows rows' count v like given
 
 -- two answers to a read that are not the same
-unequal : (a b : ℕ) → (a ≡ b → ⊥) → Accepted 0 a ≡ Accepted 0 b → ⊥
+unequal : (a b : ℕ) → (a ≡ b → ⊥) → accept 0 a ≡ accept 0 b → ⊥
 unequal a b n e = n (cc)
 
 -- ---- without `Valid`: a device of VM 2 reads VM 1's value by a slot that was left
@@ -162,8 +161,8 @@ size_needed all =
 
 -- ---- without `shape`: a barrier in one run, "add VM 3" in the other, and then "add VM 3" in both
 quiet_kept : (x : Answer) → kept x quiet quiet ≡ quiet
-quiet_kept (Accepted dropped word) = refl
-quiet_kept (Refused refusal index) = refl
+quiet_kept (Ok ok) = refl
+quiet_kept (Err err) = refl
 
 -- they are near, whatever the tables, and no two values of one operation
 pub barrier_near : (members : ℕ → Bool) (Secret : Tables → ℕ → Type 0) (t : Tables) → Near members Secret t (effect_in t (operation_in barrier)) (effect_in t (operation_in add_third))

@@ -12,8 +12,7 @@ use borrow.Author.Tests.{ltb-true}
 use Rattle.numbers.specs.CaseLaws.{none_some}
 use Rattle.numbers.specs.Limits.{VMS, PAGE_WORDS, WRITE, IDLE}
 use Rattle.numbers.specs.Packing.{entry, slot_word, map_word, filled_of}
-use Rattle.numbers.specs.declared.Answer.{Answer}
-use Rattle.numbers.specs.declared.Answer.TheVariants.{Refused}
+use Rattle.numbers.specs.Meaning.{Answer, refuse}
 use Rattle.numbers.specs.declared.Refusal.TheVariants.{VmUnknown}
 use Rattle.numbers.specs.declared.Operation.TheVariants as op
 use Rattle.numbers.specs.declared.SideOperation.TheVariants as sided
@@ -463,7 +462,7 @@ late_tables : (value : ℕ) → (after (late_rows value) 2 begun).state.tables �
 late_tables value =
     ((secrecy_one 1 begun begun (late_rows value) (late_rows 0) 2 begun_valid (itself (eqb 1) (PrivateTo 1) begun.state) (asked_early value 0)).states 2 (omega arith)).tables
 
-refused_late : answer_in (after (late_rows 0) 2 begun).state.tables (operation_in (5 ∷ 1 ∷ 3 ∷ 1 ∷ 0 ∷ 0 ∷ 0 ∷ 0 ∷ [])) ≡ Refused VmUnknown 0
+refused_late : answer_in (after (late_rows 0) 2 begun).state.tables (operation_in (5 ∷ 1 ∷ 3 ∷ 1 ∷ 0 ∷ 0 ∷ 0 ∷ 0 ∷ [])) ≡ refuse VmUnknown 0
 unfolding computes
 refused_late = refl
 

@@ -2,7 +2,7 @@
 use Rattle.std.specs.Prelude.{ℕ, ◌*◌, ◌/◌, ◌%◌, not, List, eqb, leb}
 use Rattle.std.specs.Prelude.{if◌then◌else◌}
 use Rattle.numbers.specs.Limits.{ROW_NUMBERS, ANSWER_NUMBERS}
-use Rattle.numbers.specs.declared.Answer.{Answer}
+use Rattle.numbers.specs.Meaning.{Answer}
 use Rattle.numbers.specs.declared.Refusal.TheVariants.{OutOfRange}
 use Rattle.model.specs.Effect.{accepted, refused}
 use Rattle.model.specs.Header.{state_of}

@@ -5,14 +5,12 @@ use Rattle.std.proofs.Math.Path.{sym}
 use Rattle.std.proofs.Common.{ap, ◌∙◌, leb-true}
 use Rattle.std.proofs.lemmas.Bool.{not-false}
 use Rattle.numbers.specs.Limits.{ROW_NUMBERS, ANSWER_NUMBERS}
-use Rattle.numbers.specs.Meaning.{answer_numbers}
+use Rattle.numbers.specs.Meaning.{answer_numbers, Answer, accept, refuse}
 use Rattle.numbers.specs.declared.Operation.{Operation}
 use Rattle.table.specs.Loops.{Repeating, repeat_start, repeat_next, repeat_end}
 use Rattle.model.specs.State.{State, Tables, Route}
 use Rattle.model.specs.declared.Fixed.{Fixed}
 use Rattle.operate.specs.Fit.{Fit}
-use Rattle.numbers.specs.declared.Answer.{Answer}
-use Rattle.numbers.specs.declared.Answer.TheVariants.{Accepted, Refused}
 use Rattle.numbers.specs.declared.Refusal.{Refusal}
 use Rattle.numbers.specs.declared.Refusal.TheVariants.{OutOfRange}
 use Rattle.model.specs.Effect.{refused}
@@ -112,19 +110,19 @@ fit_kept fixed sets memory sets' memory' f l n =
     record { sized = record { few_pages = s.few_pages; sets_length = l ∙ s.sets_length; memory_length = n ∙ s.memory_length }; few_units = f.few_units }
 
 -- ---- the whole sequence, from what its shape said
-pub shape_room : (rows room : ℕ) (a : Answer) {dropped word : ℕ} → a ≡ shape_of rows room → a ≡ Accepted dropped word → rows / ROW_NUMBERS * ANSWER_NUMBERS ≤ room
+pub shape_room : (rows room : ℕ) (a : Answer) {dropped word : ℕ} → a ≡ shape_of rows room → a ≡ accept dropped word → rows / ROW_NUMBERS * ANSWER_NUMBERS ≤ room
 shape_room rows room a e f =
     let b = past (not (eqb (rows % ROW_NUMBERS) 0)) _ _ _ (sym e ∙ f) in
     let c = past (not (leb (rows / ROW_NUMBERS * ANSWER_NUMBERS) room)) _ _ _ b.1 in
     leb-true _ _ (not-false _ c.0)
 
 module _ (s : State) (rows room : List ℕ) (a : Answer) (e : a ≡ shape_of (length rows) (length room)) where
-  pub sequence_refused_lem : {refusal : Refusal} {index : ℕ} → a ≡ Refused refusal index → ran (Refused refusal index) (record { state = s; room = room }) ≡ sequence s rows room
+  pub sequence_refused_lem : {refusal : Refusal} {index : ℕ} → a ≡ refuse refusal index → ran (refuse refusal index) (record { state = s; room = room }) ≡ sequence s rows room
   unfolding sequence shape_answer
-  sequence_refused_lem {refusal} {index} f = let g : shape_of (length rows) (length room) ≡ Refused refusal index = sym e ∙ f in rw g
+  sequence_refused_lem {refusal} {index} f = let g : shape_of (length rows) (length room) ≡ refuse refusal index = sym e ∙ f in rw g
 
-  pub sequence_done : {dropped word : ℕ} (p : Progress) → a ≡ Accepted dropped word → p ≡ after rows (length rows / ROW_NUMBERS) (record { state = s; room = room }) → ran a p ≡ sequence s rows room
+  pub sequence_done : {dropped word : ℕ} (p : Progress) → a ≡ accept dropped word → p ≡ after rows (length rows / ROW_NUMBERS) (record { state = s; room = room }) → ran a p ≡ sequence s rows room
   unfolding sequence shape_answer
   sequence_done {dropped} {word} p f g =
-      let h : shape_of (length rows) (length room) ≡ Accepted dropped word = sym e ∙ f in
+      let h : shape_of (length rows) (length room) ≡ accept dropped word = sym e ∙ f in
       rw (f, h, g)

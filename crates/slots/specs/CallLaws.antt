@@ -1,5 +1,5 @@
 -- What a search answers, and how the calls over words are those over slots.
-use Rattle.std.specs.Prelude.{ℕ, zero, suc, ◌+◌, ◌^◌, ◌<◌, ◌≤◌, Bool, false, ◌&&◌, List, map, ◌≡◌, refl, eqb, ltb, length, get_or, set}
+use Rattle.std.specs.Prelude.{ℕ, zero, suc, ◌+◌, ◌^◌, ◌<◌, ◌≤◌, Bool, false, ◌&&◌, List, map, ◌≡◌, refl, eqb, ltb, length, get_or, set, Some, None}
 use Rattle.std.proofs.Math.Bool.{true}
 use Rattle.std.proofs.Common.{true≢false, ◌∙◌, length-set, get_or-set_same, get_or-set_other, ext_get_or, ltb-true, eqb-true}
 use Rattle.std.proofs.Math.Logic.{⊎_elim}
@@ -20,7 +20,6 @@ use Rattle.numbers.specs.CaseLaws.{cases, equal}
 use Rattle.table.specs.ScanLaws.{lowest_within, lowest_found, lowest_none}
 use Rattle.table.specs.Table.{find}
 use Rattle.table.specs.TableLaws.{find_at, find_none}
-use Rattle.table.specs.declared.Found.TheVariants.{At, Nothing}
 use Rattle.pages.specs.BitLaws.{below_or}
 use Rattle.model.specs.EarlyLaws.{both}
 use Rattle.model.specs.Views.{is_vm, is_guest, is_access, is_generation, is_port, is_slot, is_page}
@@ -144,14 +143,14 @@ module _ (ws : List ℕ) (port vm guest : ℕ) where
         }
 
     module _ (n : length ws ≡ SLOTS) where
-      pub key_found : (i : ℕ) → find key_of ws (slot_key port vm guest) ≡ At i → i ≡ find_slot (map slot_of ws) port vm guest
+      pub key_found : (i : ℕ) → find key_of ws (slot_key port vm guest) ≡ Some i → i ≡ find_slot (map slot_of ws) port vm guest
       key_found i e =
           let f = find_at key_of ws (slot_key port vm guest) i e in
           searched_find (map slot_of ws) port vm guest i
           (lowest_held (omega (arith, f.within)) (key_holds i f.within (eqb-true _ _ f.passes))
           (λ k l h. eqb-false _ _ (f.before k l) (holds_key k h)))
 
-      pub key_nowhere : find key_of ws (slot_key port vm guest) ≡ Nothing → SLOTS ≡ find_slot (map slot_of ws) port vm guest
+      pub key_nowhere : find key_of ws (slot_key port vm guest) ≡ None → SLOTS ≡ find_slot (map slot_of ws) port vm guest
       key_nowhere e =
           searched_find (map slot_of ws) port vm guest SLOTS
           (none_held refl (λ k l h. find_none key_of ws (slot_key port vm guest) e k (omega arith) (holds_key k h)))

@@ -1,7 +1,7 @@
 -- The model's records of what start is told, is lent and leaves, and the two headers that it gives.
 use Rattle.std.specs.Prelude.{ℕ, List, length, replicate}
 use Rattle.numbers.specs.Limits.{PORTS, UNITS, IDLE}
-use Rattle.numbers.specs.declared.Answer.{Answer}
+use Rattle.numbers.specs.Meaning.{Answer}
 use Rattle.units.specs.Units.{no_unit}
 use Rattle.model.specs.Header.{state_of}
 use Rattle.model.specs.Start.{Told, Lent, Started, count_told, units_told}

@@ -5,8 +5,7 @@ use Rattle.std.proofs.Math.Path.{ap}
 use Rattle.std.proofs.lemmas.List.{length-replicate, get_or-replicate}
 use Rattle.numbers.specs.CaseLaws.{cases, equal}
 use Rattle.std.specs.Prelude.{if◌then◌else◌}
-use Rattle.numbers.specs.declared.Answer.{Answer}
-use Rattle.numbers.specs.declared.Answer.TheVariants.{Accepted, Refused}
+use Rattle.numbers.specs.Meaning.{Answer, accept, refuse}
 use Rattle.numbers.specs.declared.Refusal.{Refusal}
 use Rattle.table.specs.Loops.{Sweeping, sweep_next}
 use Rattle.table.specs.Scan.{repeat}
@@ -91,8 +90,8 @@ anew_fresh t l answer p =
 
 module _ (t : Told) (l : Lent) (answer : Answer) (m : Machine) (e : answer ≡ start_answer t l) where
   -- refused, with what was lent as it was
-  pub start_refused_lem : (refusal : Refusal) (index : ℕ) → answer ≡ Refused refusal index → m ≡ empty_header →
-      began (Refused refusal index) m l.sets l.pairs l.cpu_map l.cpu_walker l.cpu_cache l.dma_map l.dma_walker l.dma_cache l.memory ≡ start t l
+  pub start_refused_lem : (refusal : Refusal) (index : ℕ) → answer ≡ refuse refusal index → m ≡ empty_header →
+      began (refuse refusal index) m l.sets l.pairs l.cpu_map l.cpu_walker l.cpu_cache l.dma_map l.dma_walker l.dma_cache l.memory ≡ start t l
   unfolding start empty_state
   start_refused_lem refusal index q h = rw (h, ← e, q)
 
@@ -109,10 +108,10 @@ module _ (t : Told) (l : Lent) (answer : Answer) (m : Machine) (e : answer ≡ s
     pub dma_cache_is : dma_cache ≡ zeros l.dma_cache
     pub memory_is : memory ≡ zeros l.memory
 
-  pub start_accepted : (sets pairs cpu_map cpu_walker cpu_cache dma_map dma_walker dma_cache memory : List ℕ) (dropped word : ℕ) → answer ≡ Accepted dropped word →
+  pub start_accepted : (sets pairs cpu_map cpu_walker cpu_cache dma_map dma_walker dma_cache memory : List ℕ) (dropped word : ℕ) → answer ≡ accept dropped word →
       Fresh sets pairs cpu_map cpu_walker cpu_cache dma_map dma_walker dma_cache memory → began answer m sets pairs cpu_map cpu_walker cpu_cache dma_map dma_walker dma_cache memory ≡ start t l
   unfolding start
   start_accepted sets pairs cpu_map cpu_walker cpu_cache dma_map dma_walker dma_cache memory dropped word q f =
-      let left : began answer m sets pairs cpu_map cpu_walker cpu_cache dma_map dma_walker dma_cache memory ≡ anew t l (Accepted dropped word) =
+      let left : began answer m sets pairs cpu_map cpu_walker cpu_cache dma_map dma_walker dma_cache memory ≡ anew t l (accept dropped word) =
       λ i. began (q i) (f.header_is i) (f.sets_are i) (f.pairs_are i) (f.cpu_map_is i) (f.cpu_walker_is i) (f.cpu_cache_is i) (f.dma_map_is i) (f.dma_walker_is i) (f.dma_cache_is i) (f.memory_is i) in
-      left ∙ (anew_fresh t l (Accepted dropped word) (start_passed t l (sym e ∙ q)) ∙ ap (λ (a : Answer). record { answer = a; state = kept a (empty_state l) (fresh_state t) }) (sym q ∙ e))
+      left ∙ (anew_fresh t l (accept dropped word) (start_passed t l (sym e ∙ q)) ∙ ap (λ (a : Answer). record { answer = a; state = kept a (empty_state l) (fresh_state t) }) (sym q ∙ e))

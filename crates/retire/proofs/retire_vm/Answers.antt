@@ -3,8 +3,7 @@ use Prim.Native.Nat.{ℕ, ◌<◌}
 use mathlib.Core.List.{List}
 use mathlib.Core.Path.{◌≡◌, refl, sym, ◌∙◌}
 use Rattle.numbers.specs.Limits.{VMS}
-use Rattle.numbers.specs.declared.Answer.{Answer}
-use Rattle.numbers.specs.declared.Answer.TheVariants.{Accepted}
+use Rattle.numbers.specs.Meaning.{Answer, accept}
 use Rattle.model.specs.EarlyLaws.{vm_passed, then_passed}
 use Rattle.model.specs.Effect.{apply, cleared_pages}
 use Rattle.model.specs.Ledger.{vm_early}
@@ -13,7 +12,7 @@ use Rattle.retire.proofs.retire_vm.Goals as goal
 
 -- a VM that may be retired is in range
 in-range : (known : ℕ) (cpus devices : List ℕ) (vm : ℕ) {told : Answer} {dropped word : ℕ} →
-    told ≡ retire_may known cpus devices vm → told ≡ Accepted dropped word → vm < VMS
+    told ≡ retire_may known cpus devices vm → told ≡ accept dropped word → vm < VMS
 unfolding retire_may
 in-range known cpus devices vm e a =
     let (d, w, early, rest) = then_passed (vm_early known vm) _ (sym e ∙ a) in
@@ -21,7 +20,7 @@ in-range known cpus devices vm e a =
 
 pub returns-in-Refused : goal.returns-in-Refused
 unfolding retire_answer apply cleared_pages
-returns-in-Refused c =
+returns-in-refuse c =
     rw (← c.retire_may-may.ensures, c.in-Refused.is) (record {
       answer = refl;
       known = refl;
