@@ -1,11 +1,12 @@
 -- Units: what region operations may name (docs/MACHINE.md, 5).
-use Rattle.std.specs.Prelude.{ℕ, Bool, true, false, ◌&&◌, List, eqb, ltb, get_or}
+use Rattle.std.specs.Prelude.{ℕ, Bool, true, false, ◌&&◌, List, eqb, ltb, get_or, Result, Ok, Err, ◌≡◌}
 use Rattle.std.specs.Prelude.{if◌then◌else◌}
 use Rattle.numbers.specs.declared.Side.{Side}
 use Rattle.numbers.specs.declared.Side.TheVariants as side
 use Rattle.table.specs.Scan.{any_below}
 use Rattle.units.specs.declared.Mark.{Mark}
 use Rattle.units.specs.declared.Mark.TheVariants.{Cpu, Dma, Both}
+use Rattle.units.specs.declared.NoMark.{NoMark}
 use Rattle.units.specs.declared.Unit.{Unit}
 use Rattle.numbers.specs.declared.Region.{Region}
 
@@ -20,6 +21,10 @@ is_mark n = ltb 0 n && ltb n 4
 
 abbrev pub mark_of : ℕ → Mark
 mark_of n = if eqb n 2 then Dma else if eqb n 3 then Both else Cpu
+
+-- what reading a number as a mark gives
+abbrev pub Marks : ℕ → Result Mark NoMark → Type 0
+Marks n mark = mark ≡ (if is_mark n then Ok (mark_of n) else Err (record { 0 = n }))
 
 abbrev pub suits : Mark → Side → Bool
 suits Both s = true
