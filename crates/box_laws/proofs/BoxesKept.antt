@@ -2,12 +2,11 @@
 -- equal. Said for caches of any form whose words can be read again.
 use Prim.Native.Nat.{ℕ, zero, suc}
 use mathlib.Core.List.{List}
-use mathlib.Core.Option.{Option, none, some}
+use Rattle.std.specs.Prelude.{Option, None, Some, Ok, Err}
 use mathlib.Core.Path.{◌≡◌, refl, sym, ap, ◌∙◌, subst}
 use lib.ListN.{length-replicate}
 use Rattle.numbers.specs.Limits.{PORTS, UNITS, IDLE}
 use Rattle.numbers.specs.Meaning.{Answer, refuse}
-use Rattle.std.specs.Prelude.{Ok, Err}
 use Rattle.numbers.specs.declared.Operation.{Operation}
 use Rattle.numbers.specs.declared.Refusal.{Refusal}
 use Rattle.units.specs.Units.{no_unit}
@@ -37,8 +36,8 @@ determined (unmet n e) (unmet n' e') = e ∙ sym e'
 
 -- ---- what start fixed stays
 known_setup : (s : State) (o : Option Operation) → (step_known s o).state.tables.setup ≡ s.tables.setup
-known_setup s none = refl
-known_setup s (some operation) = (step_sizes s operation).tables.setup
+known_setup s None = refl
+known_setup s (Some operation) = (step_sizes s operation).tables.setup
 
 pub row_setup : (s : State) (row : List ℕ) → (step_row s row).state.tables.setup ≡ s.tables.setup
 unfolding step_row

@@ -4,7 +4,7 @@ use Prim.Native.Nat.{ℕ, ◌+◌, ◌<◌}
 use mathlib.Core.Bool.{Bool, true, false, not, ◌&&◌, true≢false}
 use mathlib.Core.List.{List, [], ◌∷◌}
 use mathlib.Core.Logic.{⊎_elim}
-use mathlib.Core.Option.{Option, none, some}
+use Rattle.std.specs.Prelude.{Option, None, Some, Ok, Err}
 use mathlib.Core.Path.{◌≡◌, refl, sym, ◌∙◌}
 use native.Mathlib.Omega.{arith}
 use lib.Dec.{eqb, ltb}
@@ -13,7 +13,6 @@ use borrow.Author.Tests.{ltb-true, ltb-false, eqb-true}
 use Rattle.numbers.specs.CaseLaws.{cases}
 use Rattle.std.specs.Prelude.{if◌then◌else◌}
 use Rattle.numbers.specs.Meaning.{refusal_number, answer_numbers, number_of, Answer, accept, refuse}
-use Rattle.std.specs.Prelude.{Ok, Err}
 use Rattle.numbers.specs.declared.Refusal.{Refusal}
 use Rattle.numbers.specs.declared.Refusal.TheVariants.{StateNotValid}
 use Rattle.numbers.specs.declared.Operation.{Operation}
@@ -225,16 +224,16 @@ record Known (n count : ℕ) (s : State) (o : Option Operation) : Type 0 where
   fits : Fits n count (step_known s o).answer
 
 module _ {n count : ℕ} {s : State} where
-  unknown : is_in bare n ≡ false → Known n count s none
+  unknown : is_in bare n ≡ false → Known n count s None
   unknown b = record { fits = plain (two_listed n b) }
 
   -- the operation of a number, else the operations of those that follow
   numbered : (k : ℕ) (operation : Operation) (rest : Option Operation) → Told k count (control s.tables operation) → (eqb n k ≡ false → Known n count s rest) →
-      Known n count s (if eqb n k then some operation else rest)
+      Known n count s (if eqb n k then Some operation else rest)
   unfolding step
   numbered k operation rest h others = which (eqb n k) refl
     where
-      which : (t : Bool) → eqb n k ≡ t → Known n count s (if t then some operation else rest)
+      which : (t : Bool) → eqb n k ≡ t → Known n count s (if t then Some operation else rest)
       which true e = record { fits = rw (eqb-true n k e) (h.fits s.memory) }
       which false e = others e
 

@@ -3,7 +3,7 @@
 use Prim.Native.Nat.{ℕ, ◌+◌, ◌*◌, ◌<◌}
 use mathlib.Core.List.{List}
 use mathlib.Core.Logic.{◌↔◌}
-use mathlib.Core.Option.{Option, none, some}
+use Rattle.std.specs.Prelude.{Option, None, Some, Ok, Err}
 use mathlib.Core.Path.{◌≡◌, refl, sym, ◌∙◌}
 use native.Mathlib.Omega.{arith}
 use lib.ListN.{get_or}
@@ -12,7 +12,6 @@ use Rattle.numbers.specs.DecidesLaws.{always, says_yes, says_no}
 use Rattle.numbers.specs.Limits.{READ, WRITE, ANSWER_NUMBERS}
 use Rattle.numbers.specs.Meaning.{number_of, Answer}
 use Rattle.numbers.specs.MeaningLaws.{refusal_above}
-use Rattle.std.specs.Prelude.{Ok, Err}
 use Rattle.numbers.specs.declared.Side.{Side}
 use Rattle.numbers.specs.declared.SideOperation.{SideOperation}
 use Rattle.numbers.specs.declared.SideOperation.TheVariants as sided
@@ -79,8 +78,8 @@ unfolding step_row step
 row_exactly s v row = which (operation_in row) refl
   where
     which : (found : Option Operation) → operation_in row ≡ found → (number_of (step_known s found).answer ≡ 0) ↔ RowConditions s.tables row
-    which none e = (λ z. absurd (omega (arith, z)), λ c. absurd (let z : ◌≡◌ {A = ℕ} 0 1 = cc (e, c.named) in omega arith))
-    which (some operation) e =
+    which None e = (λ z. absurd (omega (arith, z)), λ c. absurd (let z : ◌≡◌ {A = ℕ} 0 1 = cc (e, c.named) in omega arith))
+    which (Some operation) e =
         let c = control s.tables operation in
         let same = word_accepts c.effect s.memory c.answer in
         let number = zero_accepts (carried_out c s.memory).answer in

@@ -1,13 +1,12 @@
 -- Every step owes what `Good` says, and every state on the way of a sequence is valid.
 use Prim.Native.Nat.{ℕ, ◌<◌}
 use mathlib.Core.List.{List}
-use mathlib.Core.Option.{Option, none, some}
+use Rattle.std.specs.Prelude.{Option, None, Some, Ok, Err}
 use mathlib.Core.Path.{◌≡◌, ◌∙◌}
 use native.Mathlib.Omega.{arith}
 use lib.ListN.{length}
 use Rattle.numbers.specs.Limits.{PAGE_WORDS}
 use Rattle.numbers.specs.Meaning.{Answer, accept}
-use Rattle.std.specs.Prelude.{Ok, Err}
 use Rattle.numbers.specs.declared.Operation.{Operation}
 use Rattle.numbers.specs.declared.Operation.TheVariants as op
 use Rattle.numbers.specs.declared.Side.{Side}
@@ -71,8 +70,8 @@ unfolding step_row
 row_valid s v row = go (operation_in row)
   where
     go : (found : Option Operation) → Valid (step_known s found).state
-    go none = v
-    go (some operation) = step_valid s v operation
+    go None = v
+    go (Some operation) = step_valid s v operation
 
 -- ---- every word of a page that an operation reads or writes is one of the memory's
 pub touched_inside : (s : State) → Valid s → (operation : Operation) (bit vm page word : ℕ) → Touches bit (control s.tables operation).effect vm page → word < PAGE_WORDS →

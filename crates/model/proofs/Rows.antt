@@ -1,12 +1,11 @@
 -- A row of an operation's number and arguments is decoded to that operation.
 use mathlib.Core.Bool.{false}
 use mathlib.Core.List.{◌∷◌}
-use mathlib.Core.Option.{some}
+use Rattle.std.specs.Prelude.{Some, Option, None}
 use mathlib.Core.Path.{◌≡◌, refl}
 use lib.Dec.{eqb}
 use Rattle.numbers.specs.Limits.{IDLE}
 use Rattle.numbers.specs.Meaning.{target_number, side_number, operation_number, side_arguments, operation_arguments}
-use Rattle.std.specs.Prelude.{Option, None, Some}
 use Rattle.numbers.specs.declared.VmId.{VmId}
 use Rattle.numbers.specs.declared.Operation.{Operation}
 use Rattle.numbers.specs.declared.Operation.TheVariants as op
@@ -48,7 +47,7 @@ target_back : (target : Option VmId) → Writable target → target_of (target_n
 target_back None w = refl
 target_back (Some vm) w = rw w
 
-side_back : (side : Side) (operation : SideOperation) → SideWritable operation → operation_in (side_number side operation ∷ side_arguments operation) ≡ some (op.On side operation)
+side_back : (side : Side) (operation : SideOperation) → SideWritable operation → operation_in (side_number side operation ∷ side_arguments operation) ≡ Some (op.On side operation)
 unfolding operation_in
 side_back Cpu (sided.MapPage vm guest page access generation) w = refl
 side_back Cpu (sided.UnmapPage vm guest) w = refl
@@ -69,7 +68,7 @@ side_back Dma (sided.EmptySlot slot) w = refl
 side_back Dma (sided.ReadWord port guest word) w = refl
 side_back Dma (sided.WriteWord port guest word value) w = refl
 
-pub row_back : (operation : Operation) → RowWritable operation → operation_in (operation_number operation ∷ operation_arguments operation) ≡ some operation
+pub row_back : (operation : Operation) → RowWritable operation → operation_in (operation_number operation ∷ operation_arguments operation) ≡ Some operation
 unfolding operation_in
 row_back (op.AddVm vm) w = refl
 row_back (op.RemoveVm vm) w = refl

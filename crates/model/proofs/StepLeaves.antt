@@ -1,6 +1,5 @@
 -- A refused operation, and a refused row, leave the state as it was: control installs nothing where it refuses.
-use Rattle.std.specs.Prelude.{ℕ, List, [], ◌∷◌, ◌≡◌, refl, Ok, Err}
-use Rattle.std.proofs.Math.Option.{Option, none, some}
+use Rattle.std.specs.Prelude.{ℕ, List, [], ◌∷◌, ◌≡◌, refl, Ok, Err, Option, None, Some}
 use Rattle.numbers.specs.Meaning.{Answer, accept}
 use Rattle.numbers.specs.declared.Operation.{Operation}
 use Rattle.model.specs.Effect.{Effect, kept, quiet, decided, apply, cleared_pages, reads, writes, clears}
@@ -41,8 +40,8 @@ step_leaves s operation =
     carried_leaves s (control s.tables operation).answer (control s.tables operation).tables (control s.tables operation).effect l.tables l.effect
 
 known_leaves : (s : State) (o : Option Operation) → KeptBy s (step_known s o)
-known_leaves s none = refl
-known_leaves s (some operation) = step_leaves s operation
+known_leaves s None = refl
+known_leaves s (Some operation) = step_leaves s operation
 
 pub row_leaves : (s : State) (row : List ℕ) → KeptBy s (step_row s row)
 unfolding step_row

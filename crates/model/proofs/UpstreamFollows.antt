@@ -1,10 +1,9 @@
 -- A view is equal to itself; a refused operation takes no step; and which edits of our tables a view does not see.
 use Prim.Native.Nat.{ℕ}
 use mathlib.Core.List.{List, [], ◌∷◌}
-use mathlib.Core.Option.{Option}
+use Rattle.std.specs.Prelude.{Option, Ok, Err}
 use mathlib.Core.Path.{◌≡◌, refl}
 use Rattle.numbers.specs.Meaning.{Answer, accept}
-use Rattle.std.specs.Prelude.{Ok, Err}
 use Rattle.numbers.specs.declared.Operation.{Operation}
 use Rattle.model.specs.State.{Tables, Setup, State}
 use Rattle.model.specs.Effect.{Effect, decided, apply, cleared_pages}

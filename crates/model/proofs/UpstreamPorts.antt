@@ -3,7 +3,7 @@ use Prim.Native.Nat.{ℕ, ◌<◌}
 use mathlib.Core.Bool.{true, not, ◌&&◌}
 use mathlib.Core.List.{List, [], ◌∷◌}
 use mathlib.Core.Logic.{◌⊎◌, inl, inr, ⊎_elim}
-use mathlib.Core.Option.{Option, none, some}
+use Rattle.std.specs.Prelude.{Option, None, Some}
 use mathlib.Core.Path.{◌≡◌, refl, sym, ap, ◌∙◌}
 use native.Mathlib.Omega.{arith}
 use lib.ListN.{length, get_or, set, length-set}
@@ -17,7 +17,6 @@ use Rattle.numbers.specs.PackingLaws.{word_entry, word_filled, word_key, key_fil
 use Rattle.numbers.specs.Meaning.{accept}
 use Rattle.numbers.specs.declared.GuestPage.{GuestPage}
 use Rattle.numbers.specs.declared.Operation.TheVariants as op
-use Rattle.std.specs.Prelude.{Option, None, Some}
 use Rattle.numbers.specs.declared.VmId.{VmId}
 use Rattle.numbers.specs.declared.Side.{Side}
 use Rattle.numbers.specs.declared.Side.TheVariants.{Cpu, Dma}
@@ -86,14 +85,14 @@ at_slot cache cache' port vm gpa answer v g here there c u q c' u' q' =
 module _ (walker cache : List ℕ) (good : CacheGood walker cache) where
   -- emptied
   forget_seen : (i : ℕ) → i < length cache → (get_or cache i 0 ≡ 0 → ⊥) →
-      SameTlb (tlb_seen (set cache i 0)) (tlb_at (tlb_seen cache) (port_of (get_or cache i 0)) (vm_of (get_or cache i 0)) (guest_of (get_or cache i 0)) none)
+      SameTlb (tlb_seen (set cache i 0)) (tlb_at (tlb_seen cache) (port_of (get_or cache i 0)) (vm_of (get_or cache i 0)) (guest_of (get_or cache i 0)) None)
   unfolding seen
   forget_seen i h n =
       let w = get_or cache i 0 in
       let f : filled_of w ≡ 1 = (good.each w (record { spot = i; within = h; holds = refl; filled = n })).filled in
       let k : key_of w ≡ slot_key (port_of w) (vm_of w) (guest_of w) = key_parts w f in
       let o = key_filled w f in
-      at_slot cache (set cache i 0) (port_of w) (vm_of w) (guest_of w) none (omega arith) (omega arith)
+      at_slot cache (set cache i 0) (port_of w) (vm_of w) (guest_of w) None (omega arith) (omega arith)
       (rw (← k, emptied_same cache i good.once h o))
       (λ other p d. emptied_other cache i good.once h o other p (λ q. d (sym k ∙ q)))
 
@@ -112,13 +111,13 @@ fill_seen walker cache port vm gpa i c v g walks made at =
 
 -- ---- steps of a side's cache
 module _ (side : Side) (t : Tables) (memory : List ℕ) (r : Route) where
-  forget_step : (cache : List ℕ) (hand w : ℕ) → SameTlb (tlb_seen cache) (tlb_at (tlb_seen r.cache) (port_of w) (vm_of w) (guest_of w) none) →
+  forget_step : (cache : List ℕ) (hand w : ℕ) → SameTlb (tlb_seen cache) (tlb_at (tlb_seen r.cache) (port_of w) (vm_of w) (guest_of w) None) →
       HardwareStep (forget_call side w) (shown side t memory r) (shown side t memory (with_cache r cache hand))
   forget_step cache hand w e =
       rw (walk_of_lem side t memory r, tlb_of_lem side t memory r)
       (route_hardware side t memory r (with_cache r cache hand) _ _ refl (λ vm gpa v g. refl) e)
 
-active_is : (ports : List ℕ) (port : ℕ) → vm_on ports port < VMS → active_seen ports port ≡ some (vm_on ports port)
+active_is : (ports : List ℕ) (port : ℕ) → vm_on ports port < VMS → active_seen ports port ≡ Some (vm_on ports port)
 unfolding active_seen
 active_is ports port v = rw (lt-ltb (vm_on ports port) VMS v)
 
@@ -184,24 +183,24 @@ module _ (side : Side) (t : Tables) (memory : List ℕ) (r : Route) (good : Cach
 -- ---- an emptied slot
 empty_run : (side : Side) (t : Tables) (memory : List ℕ) (r : Route) (slot : ℕ) → CacheGood r.walker r.cache → slot < length r.cache →
     HardwareRun (empty_calls side r slot) (shown side t memory r) (shown side t memory (with_cache r (empty_cache r.cache slot) r.hand))
-empty_run side t memory r slot good h = ⊎_elim none some (equal (get_or r.cache slot 0) 0)
+empty_run side t memory r slot good h = ⊎_elim None Some (equal (get_or r.cache slot 0) 0)
   where
     goal : Type 0
     goal = HardwareRun (empty_calls side r slot) (shown side t memory r) (shown side t memory (with_cache r (empty_cache r.cache slot) r.hand))
 
-    none : get_or r.cache slot 0 ≡ 0 → goal
-    none z =
+    None : get_or r.cache slot 0 ≡ 0 → goal
+    None z =
         let same : set r.cache slot 0 ≡ r.cache = rw z at (set-get_or r.cache slot 0) in
         rw (eq-eqb (get_or r.cache slot 0) 0 z, same) (stop (same_hardware _))
 
-    some : (get_or r.cache slot 0 ≡ 0 → ⊥) → goal
-    some n =
+    Some : (get_or r.cache slot 0 ≡ 0 → ⊥) → goal
+    Some n =
         rw (ne_eqb (get_or r.cache slot 0) 0 n)
         (hardware_once (forget_step side t memory r (set r.cache slot 0) r.hand _ (forget_seen r.walker r.cache good slot h n)))
 
 -- ---- a CPU switched
 active_set : (ports : List ℕ) (port n : ℕ) → port < length ports → (cpu : ℕ) →
-    active_seen (set ports port n) cpu ≡ answer_at (active_seen ports) port (if is_idle n then none else some n) cpu
+    active_seen (set ports port n) cpu ≡ answer_at (active_seen ports) port (if is_idle n then None else Some n) cpu
 unfolding active_seen
 active_set ports port n h cpu =
     ⊎_elim (λ q. rw (eq-eqb cpu port q) (rw (q, get_or-set_same ports port n IDLE h))) (λ d. rw (ne_eqb cpu port d, get_or-set_other ports port cpu n IDLE d)) (equal cpu port)

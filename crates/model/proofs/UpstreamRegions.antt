@@ -3,7 +3,7 @@ use Prim.Native.Nat.{ℕ, zero, suc, ◌+◌, ◌≤◌, ◌<◌}
 use mathlib.Core.Bool.{Bool, true, false, not, ◌||◌, true≢false}
 use mathlib.Core.List.{List, ◌++◌}
 use mathlib.Core.Logic.{⊎_elim}
-use mathlib.Core.Option.{some}
+use Rattle.std.specs.Prelude.{Some}
 use mathlib.Core.Path.{◌≡◌, refl, sym, ap, ◌∙◌}
 use native.Mathlib.Omega.{arith}
 use borrow.Author.Tests.{not-false, eqb-true, eq-eqb, ne_eqb}
@@ -214,7 +214,7 @@ module _ (t : Tables) (valid : ValidTables t) (region : Region) (early : RegionP
   -- no other key targets one of its pages
   no_others : (side : Side) (table : List ℕ) → MapGood side t.setup.pages t.known t.sets t.pairs table →
       ((k : ℕ) → k < region.count → targeted (but_key (key_in region k)) table (page_in region k) ≡ false) →
-      (vm gpa : ℕ) (e : S2Entry) → vm < VMS → gpa < GUEST_PAGES → map_seen table vm gpa ≡ some e → is_some (entries_of region vm gpa) ≡ false → pages_of region e.page ≡ false
+      (vm gpa : ℕ) (e : S2Entry) → vm < VMS → gpa < GUEST_PAGES → map_seen table vm gpa ≡ Some e → is_some (entries_of region vm gpa) ≡ false → pages_of region e.page ≡ false
   no_others side table good unused vm gpa e v g q f = not_so _ (λ x. let (k, h, i) = page_place region e.page x in clash k h i)
     where
       w : ℕ

@@ -4,7 +4,7 @@ use Prim.Native.Nat.{ℕ, ◌<◌}
 use mathlib.Core.Bool.{Bool, true, false, not, ◌&&◌, ◌||◌, true≢false, and-false, or_comm}
 use mathlib.Core.List.{List, [], ◌∷◌, ◌++◌, append_assoc}
 use mathlib.Core.Logic.{⊎_elim}
-use mathlib.Core.Option.{none}
+use Rattle.std.specs.Prelude.{None}
 use mathlib.Core.Path.{◌≡◌, refl, sym, ap, ◌∙◌}
 use native.Mathlib.Omega.{arith}
 use lib.Dec.{eqb}
@@ -58,11 +58,11 @@ module _ (t : Tables) (valid : ValidTables t) (vm : ℕ) where
 
   -- so what a key shows stays unless it is onto one, and where there is no word there is no entry
   onto_word : (side : Side) (w : ℕ) → ((w ≡ 0 → ⊥) → page_of w < PAGES) →
-      (if onto_its side t.sets vm w then none else seen w) ≡ unless_onto side (software_view t) vm (seen w)
+      (if onto_its side t.sets vm w then None else seen w) ≡ unless_onto side (software_view t) vm (seen w)
   unfolding seen
   onto_word side w below = ⊎_elim empty (λ n. rw (seen_is w n, onto_seen side w (below n))) (equal w 0)
     where
-      empty : w ≡ 0 → (if onto_its side t.sets vm w then none else seen w) ≡ unless_onto side (software_view t) vm (seen w)
+      empty : w ≡ 0 → (if onto_its side t.sets vm w then None else seen w) ≡ unless_onto side (software_view t) vm (seen w)
       empty z = rw z (⊎_elim (λ y. rw y) (λ n. rw n) (cases (onto_its side t.sets vm 0)))
 
   map-left : (side : Side) (v gpa : ℕ) → v < VMS → gpa < GUEST_PAGES →

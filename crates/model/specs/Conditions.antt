@@ -2,7 +2,6 @@
 -- show (who is known, owns, holds, shares, maps) and in no order of checks.
 use Prim.{Unit as Anything}
 use Rattle.std.specs.Prelude.{ℕ, ◌+◌, ◌/◌, ◌%◌, ◌≤◌, ◌<◌, Bool, true, false, List, ◌⊎◌, ◌≡◌, get_or, Ok, Err, Option, None, Some}
-use Rattle.std.proofs.Math.Option.{some}
 use Rattle.numbers.specs.Limits.{VMS, GUEST_PAGES, PAGE_WORDS, PAGES, PORTS, SLOTS, ACCESSES, GENERATIONS, READ, WRITE, IDLE}
 use Rattle.numbers.specs.Packing.{vm_of, guest_of, page_of, access_of, generation_of, left_of, right_of}
 use Rattle.numbers.specs.Meaning.{Answer}
@@ -266,5 +265,5 @@ Conditions t (op.RetireVm vm) = Retires t vm.0
 -- ---- a row: it names an operation, and the operation's conditions hold
 pub record RowConditions (t : Tables) (row : List ℕ) : Type 0 where
   pub operation : Operation
-  pub named : operation_in row ≡ some operation
+  pub named : operation_in row ≡ Some operation
   pub conditions : Conditions t operation

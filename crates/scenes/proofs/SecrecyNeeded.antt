@@ -5,14 +5,13 @@ use Prim.Native.Nat.{ℕ, zero, suc, ◌*◌, ◌<◌}
 use mathlib.Core.Bool.{Bool, true, true≢false}
 use mathlib.Core.List.{List, [], ◌∷◌}
 use mathlib.Core.Logic.{inl, inr}
-use mathlib.Core.Option.{Option, none, some}
+use Rattle.std.specs.Prelude.{Option, None, Some, Ok, Err}
 use mathlib.Core.Path.{◌≡◌, refl, sym, ap, ◌∙◌}
 use native.Mathlib.Omega.{arith}
 use lib.Dec.{eqb, lit<}
 use lib.ListN.{length, get_or, replicate, length-set, length-replicate}
 use Rattle.numbers.specs.Limits.{PAGE_WORDS, WRITE}
 use Rattle.numbers.specs.Meaning.{Answer, accept, operation_number}
-use Rattle.std.specs.Prelude.{Ok, Err}
 use Rattle.numbers.specs.declared.Operation.{Operation}
 use Rattle.numbers.specs.declared.Side.TheVariants.{Cpu}
 use Rattle.model.specs.State.{Tables, State}
@@ -171,8 +170,8 @@ barrier_near members Secret t = rw (quiet_kept (add_vm_answer t.known 3)) alike
 
 -- the number of a row's operation
 abbrev number_in : Option Operation → ℕ
-number_in none = 0
-number_in (some operation) = operation_number operation
+number_in None = 0
+number_in (Some operation) = operation_number operation
 
 pub barrier_unlike : without_value_in (operation_in barrier) ≡ without_value_in (operation_in add_third) → ⊥
 unfolding operation_in
@@ -250,8 +249,8 @@ module _ (t : Tables) (v : ValidTables t) where
   own_effect r (stores {vm = vm} near) = stores (own_stores vm (λ page o. (r WRITE vm page (refl, refl, o)).may) near)
 
   reached : (found : Option Operation) (bit vm page : ℕ) → Touches bit (effect_in t found) vm page → Reaches bit t vm page
-  reached none bit vm page z = absurd z
-  reached (some operation) bit vm page z = (good t v operation).reach bit vm page z
+  reached None bit vm page z = absurd z
+  reached (Some operation) bit vm page z = (good t v operation).reach bit vm page z
 
 pub writer_follows : Statement (λ s s'. Valid s × AlikeOne s s') (λ s s' r r'. (without_value_in (operation_in r) ≡ without_value_in (operation_in r')) × NearBy (λ who. true) s r r' × SharesEqual (eqb 1) s.tables (operation_in r) s.memory s'.memory)
 writer_follows s s' (v, like) rows rows' count given = with_all s s' (v, like) rows rows' count asked

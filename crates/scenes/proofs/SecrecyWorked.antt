@@ -3,7 +3,7 @@
 use Prim.Native.Nat.{ℕ, zero, suc, ◌*◌, ◌<◌}
 use mathlib.Core.Bool.{Bool, true, false}
 use mathlib.Core.List.{List, [], ◌∷◌, map}
-use mathlib.Core.Option.{Option, none, some}
+use Rattle.std.specs.Prelude.{Option, None, Some}
 use mathlib.Core.Path.{◌≡◌, refl, sym, ap, ◌∙◌}
 use native.Mathlib.Omega.{arith}
 use lib.Dec.{eqb, ltb, lit<}
@@ -303,7 +303,7 @@ write_row Cpu port guest word value = 23 ∷ port ∷ guest ∷ word ∷ value �
 write_row Dma port guest word value = 24 ∷ port ∷ guest ∷ word ∷ value ∷ 0 ∷ 0 ∷ 0 ∷ []
 
 -- a row that shares nothing
-pub no_share : (members : ℕ → Bool) (a b : State) (ns : List ℕ) → sharing_in (operation_in ns) ≡ none → SharesEqual members a.tables (operation_in ns) a.memory b.memory
+pub no_share : (members : ℕ → Bool) (a b : State) (ns : List ℕ) → sharing_in (operation_in ns) ≡ None → SharesEqual members a.tables (operation_in ns) a.memory b.memory
 no_share members a b ns n left right page word e = absurd (none_some (sym n ∙ e.share))
 
 -- a member on the port may write the word, and it lies in this page
@@ -325,7 +325,7 @@ itself members Secret s = record { tables = refl; size = refl; words = λ page w
 
 module _ (members : ℕ → Bool) (Secret : Tables → ℕ → Type 0) where
   -- of a row that is the same in both runs and shares nothing, nothing is asked
-  pub asked_same : (a b : State) (ns : List ℕ) → sharing_in (operation_in ns) ≡ none → Asked members Secret a b ns ns
+  pub asked_same : (a b : State) (ns : List ℕ) → sharing_in (operation_in ns) ≡ None → Asked members Secret a b ns ns
   asked_same a b ns n = record { differ = record { shape = refl; near = alike }; shares_equal = no_share members a b ns n }
 
   -- two values that a member writes to a private page, by CPU or by DMA
@@ -346,7 +346,7 @@ module _ (members : ℕ → Bool) (Secret : Tables → ℕ → Type 0) where
   asked_write side s s' port guest word page a b w private =
       record { differ = differ_write side s.tables port guest word page a b w private; shares_equal = no_share members s s' (write_row side port guest word a) (unlike side) }
     where
-      unlike : (which : Side) → sharing_in (operation_in (write_row which port guest word a)) ≡ none
+      unlike : (which : Side) → sharing_in (operation_in (write_row which port guest word a)) ≡ None
       unlike Cpu = refl
       unlike Dma = refl
 
@@ -440,8 +440,8 @@ private_late = private_to 1 1 begun.state.tables (λ w l. (begun_valid.tables.pa
 
 -- the page that is shared
 abbrev page_shared : Option Sharing → ℕ
-page_shared none = 0
-page_shared (some shared) = shared.page
+page_shared None = 0
+page_shared (Some shared) = shared.page
 
 -- of page 0 the write changes no word
 stays_late : (value word : ℕ) → word < PAGE_WORDS → word_in (step_row begun.state (write_row Cpu 0 17 0 value)).state.memory 0 word ≡ word_in begun.state.memory 0 word

@@ -1,6 +1,5 @@
 -- What holds after some rows of a sequence: where it stands, and that no list has changed its length.
-use Rattle.std.specs.Prelude.{ℕ, ◌+◌, ◌*◌, ◌/◌, ◌%◌, ◌≤◌, ◌<◌, not, List, ◌≡◌, refl, eqb, leb, length}
-use Rattle.std.proofs.Math.Option.{Option, none, some}
+use Rattle.std.specs.Prelude.{ℕ, ◌+◌, ◌*◌, ◌/◌, ◌%◌, ◌≤◌, ◌<◌, not, List, ◌≡◌, refl, eqb, leb, length, Option, None, Some}
 use Rattle.std.proofs.Math.Path.{sym}
 use Rattle.std.proofs.Common.{ap, ◌∙◌, leb-true}
 use Rattle.std.proofs.lemmas.Bool.{not-false}
@@ -46,8 +45,8 @@ same_sizes s =
     }
 
 pub row_sizes : (s : State) (o : Option Operation) → SameSizes s (step_known s o).state
-row_sizes s none = same_sizes s
-row_sizes s (some operation) = step_sizes s operation
+row_sizes s None = same_sizes s
+row_sizes s (Some operation) = step_sizes s operation
 
 turn_sizes : (rows : List ℕ) (k : ℕ) (p : Progress) → SameSizes p.state (turn rows k p).state
 unfolding step_row
@@ -82,13 +81,13 @@ module _ (rows : List ℕ) (n : ℕ) (start : Progress) where
 pub row_done : (s : State) (row : List ℕ) (d : Decoded) (operation : Operation) (r : Stepped) → known d ≡ operation_in row → d ≡ Known operation → r ≡ step s operation → r ≡ step_row s row
 unfolding step_row
 row_done s row d operation r e f g =
-    let o : operation_in row ≡ some operation = sym e ∙ ap known f in
+    let o : operation_in row ≡ Some operation = sym e ∙ ap known f in
     rw (o, g)
 
 pub row_unknown : (s : State) (row : List ℕ) (d : Decoded) → known d ≡ operation_in row → d ≡ Unknown → record { answer = refused OutOfRange; state = s } ≡ step_row s row
 unfolding step_row
 row_unknown s row d e f =
-    let o : operation_in row ≡ none = sym e ∙ ap known f in
+    let o : operation_in row ≡ None = sym e ∙ ap known f in
     rw o
 
 pub turn_done :
