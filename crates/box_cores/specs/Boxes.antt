@@ -1,8 +1,7 @@
 -- A box: a machine header as numbers, and all that is lent with it (docs/MACHINE.md, 13). A cache is of one form or another: words
 -- in the cores, slot records at the entries.
 use Rattle.std.specs.Prelude.{ℕ, List}
-use Rattle.model.specs.Header.{state_of}
-use Rattle.model.specs.Start.{Lent}
+use Rattle.model.specs.Header.{state_of, Lists}
 use Rattle.model.specs.State.{State}
 use Rattle.model.specs.Valid.{Valid}
 use Rattle.box_header.specs.Numbers.{machine_of, HeaderGood, changed, begun}
@@ -41,7 +40,7 @@ with_header b header = box header b.sets b.pairs b.cpu_map b.cpu_walker b.cpu_ca
 abbrev pub state_in : {C : Type 0} → (C → List ℕ) → Box C → State
 state_in words_of b = state_of (machine_of b.header) b.sets b.pairs b.cpu_map b.cpu_walker (words_of b.cpu_cache) b.dma_map b.dma_walker (words_of b.dma_cache) b.memory
 
-abbrev pub lent_in : {C : Type 0} → (C → List ℕ) → Box C → Lent
+abbrev pub lent_in : {C : Type 0} → (C → List ℕ) → Box C → Lists
 lent_in words_of b =
     record {
       sets = b.sets;

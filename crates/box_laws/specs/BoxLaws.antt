@@ -12,7 +12,8 @@ use Rattle.numbers.specs.MeaningLaws.{refusal_above}
 use Rattle.numbers.specs.CaseLaws.{cases}
 use Rattle.model.specs.Effect.{kept}
 use Rattle.model.specs.Sequence.{step_row, sequence}
-use Rattle.model.specs.Start.{Told, Lent, lengths_good, start_answer, empty_state, start, free, free_refused}
+use Rattle.model.specs.Start.{Told, lengths_good, start_answer, empty_state, start, free, free_refused}
+use Rattle.model.specs.Header.{Lists}
 use Rattle.model.specs.State.{State}
 use Rattle.model.specs.ToldLaws.{LengthsPassed, lengths_passed}
 use Rattle.box_header.specs.Numbers.{changed, begun}
@@ -144,7 +145,7 @@ module _ (header sets pairs cpu_map cpu_walker : List ℕ) (cpuSlots : List Slot
           → Judgement (HeaderWhole header) (start_gives words slots_of of_slots told) (start_refused of_slots) (start_given number left_slots)
       start_slots told (all_there h w e) =
           let q = start told (lent_in same of_words) in
-          met h (began _ _ _ e (stored_kept w q.answer (begun header q.state.tables) (begun header q.state.tables) q.state) ∙ ap (λ (l : Lent). started_by slots_of of_slots (start told l)) (same_lent w))
+          met h (began _ _ _ e (stored_kept w q.answer (begun header q.state.tables) (begun header q.state.tables) q.state) ∙ ap (λ (l : Lists). started_by slots_of of_slots (start told l)) (same_lent w))
       start_slots told (not_whole h n e) =
           met h (began _ _ _ e (stored_unjudged (begun header (empty_state (lent_in same of_words)).tables)) ∙ sym (refused_short told n))
       start_slots told (no_header n e) = unmet n (began _ _ _ e (stored_unjudged header))

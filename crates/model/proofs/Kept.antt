@@ -15,7 +15,8 @@ use Rattle.numbers.specs.declared.SideOperation.TheVariants as sided
 use Rattle.model.specs.State.{Tables, State}
 use Rattle.model.specs.Effect.{accepted, kept, memory_index}
 use Rattle.model.specs.Step.{answer_of, control, step}
-use Rattle.model.specs.Start.{Told, Lent, start_answer, start}
+use Rattle.model.specs.Start.{Told, start_answer, start}
+use Rattle.model.specs.Header.{Lists}
 use Rattle.model.specs.Sequence.{operation_in, step_known, step_row, Progress, beginning, turn, after, row_count, shape_answer, sequence, row_at}
 use Rattle.model.proofs.StepShape.{step_sizes}
 use Rattle.model.specs.Valid.{ValidTables, Valid}
@@ -95,5 +96,5 @@ sequence_valid s v rows room = go (shape_answer rows room)
     go (Err err) = v
 
 -- ---- so the machine never leaves the valid states: after a start that was accepted, however many rows follow
-pub started_valid : (told : Told) (lent : Lent) → start_answer told lent ≡ accepted → (rows room : List ℕ) (k : ℕ) → Valid (after rows k (beginning (start told lent).state room)).state
+pub started_valid : (told : Told) (lent : Lists) → start_answer told lent ≡ accepted → (rows room : List ℕ) (k : ℕ) → Valid (after rows k (beginning (start told lent).state room)).state
 started_valid told lent e rows room k = after_valid rows k (beginning (start told lent).state room) (start_valid told lent e)

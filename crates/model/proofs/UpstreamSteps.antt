@@ -13,7 +13,8 @@ use Rattle.model.specs.State.{State}
 use Rattle.model.specs.Step.{answer_of, next_of, effect_of, control, step}
 use Rattle.model.specs.Valid.{Valid}
 use Rattle.model.specs.Effect.{accepted}
-use Rattle.model.specs.Start.{Told, Lent, start_answer, start}
+use Rattle.model.specs.Start.{Told, start_answer, start}
+use Rattle.model.specs.Header.{Lists}
 use Rattle.model.specs.Sequence.{beginning, after}
 use Rattle.model.specs.Upstream.{WellFormed}
 use Rattle.model.specs.UpstreamRun.{dsb, isb, software_calls, hardware_calls, FollowsUpstream}
@@ -62,5 +63,5 @@ follows_upstream s v operation =
     (λ dropped word e. accepted_follows s v operation e)
 
 -- ---- upstream's wf holds of every state that the machine comes to: after an accepted start, and however many rows follow
-pub reached_well_formed : (told : Told) (lent : Lent) → start_answer told lent ≡ accepted → (rows room : List ℕ) (k : ℕ) → WellFormed (after rows k (beginning (start told lent).state room)).state
+pub reached_well_formed : (told : Told) (lent : Lists) → start_answer told lent ≡ accepted → (rows room : List ℕ) (k : ℕ) → WellFormed (after rows k (beginning (start told lent).state room)).state
 reached_well_formed told lent e rows room k = well_formed _ (started_valid told lent e rows room k).tables

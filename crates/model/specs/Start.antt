@@ -12,20 +12,9 @@ use Rattle.units.specs.Units.{is_mark, mark_of, no_unit}
 use Rattle.units.specs.declared.Unit.{Unit}
 use Rattle.numbers.specs.declared.Region.{Region}
 use Rattle.model.specs.State.{Tables, Route, Setup, State}
+use Rattle.model.specs.Header.{Lists}
 use Rattle.model.specs.Views.{is_vm, is_access}
 use Rattle.model.specs.Effect.{accepted, refused, kept}
-
--- what start is lent
-pub record Lent : Type 0 where
-  pub sets : List ℕ
-  pub pairs : List ℕ
-  pub cpu_map : List ℕ
-  pub cpu_walker : List ℕ
-  pub cpu_cache : List ℕ
-  pub dma_map : List ℕ
-  pub dma_walker : List ℕ
-  pub dma_cache : List ℕ
-  pub memory : List ℕ
 
 -- what start is told: pages, the shared span, and six numbers for each unit
 pub record Told : Type 0 where
@@ -74,7 +63,7 @@ abbrev pub bad_span : ℕ → List ℕ → ℕ → Bool
 bad_span pages numbers k = not (region_span (unit_region (unit_told numbers k)) pages)
 
 -- ---- lengths
-abbrev pub lengths_good : Told → Lent → Bool
+abbrev pub lengths_good : Told → Lists → Bool
 lengths_good told lent =
     eqb (length lent.memory) (PAGE_WORDS * told.pages)
     && eqb (length lent.sets) (SETS * SET_WORDS)
@@ -88,7 +77,7 @@ lengths_good told lent =
     && eqb (length told.units % UNIT_NUMBERS) 0
 
 -- ---- the refusals, in order: every field is judged before any span
-unfoldable pub start_answer : Told → Lent → Answer
+unfoldable pub start_answer : Told → Lists → Answer
 start_answer told lent =
     if not (lengths_good told lent && ltb 0 told.pages && leb told.pages PAGES) then refused StateNotValid
     else if not (leb (count_told told.units) UNITS) then refused OutOfRange
@@ -135,7 +124,7 @@ empty_setup = record { pages = 0; shared_base = 0; shared_count = 0; units = rep
 abbrev pub empty_route : List ℕ → List ℕ → List ℕ → Route
 empty_route map walker cache = record { map = map; walker = walker; cache = cache; hand = 0; ports = replicate PORTS IDLE }
 
-unfoldable pub empty_state : Lent → State
+unfoldable pub empty_state : Lists → State
 empty_state lent =
     record {
       tables =
@@ -154,7 +143,7 @@ pub record Started : Type 0 where
   pub answer : Answer
   pub state : State
 
-unfoldable pub start : Told → Lent → Started
+unfoldable pub start : Told → Lists → Started
 start told lent = record { answer = start_answer told lent; state = kept (start_answer told lent) (empty_state lent) (fresh_state told) }
 
 -- ---- the free query: of a valid state, and of one that is not

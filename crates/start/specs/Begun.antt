@@ -3,8 +3,8 @@ use Rattle.std.specs.Prelude.{ℕ, List, length, replicate}
 use Rattle.numbers.specs.Limits.{PORTS, UNITS, IDLE}
 use Rattle.numbers.specs.Meaning.{Answer}
 use Rattle.units.specs.Units.{no_unit}
-use Rattle.model.specs.Header.{state_of}
-use Rattle.model.specs.Start.{Told, Lent, Started, count_told, units_told}
+use Rattle.model.specs.Header.{state_of, Lists}
+use Rattle.model.specs.Start.{Told, Started, count_told, units_told}
 use Rattle.model.specs.declared.SideRegisters.{SideRegisters}
 use Rattle.model.specs.declared.Registers.{Registers}
 use Rattle.model.specs.declared.Machine.{Machine}
@@ -12,7 +12,7 @@ use Rattle.model.specs.declared.Machine.{Machine}
 abbrev pub told : ℕ → ℕ → ℕ → List ℕ → Told
 told pages shared_base shared_count units = record { pages = pages; shared_base = shared_base; shared_count = shared_count; units = units }
 
-abbrev pub lent : List ℕ → List ℕ → List ℕ → List ℕ → List ℕ → List ℕ → List ℕ → List ℕ → List ℕ → Lent
+abbrev pub lent : List ℕ → List ℕ → List ℕ → List ℕ → List ℕ → List ℕ → List ℕ → List ℕ → List ℕ → Lists
 lent sets pairs cpu_map cpu_walker cpu_cache dma_map dma_walker dma_cache memory =
     record {
       sets = sets;

@@ -14,7 +14,8 @@ use Rattle.pages.specs.RowLaws.{length-add}
 use Rattle.units.specs.Units.{no_unit}
 use Rattle.units.specs.declared.Unit.{Unit}
 use Rattle.model.specs.Effect.{kept}
-use Rattle.model.specs.Start.{Told, Lent, count_told, unit_told, units_from, start_answer, in_span, first_home, Started, fresh_state, empty_state, start}
+use Rattle.model.specs.Start.{Told, count_told, unit_told, units_from, start_answer, in_span, first_home, Started, fresh_state, empty_state, start}
+use Rattle.model.specs.Header.{Lists}
 use Rattle.model.specs.ToldLaws.{StartPassed, start_passed, up_to, length-units, unit_at}
 use Rattle.model.specs.declared.Machine.{Machine}
 use Rattle.start.specs.Begun.{began, zeros, fresh_header, empty_header}
@@ -74,12 +75,12 @@ home_next base count n ws now next i r h e =
 
 -- ---- the machine of each header
 -- the answer, with the fresh header, every page at home, and all else zeros
-abbrev anew : Told → Lent → Answer → Started
+abbrev anew : Told → Lists → Answer → Started
 anew t l answer =
     began answer (fresh_header t) (repeat (first_home t.shared_base t.shared_count) 0 t.pages (zeros l.sets)) (zeros l.pairs) (zeros l.cpu_map) (zeros l.cpu_walker) (zeros l.cpu_cache) (zeros l.dma_map) (zeros l.dma_walker) (zeros l.dma_cache) (zeros l.memory)
 
 -- that is the fresh state where the lengths are right
-anew_fresh : (t : Told) (l : Lent) (answer : Answer) → StartPassed t l → anew t l answer ≡ record { answer = answer; state = fresh_state t }
+anew_fresh : (t : Told) (l : Lists) (answer : Answer) → StartPassed t l → anew t l answer ≡ record { answer = answer; state = fresh_state t }
 unfolding fresh_state
 anew_fresh t l answer p =
     let k = p.lengths in
@@ -88,7 +89,7 @@ anew_fresh t l answer p =
     (replicate (k.cpu_map i) 0) (replicate (k.cpu_walker i) 0) (replicate (k.cpu_cache i) 0) (replicate (k.dma_map i) 0) (replicate (k.dma_walker i) 0)
     (replicate (k.dma_cache i) 0) (replicate (k.memory i) 0)
 
-module _ (t : Told) (l : Lent) (answer : Answer) (m : Machine) (e : answer ≡ start_answer t l) where
+module _ (t : Told) (l : Lists) (answer : Answer) (m : Machine) (e : answer ≡ start_answer t l) where
   -- refused, with what was lent as it was
   pub start_refused_lem : (refusal : Refusal) (index : ℕ) → answer ≡ refuse refusal index → m ≡ empty_header →
       began (refuse refusal index) m l.sets l.pairs l.cpu_map l.cpu_walker l.cpu_cache l.dma_map l.dma_walker l.dma_cache l.memory ≡ start t l
