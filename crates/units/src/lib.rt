@@ -102,9 +102,9 @@ pub fn is_unit(unit: Unit, side: Side, region: Region) -> bool
     ensures { result ≡ is_unit side region unit }
 {
     suits(unit.mark, side)
-        & (unit.vm.0 == region.vm.0)
-        & (unit.guest.0 == region.guest.0)
-        & (unit.page.0 == region.page.0)
+        & (unit.vm == region.vm)
+        & (unit.guest == region.guest)
+        & (unit.page == region.page)
         & (unit.count == region.count)
         & (unit.access == region.access)
 }
