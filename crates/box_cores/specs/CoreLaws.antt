@@ -104,7 +104,7 @@ RowReady cpuSlots dmaSlots b row room = (Ready cpuSlots dmaSlots b × (length ro
 
 -- the state of a box by the machine that was read from its header
 abbrev under : Box (List ℕ) → Machine → State
-under b m = state_of m b.sets b.pairs b.cpu_map b.cpu_walker b.cpu_cache b.dma_map b.dma_walker b.dma_cache b.memory
+under b m = state_of m (lent_in same b)
 
 -- what is asked of an operation, beside validity, is what was tested
 pub row_asked : {cpuSlots dmaSlots : ℕ} {b : Box (List ℕ)} {row room : List ℕ} → Whole cpuSlots dmaSlots × OperationAsked same b row room → RowReady cpuSlots dmaSlots b row room
