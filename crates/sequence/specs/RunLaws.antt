@@ -14,9 +14,6 @@ use Rattle.numbers.specs.declared.Refusal.{Refusal}
 use Rattle.numbers.specs.declared.Refusal.TheVariants.{OutOfRange}
 use Rattle.model.specs.Effect.{refused}
 use Rattle.model.specs.Step.{Stepped, step}
-use Rattle.rows.specs.Decoded.{known}
-use Rattle.rows.specs.declared.Decoded.{Decoded}
-use Rattle.rows.specs.declared.Decoded.TheVariants.{Known, Unknown}
 use Rattle.model.specs.Sequence.{Progress, turn, after, step_row, step_known, operation_in, row_at, recorded, shape_answer, sequence}
 use Rattle.model.specs.WriteLaws.{length-written}
 use Rattle.model.specs.EarlyLaws.{past}
@@ -78,27 +75,27 @@ module _ (rows : List ℕ) (n : ℕ) (start : Progress) where
   run_end now k r h = repeat_end (turn rows) n start now k r.steps h
 
 -- ---- one row, from what decoding it and carrying it out gave
-pub row_done : (s : State) (row : List ℕ) (d : Decoded) (operation : Operation) (r : Stepped) → known d ≡ operation_in row → d ≡ Known operation → r ≡ step s operation → r ≡ step_row s row
+pub row_done : (s : State) (row : List ℕ) (decoded : Option Operation) (operation : Operation) (r : Stepped) → decoded ≡ operation_in row → decoded ≡ Some operation → r ≡ step s operation → r ≡ step_row s row
 unfolding step_row
-row_done s row d operation r e f g =
-    let o : operation_in row ≡ Some operation = sym e ∙ ap known f in
+row_done s row decoded operation r e f g =
+    let o : operation_in row ≡ Some operation = sym e ∙ f in
     rw (o, g)
 
-pub row_unknown : (s : State) (row : List ℕ) (d : Decoded) → known d ≡ operation_in row → d ≡ Unknown → record { answer = refused OutOfRange; state = s } ≡ step_row s row
+pub row_unknown : (s : State) (row : List ℕ) (decoded : Option Operation) → decoded ≡ operation_in row → decoded ≡ None → record { answer = refused OutOfRange; state = s } ≡ step_row s row
 unfolding step_row
-row_unknown s row d e f =
-    let o : operation_in row ≡ None = sym e ∙ ap known f in
+row_unknown s row decoded e f =
+    let o : operation_in row ≡ None = sym e ∙ f in
     rw o
 
 pub turn_done :
-    (rows : List ℕ) (k : ℕ) (p : Progress) (d : Decoded) (operation : Operation) (r : Stepped) →
-    known d ≡ operation_in (row_at rows k) → d ≡ Known operation → r ≡ step p.state operation → recorded r k p.room ≡ turn rows k p
-turn_done rows k p d operation r e f g = ap (λ (x : Stepped). recorded x k p.room) (row_done p.state (row_at rows k) d operation r e f g)
+    (rows : List ℕ) (k : ℕ) (p : Progress) (decoded : Option Operation) (operation : Operation) (r : Stepped) →
+    decoded ≡ operation_in (row_at rows k) → decoded ≡ Some operation → r ≡ step p.state operation → recorded r k p.room ≡ turn rows k p
+turn_done rows k p decoded operation r e f g = ap (λ (x : Stepped). recorded x k p.room) (row_done p.state (row_at rows k) decoded operation r e f g)
 
 pub turn_unknown :
-    (rows : List ℕ) (k : ℕ) (p : Progress) (d : Decoded) →
-    known d ≡ operation_in (row_at rows k) → d ≡ Unknown → recorded (record { answer = refused OutOfRange; state = p.state }) k p.room ≡ turn rows k p
-turn_unknown rows k p d e f = ap (λ (x : Stepped). recorded x k p.room) (row_unknown p.state (row_at rows k) d e f)
+    (rows : List ℕ) (k : ℕ) (p : Progress) (decoded : Option Operation) →
+    decoded ≡ operation_in (row_at rows k) → decoded ≡ None → recorded (record { answer = refused OutOfRange; state = p.state }) k p.room ≡ turn rows k p
+turn_unknown rows k p decoded e f = ap (λ (x : Stepped). recorded x k p.room) (row_unknown p.state (row_at rows k) decoded e f)
 
 -- ---- what the joined operation asks for still holds
 pub fit_kept :
