@@ -23,15 +23,8 @@ fn below(n: u64, k: u64) -> u64
     requires { k < SET_WORDS }
     ensures { result ≡ below_word n k }
 {
-    let from = k * 64;
-    if n <= from {
-        return 0;
-    }
-    let count = n - from;
-    if count >= 64 {
-        return !0;
-    }
-    (1 << count) - 1
+    let count = n.saturating_sub(k * 64);
+    if count < 64 { (1 << count) - 1 } else { !0 }
 }
 
 // A VM's pages for CPU have no other home and those for DMA no other holder, each of these is its own CPU page or in the
@@ -57,16 +50,14 @@ fn homes_good(sets: &[u64], known: u64, k: u64, all: u64) -> bool
     }
     let mut held = pool | shared;
     let mut dma_held = 0;
-    let mut vm = 0;
-    while vm < VMS {
+    for vm in 0..VMS {
         let cpu = column_word(sets, pages::cpu_row(VmId(vm)), k);
         let dma = column_word(sets, pages::dma_row(VmId(vm)), k);
         if !vm_good(pages::has_bit(known, vm), pool, held, dma_held, cpu, dma) {
             return false;
         }
-        held = held | cpu;
-        dma_held = dma_held | dma;
-        vm += 1;
+        held |= cpu;
+        dma_held |= dma;
     }
     held == all
 }
@@ -92,12 +83,5 @@ pub fn page_sets(sets: &[u64], pages: u64, shared_base: u64, shared_count: u64, 
     requires { (length sets.now ≡ SETS * SET_WORDS) × (pages ≤ PAGES) × (shared_base + shared_count ≤ pages) × (known < 2 ^ VMS) }
     ensures { Decides result (PagesGood pages shared_base shared_count known sets.now) }
 {
-    let mut k: u64 = 0;
-    while k < SET_WORDS as u64 {
-        if !column_good(sets, pages, shared_base, shared_count, known, k) {
-            return false;
-        }
-        k += 1;
-    }
-    true
+    (0..SET_WORDS as u64).all(|k| column_good(sets, pages, shared_base, shared_count, known, k))
 }
