@@ -23,8 +23,15 @@ fn below(n: u64, k: u64) -> u64
     requires { k < SET_WORDS }
     ensures { result ≡ below_word n k }
 {
-    let count = n.saturating_sub(k * 64);
-    if count < 64 { (1 << count) - 1 } else { !0 }
+    let from = k * 64;
+    if n <= from {
+        return 0;
+    }
+    let count = n - from;
+    if count >= 64 {
+        return !0;
+    }
+    (1 << count) - 1
 }
 
 // A VM's pages for CPU have no other home and those for DMA no other holder, each of these is its own CPU page or in the
