@@ -165,7 +165,7 @@ fn field_at(log: &[u8], at: usize, fields: usize, i: usize) -> u64
     ensures { (result ≡ field_at log.now at fields i) × (result < FIELD) }
 {
     if i < fields {
-        return records::four(log, at + HEAD_BYTES + FIELD_BYTES * i);
+        return records::read::<FIELD_BYTES>(log, at + HEAD_BYTES + FIELD_BYTES * i);
     }
     0
 }
@@ -191,11 +191,11 @@ pub fn record_at(log: &[u8], at: usize) -> Taken
     if left < HEAD_BYTES {
         return no_record(Found::Refused(LogRefusal::CutShort), at);
     }
-    let length = records::two(log, at) as usize;
+    let length = records::read::<LENGTH_BYTES>(log, at) as usize;
     if left - LENGTH_BYTES < length {
         return no_record(Found::Refused(LogRefusal::CutShort), at);
     }
-    let kind = records::two(log, at + LENGTH_BYTES);
+    let kind = records::read::<KIND_BYTES>(log, at + LENGTH_BYTES);
     if !is_kind(kind) {
         return no_record(Found::Refused(LogRefusal::UnknownKind), at);
     }
@@ -281,7 +281,7 @@ fn put_fields(log: &mut [u8], at: usize, fields: [u64; FIELDS], count: usize)
 {
     let mut i = 0;
     while i < count {
-        records::put_four(log, at + FIELD_BYTES * i, fields[i]);
+        records::put::<FIELD_BYTES>(log, at + FIELD_BYTES * i, fields[i]);
         i += 1;
     }
 }
@@ -306,8 +306,8 @@ pub fn write(row: [u64; ROW_NUMBERS], log: &mut [u8], at: usize) -> Written
     if log.len() - at < HEAD_BYTES + body {
         return Written::Refused(LogRefusal::DoesNotFit);
     }
-    records::put_two(log, at, (KIND_BYTES + body) as u64);
-    records::put_two(log, at + LENGTH_BYTES, kind);
+    records::put::<LENGTH_BYTES>(log, at, (KIND_BYTES + body) as u64);
+    records::put::<KIND_BYTES>(log, at + LENGTH_BYTES, kind);
     put_fields(log, at + HEAD_BYTES, fields, count);
     Written::Past(at + HEAD_BYTES + body)
 }

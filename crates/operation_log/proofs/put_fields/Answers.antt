@@ -4,4 +4,4 @@ use Rattle.operation_log.proofs.put_fields.Goals as goal
 
 pub loop-i-preserved : goal.loop-i-preserved
 loop-i-preserved c =
-    fill_next _ _ _ _ _ _ _ c.loop-i.invariant c.loop-i-test.true c.put_four.ensures
+    fill_next _ _ _ _ _ _ _ c.loop-i.invariant c.loop-i-test.true c.put.ensures

@@ -14,12 +14,12 @@ returns-then-left-lt-HEAD_BYTES c = rw (c.no_record-then-left-lt-HEAD_BYTES.ensu
 
 pub returns-then-left-length : goal.returns-then-left-length
 unfolding record_at
-returns-then-left-length c = rw (c.no_record-then-left-length.ensures, lt-leb _ _ c.if-log-at.false, le-ltb _ _ c.if-left-lt-HEAD_BYTES.false, ← c.two-length.ensures.0, lt-ltb _ _ c.if-left-length.true)
+returns-then-left-length c = rw (c.no_record-then-left-length.ensures, lt-leb _ _ c.if-log-at.false, le-ltb _ _ c.if-left-lt-HEAD_BYTES.false, ← c.read-length.ensures.0, lt-ltb _ _ c.if-left-length.true)
 
 pub returns-then-not-is_kind : goal.returns-then-not-is_kind
 unfolding record_at
 returns-then-not-is_kind c =
-    rw (c.no_record-then-not-is_kind.ensures, lt-leb _ _ c.if-log-at.false, le-ltb _ _ c.if-left-lt-HEAD_BYTES.false, ← c.two-length.ensures.0, le-ltb _ _ c.if-left-length.false, ← c.two-kind.ensures.0, ← c.is_kind.ensures, c.if-not-is_kind.true)
+    rw (c.no_record-then-not-is_kind.ensures, lt-leb _ _ c.if-log-at.false, le-ltb _ _ c.if-left-lt-HEAD_BYTES.false, ← c.read-length.ensures.0, le-ltb _ _ c.if-left-length.false, ← c.read-kind.ensures.0, ← c.is_kind.ensures, c.if-not-is_kind.true)
 
 pub returns-then-length-body : goal.returns-then-length-body
 unfolding record_at
@@ -28,10 +28,10 @@ returns-then-length-body c =
       c.no_record-then-length-body.ensures,
       lt-leb _ _ c.if-log-at.false,
       le-ltb _ _ c.if-left-lt-HEAD_BYTES.false,
-      ← c.two-length.ensures.0,
+      ← c.read-length.ensures.0,
       le-ltb _ _
           c.if-left-length.false,
-      ← c.two-kind.ensures.0,
+      ← c.read-kind.ensures.0,
       ← c.is_kind.ensures,
       c.if-not-is_kind.false,
       ← c.body_length-body.ensures.0,
@@ -45,15 +45,15 @@ returns c =
     rw (
       lt-leb _ _ c.if-log-at.false,
       le-ltb _ _ c.if-left-lt-HEAD_BYTES.false,
-      ← c.two-length.ensures.0,
+      ← c.read-length.ensures.0,
       le-ltb _ _ c.if-left-length.false,
       ←
-          c.two-kind.ensures.0,
+          c.read-kind.ensures.0,
       ← c.is_kind.ensures,
       c.if-not-is_kind.false,
       ← c.body_length-body.ensures.0,
       eq-eqb _ _ c.if-length-body.false,
       row_read
-          c.args.log.now c.args.at c.two-kind.result c.body_length-body.result _ _ _ _ _ _ c.body_length-body.ensures.0 c.field_at-a.ensures.0
+          c.args.log.now c.args.at c.read-kind.result c.body_length-body.result _ _ _ _ _ _ c.body_length-body.ensures.0 c.field_at-a.ensures.0
           c.field_at-b.ensures.0 c.field_at-c.ensures.0 c.field_at-d.ensures.0 c.field_at-e.ensures.0 c.row_of.ensures,
     )

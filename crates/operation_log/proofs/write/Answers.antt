@@ -22,6 +22,6 @@ returns-then-log-at-2 c =
 
 pub returns : goal.returns
 returns c =
-    filled c.args.row c.args.log.now c.args.at _ _ _ _ _ c.body_length-body.ensures.0 c.fields_of-fields.ensures c.put_two.ensures c.put_two-2.ensures
+    filled c.args.row c.args.log.now c.args.at _ _ _ _ _ c.body_length-body.ensures.0 c.fields_of-fields.ensures c.put.ensures c.put-2.ensures
     c.put_fields.ensures (room_for c.args.row _ c.args.at (sym c.is_kind.ensures ∙ c.if-not-is_kind.false) (sym (fits_read c.args.row _ _ _
     c.body_length-body.ensures.0 c.fields_of-fields.ensures c.fit.ensures) ∙ c.if-not-fit.false) (omega arith))
