@@ -17,10 +17,10 @@ use Rattle.model.specs.declared.Machine.{Machine}
 use Rattle.model.specs.State.{Tables, Route, State, route, replaced, with_side, with_known, with_sets, with_pairs, with_maps}
 use Rattle.model.specs.Effect.{Effect, clears, quiet, kept, decided, accepted, apply, cleared_pages}
 use Rattle.model.specs.Ledger.{add_vm_answer, add_vm_known, remove_vm_answer, remove_vm_known, assign_answer, assign_sets, reclaim_answer, reclaim_sets, reclaim_clears, share_answer, share_pairs, unshare_answer, unshare_pairs}
-use Rattle.model.specs.Retire.{retire_answer, retired}
+use Rattle.model.specs.Retire.{retire_answer, retire_clears, retired}
 use Rattle.model.specs.Step.{Stepped, unit_for, carried_out, control, step}
 use Rattle.sides.specs.Sides.{Sight, SideStepped, sight, side_stepped, side_decided, side_step}
-use Rattle.retire.specs.Parts.{Left}
+use Rattle.retire.specs.Parts.{Left, retired_lists}
 use Rattle.operate.specs.Outcome.{outcome}
 
 abbrev pub stepped : Answer → Tables → List ℕ → Stepped
@@ -48,19 +48,6 @@ module _ (t : Tables) (memory : List ℕ) where
   unfolding decided
   sets_arm (Ok ok) sets pages = refl
   sets_arm (Err err) sets pages = refl
-
-  -- every list, with pages cleared
-  abbrev kept_maps : Answer → Route → Route → Route
-  kept_maps a old new = with_maps old (kept a old.map new.map) (kept a old.walker new.walker) (kept a old.cache new.cache)
-
-  retire_arm : (a : Answer) (vm : ℕ) (pages : List ℕ) →
-      let new = retired t vm in carried_out (decided t a new (clears pages)) memory
-      ≡ stepped a
-      (replaced t (kept a t.known new.known) (kept a t.sets new.sets) (kept a t.pairs new.pairs) (kept_maps a t.cpu new.cpu) (kept_maps a t.dma new.dma))
-      (apply (kept a quiet (clears pages)) memory)
-  unfolding decided
-  retire_arm (Ok ok) vm pages = refl
-  retire_arm (Err err) vm pages = refl
 
   -- one side's route and the page sets, by what a step over that side leaves
   abbrev sight_of : Side → Sight
@@ -143,6 +130,20 @@ module _ (fixed : Fixed) (r : Registers) (l : Lists) where
   pub instruction_barrier_step : outcome accepted header l ≡ step now InstructionBarrier
   unfolding step control decided apply cleared_pages
   instruction_barrier_step = refl
+
+  -- ---- a VM retired, where the code left what is given
+  retire_arm : (a : Answer) (vm : ℕ) →
+      carried_out (decided here a (retired here vm) (clears (retire_clears l.sets fixed.pages vm))) l.memory
+      ≡ outcome a (known (kept a r.known (remove_vm_known r.known vm))) (kept a l (retired_lists fixed.pages vm l))
+  unfolding decided apply cleared_pages
+  retire_arm (Ok ok) vm = refl
+  retire_arm (Err err) vm = refl
+
+  pub retire_step : (vm : VmId) {told : Answer} {known' : ℕ} {l' : Lists} →
+      Left (retire_answer r.known l.sets l.cpu_cache l.dma_cache r.cpu.ports r.dma.ports vm.0) fixed.pages vm.0 r.known l told known' l' →
+      outcome told (known known') l' ≡ step now (RetireVm vm)
+  unfolding step control
+  retire_step vm left = rw (left.answer, left.known, left.lists) (sym (retire_arm _ vm.0))
 
   -- ---- an operation of a side, where a step over the side's tables left what is given
   pub cpu_step :
