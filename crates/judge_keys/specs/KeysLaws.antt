@@ -1,5 +1,5 @@
 -- What the tests of classes say of keys, and what keys say of the tests.
-use Rattle.std.specs.Prelude.{ℕ, ◌+◌, ◌*◌, ◌/◌, ◌%◌, ◌<◌, true, false, ◌||◌, List, ◌≡◌, refl, eqb, ltb, length, Some, None}
+use Rattle.std.specs.Prelude.{ℕ, ◌+◌, ◌*◌, ◌/◌, ◌%◌, ◌<◌, true, false, ◌||◌, List, ◌≡◌, refl, eqb, ltb, length}
 use Rattle.std.proofs.Common.{true≢false, ◌∙◌, arith}
 use Rattle.std.proofs.Math.Logic.{⊎_elim}
 use Rattle.std.proofs.Math.Path.{sym, ap}
@@ -13,6 +13,7 @@ use Rattle.numbers.specs.Packing.{PORT_BIT, VM_BIT, VM_FIELD, ADDRESS_FIELD, por
 use Rattle.numbers.specs.PackingLaws.{word_whole, key_filled, address_key}
 use Rattle.table.specs.Table.{Has, Distinct, find, lookup}
 use Rattle.table.specs.TableLaws.{find_at, find_none, lookup_has, has_lookup}
+use Rattle.std.specs.Prelude.{Some, None}
 use Rattle.model.specs.Valid.{SameMap}
 use Rattle.judge_keys.specs.Keys.{CLASSES, PLACES, class_of, low_of, map_word_of, PackedWord, Packed, Filled, Agreement, Held, InClass, Each, ClassOnce, ClassWithin, ClassAgree, ClassHeld, NewKey, Blank, Tested}
 use Rattle.judge_keys.specs.ChainLaws.{class_small}

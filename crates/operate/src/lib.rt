@@ -37,87 +37,103 @@ pub fn step(
         ≡ step (state_of (header_of fixed.now registers.old) (lists lent.old)) operation }
     ensures same { Same lent.old lent.new }
 {
+    let known = registers.known;
     match operation {
         Operation::AddVm(vm) => ledger::vms::add_vm(&mut registers.known, vm),
-        Operation::RemoveVm(vm) => ledger::vms::remove_vm(
-            &mut registers.known,
-            lent.sets,
-            lent.pairs,
-            lent.cpu_map,
-            lent.dma_map,
-            registers.cpu.ports,
-            registers.dma.ports,
-            vm,
-        ),
-        Operation::AssignPage(vm, page) => {
-            ledger::owners::assign_page(registers.known, fixed.pages, lent.sets, vm, page)
+        Operation::RemoveVm(vm) => {
+            let cpus = registers.cpu.ports;
+            let devices = registers.dma.ports;
+            let sets = &mut *lent.sets;
+            let pairs = &mut *lent.pairs;
+            let cpu_map = &mut *lent.cpu_map;
+            let dma_map = &mut *lent.dma_map;
+            ledger::vms::remove_vm(
+                &mut registers.known,
+                sets,
+                pairs,
+                cpu_map,
+                dma_map,
+                cpus,
+                devices,
+                vm,
+            )
         }
-        Operation::ReclaimPage(vm, page) => ledger::owners::reclaim_page(
-            registers.known,
-            fixed.pages,
-            lent.sets,
-            lent.pairs,
-            lent.cpu_map,
-            lent.memory,
-            vm,
-            page,
-        ),
-        Operation::SharePage(left, right, page) => ledger::sharing::share_page(
-            registers.known,
-            fixed.pages,
-            lent.sets,
-            lent.pairs,
-            left,
-            right,
-            page,
-        ),
-        Operation::UnsharePage(left, right, page) => ledger::sharing::unshare_page(
-            registers.known,
-            fixed.pages,
-            lent.sets,
-            lent.pairs,
-            lent.cpu_map,
-            left,
-            right,
-            page,
-        ),
-        Operation::On(Side::Cpu, operation) => sides::side_step(
-            Side::Cpu,
-            fixed.pages,
-            unit_for(fixed, Side::Cpu, operation),
-            registers.known,
-            &mut registers.cpu,
-            lent.sets,
-            lent.pairs,
-            lent.cpu_map,
-            lent.cpu_walker,
-            lent.cpu_cache,
-            lent.memory,
-            operation,
-        ),
-        Operation::On(Side::Dma, operation) => sides::side_step(
-            Side::Dma,
-            fixed.pages,
-            unit_for(fixed, Side::Dma, operation),
-            registers.known,
-            &mut registers.dma,
-            lent.sets,
-            lent.pairs,
-            lent.dma_map,
-            lent.dma_walker,
-            lent.dma_cache,
-            lent.memory,
-            operation,
-        ),
-        Operation::DataBarrier | Operation::InstructionBarrier => accept(0),
-        Operation::RetireVm(vm) => retire::retire_vm(
-            &mut registers.known,
-            fixed.pages,
-            registers.cpu.ports,
-            registers.dma.ports,
-            lent,
-            vm,
-        ),
+        Operation::AssignPage(vm, page) => {
+            ledger::owners::assign_page(known, fixed.pages, lent.sets, vm, page)
+        }
+        Operation::ReclaimPage(vm, page) => {
+            let pairs = &mut *lent.pairs;
+            let cpu_map = &mut *lent.cpu_map;
+            ledger::owners::reclaim_page(
+                known,
+                fixed.pages,
+                lent.sets,
+                pairs,
+                cpu_map,
+                lent.memory,
+                vm,
+                page,
+            )
+        }
+        Operation::SharePage(left, right, page) => {
+            let sets = &mut *lent.sets;
+            ledger::sharing::share_page(known, fixed.pages, sets, lent.pairs, left, right, page)
+        }
+        Operation::UnsharePage(left, right, page) => {
+            let sets = &mut *lent.sets;
+            let cpu_map = &mut *lent.cpu_map;
+            ledger::sharing::unshare_page(
+                known,
+                fixed.pages,
+                sets,
+                lent.pairs,
+                cpu_map,
+                left,
+                right,
+                page,
+            )
+        }
+        Operation::On(side, operation) => {
+            let unit = unit_for(fixed, side, operation);
+            let pairs = &mut *lent.pairs;
+            match side {
+                Side::Cpu => sides::side_step(
+                    Side::Cpu,
+                    fixed.pages,
+                    unit,
+                    known,
+                    &mut registers.cpu,
+                    lent.sets,
+                    pairs,
+                    lent.cpu_map,
+                    lent.cpu_walker,
+                    lent.cpu_cache,
+                    lent.memory,
+                    operation,
+                ),
+                Side::Dma => sides::side_step(
+                    Side::Dma,
+                    fixed.pages,
+                    unit,
+                    known,
+                    &mut registers.dma,
+                    lent.sets,
+                    pairs,
+                    lent.dma_map,
+                    lent.dma_walker,
+                    lent.dma_cache,
+                    lent.memory,
+                    operation,
+                ),
+            }
+        }
+        Operation::DataBarrier => accept(0),
+        Operation::InstructionBarrier => accept(0),
+        Operation::RetireVm(vm) => {
+            let cpus = registers.cpu.ports;
+            let devices = registers.dma.ports;
+            retire::retire_vm(&mut registers.known, fixed.pages, cpus, devices, lent, vm)
+        }
     }
 }
 
