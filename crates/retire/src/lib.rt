@@ -6,7 +6,6 @@ ghost use Rattle.numbers.specs.Limits.{PAGES, PAGE_WORDS, VMS, SETS, SET_WORDS};
 ghost use Rattle.model.specs.Effect.{cleared_pages};
 ghost use Rattle.model.specs.Header.{Same, lists};
 ghost use Rattle.model.specs.Retire.{onto_its, goes, retire_may, retire_answer, retire_pairs, retire_sets, retire_clears};
-ghost use Rattle.retire.specs.HeldLaws.{Unheld};
 ghost use Rattle.retire.specs.Parts.{Ready, Swept, RouteSwept, Done, Left};
 
 use ledger::vm_early;
@@ -71,35 +70,26 @@ fn drop_pairs(pairs: &mut [u64], vm: VmId)
     table::wipe(pairs, |w| views::joins(w, vm));
 }
 
-// A page up to which, from the given one on, the VM holds none: 64 pages a step, for as long as a whole word of both its sets is 0.
-fn past_unheld(sets: &[u64], pages: u64, vm: VmId, page: u64) -> u64
-    requires { (vm.0 < VMS) × (pages ≤ PAGES) × (page ≤ pages) × (length sets.now ≡ SETS * SET_WORDS) }
-    ensures { Unheld sets.now pages vm.0 page result }
-{
-    let mut next = page;
-    while next + 64 <= pages
-        && next % 64 == 0
-        && pages::none_beside(sets, pages::cpu_row(vm), PhysPage(next))
-        && pages::none_beside(sets, pages::dma_row(vm), PhysPage(next))
-    {
-        next += 64;
-    }
-    next
-}
-
-// Clears every page that the VM owns or holds for DMA: it goes by the sets as they are before the pages are given back.
+// Clears every page that the VM owns or holds for DMA: it goes by the sets as they are before the pages are given back. 64 pages are
+// passed over at once where a whole word of both its sets is 0.
 fn clear_held(sets: &[u64], memory: &mut [u64], pages: u64, vm: VmId)
     requires { Ready pages sets.now memory.old vm.0 }
     ensures { memory.new ≡ cleared_pages (retire_clears sets.now pages vm.0) memory.old }
 {
-    let mut page = past_unheld(sets, pages, vm, 0);
-    while page < pages {
-        if views::claims(Side::Cpu, sets, vm, PhysPage(page))
-            | views::claims(Side::Dma, sets, vm, PhysPage(page))
+    for block in 0..pages.div_ceil(64) {
+        let first = block * 64;
+        if pages::none_beside(sets, pages::cpu_row(vm), PhysPage(first))
+            && pages::none_beside(sets, pages::dma_row(vm), PhysPage(first))
         {
-            access::clear_page(memory, PhysPage(page));
+            continue;
         }
-        page = past_unheld(sets, pages, vm, page + 1);
+        for page in first..pages.min(first + 64) {
+            if views::claims(Side::Cpu, sets, vm, PhysPage(page))
+                | views::claims(Side::Dma, sets, vm, PhysPage(page))
+            {
+                access::clear_page(memory, PhysPage(page));
+            }
+        }
     }
 }
 
