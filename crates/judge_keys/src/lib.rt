@@ -10,7 +10,6 @@ ghost use Rattle.table.specs.Table.{Distinct};
 ghost use Rattle.judge_keys.specs.Keys.{CLASSES, PLACES, LINKS, class_of, low_of, map_word_of, Packed, Filled, Agreement, SlotsHeld, Held, ClassAgree, SlotsWithin, ClassHeld, NewKey, Chained, Blank, Inside, Shown, Entered, NoneLeft, Entering, Taking, Tested};
 
 use numbers::{ENTRIES, GUEST_FIELD, SLOTS, VMS};
-use table::Found;
 
 // Places of a class: the low bits of a guest page.
 const PLACES: usize = 1024;
@@ -307,8 +306,8 @@ fn first_of_key(words: &[u64], i: usize) -> bool
     let key = numbers::key_of(words[i]);
     let there = table::find(words, key);
     match there {
-        Found::At(k) => (k == i) | (key == 0),
-        Found::Nothing => true,
+        Some(k) => (k == i) | (key == 0),
+        None => true,
     }
 }
 

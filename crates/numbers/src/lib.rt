@@ -3,7 +3,7 @@
 #![tactic(auto)]
 
 ghost use Rattle.std.specs.Prelude.{◌≡◌, ◌<◌};
-ghost use Rattle.numbers.specs.Meaning.{accept, refuse, refusal_number, answer_numbers, target_number};
+ghost use Rattle.numbers.specs.Meaning.{accept, refusal_number, answer_numbers, target_number};
 ghost use Rattle.numbers.specs.Packing.{GENERATION_FIELD, ACCESS_FIELD, PAGE_FIELD, GUEST_BIT, GUEST_FIELD, VM_FIELD, PORT_FIELD, entry, slot_word, map_word, pair_word, slot_key, key, port_of, vm_of, guest_of, entry_of, page_of, access_of, generation_of, key_of, address_of, left_of, right_of, filled_of, pair_key, pair_key_of};
 
 // ---- Limits. Each has this one name in code and the same name in specs/Limits.antt.
@@ -75,13 +75,13 @@ pub const ADDRESS_FIELD: u64 = VM_FIELD * GUEST_FIELD * 2;
 
 // ---- Kinds of number, kept apart.
 
-#[derive(Clone, Copy)]
+#[derive(Clone, Copy, PartialEq, Eq)]
 pub struct VmId(pub u64);
 
-#[derive(Clone, Copy)]
+#[derive(Clone, Copy, PartialEq, Eq)]
 pub struct GuestPage(pub u64);
 
-#[derive(Clone, Copy)]
+#[derive(Clone, Copy, PartialEq, Eq)]
 pub struct PhysPage(pub u64);
 
 // ---- The two sides of the machine, each with a map, a walker map, a cache, a hand and eight ports.
@@ -129,7 +129,7 @@ pub struct Refused {
 pub type Answer = Result<Accepted, Refused>;
 
 // ---- A region as a caller names it: the five fields that a unit must equal.
-#[derive(Clone, Copy)]
+#[derive(Clone, Copy, PartialEq, Eq)]
 pub struct Region {
     pub vm: VmId,
     pub guest: GuestPage,
@@ -190,8 +190,9 @@ pub fn accept(dropped: u64) -> Answer
     Ok(Accepted { dropped, word: 0 })
 }
 
-pub fn refuse(refusal: Refusal, index: u64) -> Answer
-    ensures { result ≡ refuse refusal index }
+// A refusal, in place of whatever is asked for.
+pub fn refuse<T>(refusal: Refusal, index: u64) -> Result<T, Refused>
+    ensures { result ≡ Err (record { refusal = refusal; index = index }) }
 {
     Err(Refused { refusal, index })
 }
