@@ -22,7 +22,7 @@ use Rattle.model.specs.Step.{control}
 use Rattle.model.specs.Sequence.{operation_in, row_at, after, beginning}
 use Rattle.model.specs.Valid.{ValidTables, Valid}
 use Rattle.model.specs.Good.{StoreOn, Touches, Reaches, MayReach}
-use Rattle.model.specs.Secrecy.{PrivateTo, Private, effect_in, without_value_in, NearStores, stop, same, other, Near, alike, stores, Differ, Alike, Asked, Premise, StayAlike, SharesEqual}
+use Rattle.model.specs.Secrecy.{PrivateTo, effect_in, without_value_in, NearStores, stop, same, other, Near, alike, stores, Differ, Alike, Asked, Premise, StayAlike, SharesEqual}
 use Rattle.model.proofs.Computes.{computes}
 use Rattle.model.proofs.Worked.{started}
 use Rattle.model.proofs.Kept.{good, after_valid}
