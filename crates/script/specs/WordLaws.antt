@@ -1,5 +1,5 @@
 -- Reading a word byte by byte finds what the word says.
-use Rattle.std.specs.Prelude.{ℕ, ◌+◌, ◌-◌, ◌*◌, ◌/◌, ◌%◌, ◌≤◌, ◌<◌, true, List, [], ◌∷◌, ◌++◌, ◌≡◌, refl, if◌then◌else◌}
+use Rattle.std.specs.Prelude.{ℕ, ◌+◌, ◌-◌, ◌*◌, ◌/◌, ◌%◌, ◌≤◌, ◌<◌, Bool, true, false, List, [], ◌∷◌, ◌++◌, ◌≡◌, refl, if◌then◌else◌}
 use Rattle.std.proofs.Common.{arith, rules}
 use Rattle.std.proofs.lemmas.Grind.{common_steps}
 use Rattle.script.specs.Lines.{LARGEST, is_digit, all_digits, value_from, number_word, same, word_of}
@@ -8,6 +8,10 @@ use Rattle.script.specs.declared.Word.{Word}
 use Rattle.script.specs.declared.Word.TheVariants.{BoxWord, UnitWord, FreeWord, IdleWord, OtherWord}
 use Rattle.script.specs.declared.Part.{Part}
 use Rattle.script.specs.declared.Part.TheVariants.{Digits, Letters, Strange}
+
+pub either : {A : Type 0} (t : Bool) (a : A) → (if t then a else a) ≡ a
+either true a = refl
+either false a = refl
 
 -- ---- the word under way, byte by byte
 abbrev pub part_all : Part → List ℕ → Part
