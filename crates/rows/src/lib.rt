@@ -38,7 +38,7 @@ fn side_of(number: u64, cpu: u64) -> Side
     if number == cpu { Side::Cpu } else { Side::Dma }
 }
 
-// The operation of a number and its arguments in order.
+// The operation of a number and its arguments in order. The numbers are the paper's, in which C writes its rows.
 pub fn operation_of(number: u64, a: u64, b: u64, c: u64, d: u64, e: u64) -> Option<Operation>
     ensures { result ≡ operation_of number a b c d e }
 {

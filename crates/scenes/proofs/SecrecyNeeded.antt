@@ -11,7 +11,7 @@ use native.Mathlib.Omega.{arith}
 use lib.Dec.{eqb, lit<}
 use lib.ListN.{length, get_or, replicate, length-set, length-replicate}
 use Rattle.numbers.specs.Limits.{PAGE_WORDS, WRITE}
-use Rattle.numbers.specs.Meaning.{Answer, accept, operation_number}
+use Rattle.numbers.specs.Meaning.{Answer, accept, answer_numbers, operation_number}
 use Rattle.numbers.specs.declared.Operation.{Operation}
 use Rattle.numbers.specs.declared.Side.TheVariants.{Cpu}
 use Rattle.model.specs.State.{Tables, State}
@@ -22,7 +22,7 @@ use Rattle.model.specs.Step.{control}
 use Rattle.model.specs.Sequence.{operation_in, row_at, after, beginning}
 use Rattle.model.specs.Valid.{ValidTables, Valid}
 use Rattle.model.specs.Good.{StoreOn, Touches, Reaches, MayReach}
-use Rattle.model.specs.Secrecy.{PrivateTo, Private, effect_in, without_value_in, NearStores, stop, same, other, Near, alike, stores, Differ, Alike, Asked, Premise, StayAlike, SharesEqual}
+use Rattle.model.specs.Secrecy.{PrivateTo, effect_in, without_value_in, NearStores, stop, same, other, Near, alike, stores, Differ, Alike, Asked, Premise, StayAlike, SharesEqual}
 use Rattle.model.proofs.Computes.{computes}
 use Rattle.model.proofs.Worked.{started}
 use Rattle.model.proofs.Kept.{good, after_valid}
@@ -63,7 +63,7 @@ with_all s s' (v, like) rows rows' count given = secrecy_one 1 (beginning s []) 
 
 -- two answers to a read that are not the same
 unequal : (a b : ℕ) → (a ≡ b → ⊥) → accept 0 a ≡ accept 0 b → ⊥
-unequal a b n e = n (cc)
+unequal a b n e = n (ap (λ (x : Answer). get_or (answer_numbers x) 3 0) e)
 
 -- ---- without `Valid`: a device of VM 2 reads VM 1's value by a slot that was left
 incident_rows : ℕ → List ℕ

@@ -10,7 +10,7 @@ use lib.Dec.{eqb, ltb, lit<}
 use lib.ListN.{get_or}
 use borrow.Author.Tests.{ltb-true, not-false}
 use Rattle.numbers.specs.Limits.{VMS}
-use Rattle.numbers.specs.Packing.{left_of, right_of, filled_of, page_of}
+use Rattle.numbers.specs.Packing.{left_of, right_of, filled_of}
 use Rattle.numbers.specs.declared.Side.TheVariants.{Cpu}
 use Rattle.table.specs.Scan.{any}
 use Rattle.table.specs.ScanLaws.{any_false}

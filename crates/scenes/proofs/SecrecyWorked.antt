@@ -7,12 +7,12 @@ use Rattle.std.specs.Prelude.{Option, None, Some}
 use mathlib.Core.Path.{◌≡◌, refl, sym, ap, ◌∙◌}
 use native.Mathlib.Omega.{arith}
 use lib.Dec.{eqb, ltb, lit<}
-use lib.ListN.{get_or, set, replicate}
+use lib.ListN.{set, replicate}
 use borrow.Author.Tests.{ltb-true}
 use Rattle.numbers.specs.CaseLaws.{none_some}
 use Rattle.numbers.specs.Limits.{VMS, PAGE_WORDS, WRITE, IDLE}
 use Rattle.numbers.specs.Packing.{entry, slot_word, map_word, filled_of}
-use Rattle.numbers.specs.Meaning.{Answer, refuse}
+use Rattle.numbers.specs.Meaning.{refuse}
 use Rattle.numbers.specs.declared.Refusal.TheVariants.{VmUnknown}
 use Rattle.numbers.specs.declared.Operation.TheVariants as op
 use Rattle.numbers.specs.declared.SideOperation.TheVariants as sided
@@ -30,7 +30,7 @@ use Rattle.model.specs.Sequence.{guest_page, operation_in, step_row, Progress, a
 use Rattle.model.specs.Valid.{Valid}
 use Rattle.model.specs.Good.{holds_page, Sharing}
 use Rattle.model.specs.Access.{access_answer, access_place}
-use Rattle.model.specs.Secrecy.{PrivateTo, answer_in, sharing_in, Shared, stop, other, Near, alike, stores, Differ, Alike, Asked, Premise, StayAlike, SharesEqual}
+use Rattle.model.specs.Secrecy.{PrivateTo, answer_in, sharing_in, stop, other, Near, alike, stores, Differ, Alike, Asked, Premise, StayAlike, SharesEqual}
 use Rattle.model.proofs.Computes.{computes}
 use Rattle.model.proofs.Worked.{Line, row, ◌⟼◌, heard_in, answers, eight_pages, lent, started}
 use Rattle.model.proofs.ViewLaws.{no_edge_on}

@@ -53,6 +53,7 @@ pub fn load(slots: &[Slot], wanted: usize) -> [u64; SLOTS as usize]
     let mut words = [0; SLOTS as usize];
     if slots.len() == wanted {
         let first = &slots[..slots.len().min(SLOTS as usize)];
+        // By index, as in `store`: of what a zip with `words.iter_mut()` leaves, a proof knows no word.
         for (i, slot) in first.iter().enumerate() {
             words[i] = u64::from(*slot);
         }
@@ -81,9 +82,10 @@ pub fn find(words: &[u64; SLOTS as usize], port: u64, vm: u64, guest: u64) -> Op
     table::find(words, numbers::slot_key(port, VmId(vm), GuestPage(guest)))
 }
 
-// ---- A change of one slot.
+// ---- A change of one slot. C names its numbers one by one, and lends a cache of any length: `count` says how many slots it has,
+// where its words are always 64.
 
-// Fills slot `place` of a cache that has `count` slots, or says why not.
+// Fills slot `place`, or says why not.
 #[tactic(auto, unfolding(crate::specs::Calls::fill_word))]
 pub fn fill(
     count: usize,
@@ -116,7 +118,7 @@ pub fn fill(
     Ok(())
 }
 
-// Empties slot `place` of a cache that has `count` slots, or says why not.
+// Empties slot `place`, or says why not.
 #[tactic(auto, unfolding(crate::specs::Calls::empty_word))]
 pub fn empty(count: usize, words: &mut [u64; SLOTS as usize], place: u64) -> Result<(), Refusal>
     ensures { change (change_number result) words.new ≡ empty_word count words.old place }

@@ -4,6 +4,4 @@ use Rattle.slots.specs.Slots.{over}
 use Rattle.slots.proofs.store.Given as goal
 
 abbrev pub invariant-loop-i : goal.invariant-loop-i
-invariant-loop-i l = record {
-  is_over : l.slots ≡ over l.words l.fn.slots l.i;
-}
+invariant-loop-i l = l.slots ≡ over l.words l.fn.slots l.i
