@@ -12,6 +12,7 @@ use numbers::{PhysPage, Region, Side, VmId};
 // ---- Insertion.
 
 // One page more for the VM. DMA leaves the pool alone.
+#[tactic(auto, unfolding(model::specs::Ledger::assign_sets))]
 fn take_page(side: Side, sets: &mut [u64], vm: VmId, page: PhysPage)
     requires { (vm.0 < VMS) × (page.0 < PAGES) × (length sets.old ≡ SETS * SET_WORDS) }
     ensures { sets.new ≡ insert_page side vm.0 page.0 sets.old }
@@ -29,10 +30,8 @@ pub fn take_pages(side: Side, sets: &mut [u64], region: Region)
     requires { Placed region × (length sets.old ≡ SETS * SET_WORDS) }
     ensures { sets.new ≡ insert_sets side sets.old region }
 {
-    let mut k = 0;
-    while k < region.count {
+    for k in 0..region.count {
         take_page(side, sets, region.vm, page_in(region, k));
-        k += 1;
     }
 }
 
@@ -40,16 +39,15 @@ pub fn install(map: &mut [u64], region: Region)
     requires { Placed region }
     ensures { map.new ≡ insert_table map.old region }
 {
-    let mut k = 0;
-    while k < region.count {
+    for k in 0..region.count {
         table::put(map, key_in(region, k), entry_in(region, k));
-        k += 1;
     }
 }
 
 // ---- Removal.
 
 // One page fewer for the VM. A CPU page goes back to the pool.
+#[tactic(auto, unfolding(model::specs::Ledger::reclaim_sets))]
 fn return_page(side: Side, sets: &mut [u64], vm: VmId, page: PhysPage)
     requires { (vm.0 < VMS) × (page.0 < PAGES) × (length sets.old ≡ SETS * SET_WORDS) }
     ensures { sets.new ≡ remove_page side vm.0 page.0 sets.old }
@@ -67,10 +65,8 @@ pub fn return_pages(side: Side, sets: &mut [u64], region: Region)
     requires { Placed region × (length sets.old ≡ SETS * SET_WORDS) }
     ensures { sets.new ≡ remove_sets side sets.old region }
 {
-    let mut k = 0;
-    while k < region.count {
+    for k in 0..region.count {
         return_page(side, sets, region.vm, page_in(region, k));
-        k += 1;
     }
 }
 
@@ -91,16 +87,7 @@ pub fn sweep(words: &mut [u64], region: Region) -> u64
     requires { Placed region }
     ensures { Swept words.old region result words.new }
 {
-    let mut swept = 0;
-    let mut i = 0;
-    while i < words.len() {
-        if in_region(words[i], region) {
-            words[i] = 0;
-            swept += 1;
-        }
-        i += 1;
-    }
-    swept
+    table::wipe(words, |w| in_region(w, region))
 }
 
 fn other_side(side: Side) -> Side
@@ -113,16 +100,15 @@ fn other_side(side: Side) -> Side
 }
 
 // Clears each page on which the VM has no claim left: it goes by the sets as they are before the removal.
+#[tactic(auto, using(crate::specs::RegionLaws::clear_start, crate::specs::RegionLaws::clear_hit, crate::specs::RegionLaws::clear_miss, crate::specs::RegionLaws::clear_end))]
 pub fn clear_pages(side: Side, sets: &[u64], memory: &mut [u64], region: Region)
     requires { Placed region × (length sets.now ≡ SETS * SET_WORDS) × ((region.page.0 + region.count) * PAGE_WORDS ≤ length memory.old) }
     ensures { memory.new ≡ cleared_pages (remove_clears side sets.now region) memory.old }
 {
-    let mut k = 0;
-    while k < region.count {
+    for k in 0..region.count {
         let page = page_in(region, k);
         if !views::claims(other_side(side), sets, region.vm, page) {
             access::clear_page(memory, page);
         }
-        k += 1;
     }
 }

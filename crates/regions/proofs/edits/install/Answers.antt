@@ -1,3 +1,4 @@
+-- `edits::install` meets its contract. The loop has done the pages before k.
 use Rattle.table.specs.Loops.{sweep_next, sweep_end}
 use Rattle.model.specs.Regions.{insert_table}
 use Rattle.regions.proofs.edits.install.Goals as goal

@@ -1,3 +1,4 @@
+-- `edits::return_pages` meets its contract. The loop has done the pages before k.
 use Rattle.table.specs.Loops.{sweep_next, sweep_end}
 use Rattle.model.specs.Regions.{remove_sets}
 use Rattle.regions.proofs.edits.return_pages.Goals as goal
