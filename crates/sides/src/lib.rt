@@ -8,8 +8,8 @@ use maps::Mapping;
 use model::SideRegisters;
 use numbers::{Answer, Side, SideOperation};
 
-// Each arm hands on the slices that it touches, and the registers that it changes. Of what start fixed it has the pages, and whether
-// the region named is a unit's.
+// Each arm hands on what it touches: the slices, and of the header the side's own registers. Of what start fixed it has the pages,
+// and whether the region named is a unit's.
 pub fn side_step(
     side: Side,
     pages: u64,
@@ -57,14 +57,10 @@ pub fn side_step(
         SideOperation::GivePort(port, target) => {
             maps::give_port(known, &mut registers.ports, port, target)
         }
-        SideOperation::FillSlot(port, guest) => maps::fill_slot(
-            registers.ports,
-            walker,
-            cache,
-            &mut registers.hand,
-            port,
-            guest,
-        ),
+        SideOperation::FillSlot(port, guest) => {
+            let hand = &mut registers.hand;
+            maps::fill_slot(registers.ports, walker, cache, hand, port, guest)
+        }
         SideOperation::EmptySlot(slot) => maps::empty_slot(cache, slot),
         SideOperation::ReadWord { port, guest, word } => {
             access::read_word(registers.ports, cache, walker, memory, port, guest, word)

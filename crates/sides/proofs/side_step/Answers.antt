@@ -1,4 +1,5 @@
-use mathlib.Core.Path.{refl, ◌∙◌}
+-- `sides::side_step` meets its contract: each arm leaves what the law of its operation says.
+use Rattle.std.proofs.Common.{refl, ◌∙◌}
 use Rattle.sides.specs.SideArms.{side_same, map-arm, unmap_arm, insert_arm, remove_arm, give_arm, fill_arm, empty_arm, read_arm, write_arm}
 use Rattle.sides.proofs.side_step.Goals as goal
 
