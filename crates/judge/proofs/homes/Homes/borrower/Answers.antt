@@ -1,5 +1,5 @@
 use Rattle.judge.specs.Sharing.{borrower_of}
-use Rattle.judge.proofs.sharing.borrower.Goals as goal
+use Rattle.judge.proofs.homes.Homes.borrower.Goals as goal
 
 pub returns-then-claims : goal.returns-then-claims
 unfolding borrower_of
