@@ -1,5 +1,5 @@
 -- From what `replay` leaves of a state to what its core gives for a box of words.
-use Rattle.std.specs.Prelude.{ℕ, zero, suc, ◌<◌, ◌&&◌, List, [], ◌∷◌, ◌≡◌, refl, length, get_or, set, eqb}
+use Rattle.std.specs.Prelude.{ℕ, zero, suc, ◌<◌, ◌&&◌, Some, None, Ok, Err, List, [], ◌∷◌, ◌≡◌, refl, length, get_or, set, eqb}
 use Rattle.std.proofs.Common.{⊎_elim, sym, ap, ◌∙◌, subst, arith, length-set}
 use Rattle.numbers.specs.CaseLaws.{cases}
 use Rattle.numbers.specs.Decides.{Decides}
@@ -9,12 +9,11 @@ use Rattle.model.specs.Header.{state_of}
 use Rattle.model.specs.State.{State}
 use Rattle.model.specs.Entries.{valid, not_valid}
 use Rattle.model.specs.declared.Machine.{Machine}
-use Rattle.operation_log.specs.Log.{record_at}
-use Rattle.operation_log.specs.declared.Found.{Found}
-use Rattle.operation_log.specs.declared.Found.TheVariants.{Record, End, Refused}
+use Rattle.operation_log.specs.Log.{Read, record_at}
+use Rattle.operation_log.specs.declared.Taken.{Taken}
 use Rattle.replay.specs.Replay.{Course, Replayed, stop_number, onward, goes_on, replay_from, replay_refused, JudgedReplay}
 use Rattle.box_header.specs.Numbers.{HeaderGood, machine_of, changed}
-use Rattle.box_cores.specs.Boxes.{Box, box, state_in, box_of, left_in}
+use Rattle.box_cores.specs.Boxes.{Box, box, state_in, box_of}
 use Rattle.box_cores.specs.CoreLaws.{left_same}
 use Rattle.box_cores.specs.Given.{Judgement, met, unmet, Whole, not_valid_answer, same}
 use Rattle.box_replay.specs.Given.{ReplayGiven, replay_given, ReplayAsked, replayed_by, replay_gives, none_taken, replay_not_valid, stored_by}
@@ -34,15 +33,15 @@ one_put (m ∷ []) n e = refl
 one_put (m ∷ k ∷ ms) n e = absurd (omega arith)
 
 -- ---- a replay that began is never refused
-goes_stored : (found : Found) (c : Course) (rest : Replayed) → stored_by rest.stop ≡ 0 → stored_by (goes_on found c rest).stop ≡ 0
-goes_stored Record c rest e = e
-goes_stored End c rest e = refl
-goes_stored (Refused why) c rest e = refl
+goes_stored : (read : Read) (c : Course) (rest : Taken → Replayed) → ((taken : Taken) → stored_by (rest taken).stop ≡ 0) → stored_by (goes_on read c rest).stop ≡ 0
+goes_stored (Ok (Some taken)) c rest e = e taken
+goes_stored (Ok None) c rest e = refl
+goes_stored (Err why) c rest e = refl
 
 from_stored : (most : ℕ) (log : List ℕ) (c : Course) → stored_by (replay_from most log c).stop ≡ 0
 unfolding replay_from
 from_stored zero log c = refl
-from_stored (suc most) log c = goes_stored (record_at log c.place).found c _ (from_stored most log (onward c (record_at log c.place)))
+from_stored (suc most) log c = goes_stored (record_at log c.place) c _ (λ taken. from_stored most log (onward c taken))
 
 -- ---- for a box of words
 module _ (cpuSlots dmaSlots : ℕ) (b : Box (List ℕ)) (log place : List ℕ) (most : ℕ) (answers taken : List ℕ) where

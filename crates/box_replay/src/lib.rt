@@ -41,13 +41,12 @@ fn refused(cpu: [u64; SLOTS as usize], dma: [u64; SLOTS as usize]) -> ReplayFini
 }
 
 // 0 where the box was taken, and its words are to be stored.
-fn stored_by(stop: Stop) -> u64
+fn stored_by(stop: Result<(), Stop>) -> u64
     ensures { result ≡ stored_by stop }
 {
     match stop {
-        Stop::Done => 0,
-        Stop::Unreadable(why) => 0,
-        Stop::NotValid => 1,
+        Err(Stop::NotValid) => 1,
+        _ => 0,
     }
 }
 

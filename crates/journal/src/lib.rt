@@ -11,7 +11,6 @@ ghost use Rattle.journal.specs.Given.{log_given, log_written, row_given, log_rea
 ghost use Rattle.slots.specs.Slots.{words, slots_of};
 
 use numbers::{ROW_NUMBERS, Refusal, SLOTS};
-use operation_log::{Found, Written};
 use slots::Slot;
 
 // Writes a row's record at the place, and moves the place past it. Refused, it leaves both.
@@ -23,13 +22,12 @@ pub extern "C" fn tiligormis_log_write(row: &[u64], log: &mut [u8], place: &mut 
         return numbers::refusal_number(Refusal::StateNotValid);
     }
     let eight = box_header::eight(row);
-    let put = operation_log::write(eight, log, place[0] as usize);
-    match put {
-        Written::Past(next) => {
+    match operation_log::write(eight, log, place[0] as usize) {
+        Ok(next) => {
             place[0] = next as u64;
             0
         }
-        Written::Refused(why) => operation_log::log_refusal_number(why),
+        Err(why) => u64::from(why),
     }
 }
 
@@ -54,20 +52,17 @@ pub extern "C" fn tiligormis_log_read(log: &[u8], place: &mut [u64], row: &mut [
     if !((row.len() == ROW_NUMBERS) & (place.len() == 1)) {
         return numbers::refusal_number(Refusal::StateNotValid);
     }
-    let taken = operation_log::read_at(log, place[0] as usize);
-    let found = taken.found;
-    match found {
-        Found::Record => {
-            let eight = taken.row;
-            put_row(row, eight);
+    match operation_log::record_at(log, place[0] as usize) {
+        Ok(Some(taken)) => {
+            put_row(row, taken.row);
             place[0] = taken.next as u64;
             0
         }
-        Found::End => {
+        Ok(None) => {
             put_row(row, [0; ROW_NUMBERS]);
             0
         }
-        Found::Refused(why) => operation_log::log_refusal_number(why),
+        Err(why) => u64::from(why),
     }
 }
 

@@ -6,12 +6,12 @@
 ghost use Rattle.std.specs.Prelude.{◌≤◌, ◌≡◌, length};
 ghost use Rattle.logbox.specs.Room.{LOG_ROOM};
 
-use batch::print::{print_between, print_text};
+use batch::print::print_text;
 use batch::{End, Phase, Work, ended, written};
 use numbers::ROW_NUMBERS;
-use operation_log::{LogRefusal, Written};
 use reading::{LF, PIECE, bad_after, ends};
 use script::{Line, Reader};
+use std::fmt::Display;
 use std::io::{Read, Write};
 
 // The room in which records wait to be written.
@@ -43,11 +43,12 @@ fn flushed<W: Write>(to: &mut W, logged: Logged, room: &[u8]) -> Logged
 // ---- What each kind of line does.
 
 // A line that ends it: which one, and why.
-fn refused<E: Write>(errors: &mut E, logged: Logged, why: &[u8]) -> Logged
+fn refused<E: Write, D: Display>(errors: &mut E, logged: Logged, why: &D) -> Logged
     ensures { result.waiting ≡ logged.waiting }
 {
     let work = logged.work;
-    print_between(errors, b"line ", work.line, why);
+    let line = work.line;
+    let _ = writeln!(errors, "line {line}: {why}");
     Logged {
         work: ended(work, End::NotUnderstood),
         waiting: logged.waiting,
@@ -72,19 +73,9 @@ fn new_box<E: Write>(errors: &mut E, logged: Logged) -> Logged
     let work = logged.work;
     let phase = work.phase;
     let Phase::NoBox = phase else {
-        return refused(errors, logged, b": a second box\n");
+        return refused(errors, logged, &"a second box");
     };
     passed(logged, Phase::Told)
-}
-
-// A row that has no record.
-fn unlogged<E: Write>(errors: &mut E, logged: Logged, why: LogRefusal) -> Logged
-    ensures { result.waiting ≡ logged.waiting }
-{
-    if let LogRefusal::UnknownKind = why {
-        return refused(errors, logged, b": unknown kind\n");
-    }
-    refused(errors, logged, b": does not fit\n")
 }
 
 // The row's record, behind those that wait.
@@ -98,9 +89,8 @@ fn new_row<W: Write, E: Write>(
     requires { logged.waiting ≤ LOG_ROOM }
     ensures { result.waiting ≤ LOG_ROOM }
 {
-    let put = operation_log::write(row, room, logged.waiting);
-    match put {
-        Written::Past(next) => {
+    match operation_log::write(row, room, logged.waiting) {
+        Ok(next) => {
             let work = logged.work;
             let more = Logged {
                 work,
@@ -112,7 +102,7 @@ fn new_row<W: Write, E: Write>(
             }
             flushed(to, begun, room)
         }
-        Written::Refused(why) => unlogged(errors, logged, why),
+        Err(why) => refused(errors, logged, &why),
     }
 }
 
@@ -160,7 +150,7 @@ fn line<W: Write, E: Write>(
             g,
         } => new_row(to, errors, next, [operation, a, b, c, d, e, f, g], room),
         Line::Free => passed(next, Phase::Begun),
-        Line::Unreadable => refused(errors, next, b": not understood\n"),
+        Line::Unreadable => refused(errors, next, &"not understood"),
     }
 }
 

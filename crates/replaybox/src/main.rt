@@ -177,29 +177,13 @@ fn carried(
 
 // Where it stands after so many records that were asked for: a record that is cut short, and a log that ended, may go on where
 // more of the file is to come.
-fn way_after(stop: Stop, source: Source, left: u64, all: bool) -> Way {
+fn way_after(stop: Result<(), Stop>, source: Source, left: u64, all: bool) -> Way {
     match stop {
-        Stop::Done => {
-            if left == 0 {
-                return Way::Done;
-            }
-            if all {
-                return Way::Open;
-            }
-            if may_grow(source) {
-                return Way::Open;
-            }
-            Way::Done
-        }
-        Stop::Unreadable(why) => {
-            if let LogRefusal::CutShort = why {
-                if may_grow(source) {
-                    return Way::Open;
-                }
-            }
-            Way::Unreadable(why)
-        }
-        Stop::NotValid => Way::NotValid,
+        Ok(()) if left > 0 && (all || may_grow(source)) => Way::Open,
+        Ok(()) => Way::Done,
+        Err(Stop::Unreadable(LogRefusal::CutShort)) if may_grow(source) => Way::Open,
+        Err(Stop::Unreadable(why)) => Way::Unreadable(why),
+        Err(Stop::NotValid) => Way::NotValid,
     }
 }
 
@@ -366,14 +350,6 @@ fn replay_all<R: Read, W: Write>(
 
 // ---- What is said at the end.
 
-fn print_unreadable<W: Write>(to: &mut W, why: LogRefusal, offset: u64) -> bool {
-    match why {
-        LogRefusal::CutShort => print_between(to, b"byte ", offset, b": cut short\n"),
-        LogRefusal::UnknownKind => print_between(to, b"byte ", offset, b": unknown kind\n"),
-        _ => print_between(to, b"byte ", offset, b": wrong length\n"),
-    }
-}
-
 // The lines behind those of the records.
 fn print_stop<W: Write>(to: &mut W, course: Course) -> bool {
     let way = course.way;
@@ -385,7 +361,7 @@ fn print_stop<W: Write>(to: &mut W, course: Course) -> bool {
     }
     if let Way::Unreadable(why) = way {
         let offset = std::num::wrapping_add_u64(source.before, source.place as u64);
-        if !print_unreadable(to, why, offset) {
+        if writeln!(to, "byte {offset}: {why}").is_err() {
             return false;
         }
     }

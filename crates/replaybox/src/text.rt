@@ -5,6 +5,7 @@ ghost use Rattle.replaybox.specs.Room.{ROW_BYTES};
 
 use batch::print::{ANSWER_ROOM, BATCH, NUMBER_BYTES, print_text, put, put_answer};
 use numbers::{ANSWER_NUMBERS, ROW_NUMBERS};
+use operation_log::Reader;
 use std::io::Write;
 
 const BLANK: u8 = 32;
@@ -46,14 +47,14 @@ pub fn print_records<W: Write>(
 {
     let mut text = [0u8; TEXT];
     let mut at = 0;
-    let mut from = place;
+    let mut reader = Reader::new(log, place);
     let mut k = 0;
     while k < count {
-        let record = operation_log::read_at(log, from);
-        let row = record.row;
-        let answered = put_row(&mut text, at, row);
+        let Ok(Some(record)) = reader.next() else {
+            break;
+        };
+        let answered = put_row(&mut text, at, record.row);
         at = put_answer(&mut text, answered, room, k);
-        from = record.next;
         k += 1;
     }
     print_text(to, &text[..at])

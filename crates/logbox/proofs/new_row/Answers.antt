@@ -7,8 +7,8 @@ use Rattle.logbox.proofs.new_row.Goals as goal
 
 pub flushed-requires : goal.flushed-requires
 flushed-requires g c =
-    let inside : c.in-Past.next ≤ LOG_ROOM =
-    let there = (taken_written _ _ _ _ (sym c.write-put.ensures.0 ∙ c.in-Past.is)).inside in
+    let inside : c.in-Ok.next ≤ LOG_ROOM =
+    let there = (taken_written _ _ _ _ (sym c.write.ensures.0 ∙ c.in-Ok.is)).inside in
     omega (arith, there)
     in
     (omega (arith, inside, c.passed-begun.ensures), search rules)
