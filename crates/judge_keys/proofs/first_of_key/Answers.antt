@@ -5,8 +5,8 @@ use Rattle.judge_keys.proofs.first_of_key.Goals as goal
 
 pub returns-in-At : goal.returns-in-At
 returns-in-At c =
-    let e = rw c.key_of-key.ensures at (sym c.find-there.ensures ∙ c.in-At.is) in
+    let e = rw c.key_of-key.ensures at (sym c.find.ensures ∙ c.in-At.is) in
     rw c.key_of-key.ensures (new_found _ _ c.requires _ e)
 
 pub returns-in-Nothing : goal.returns-in-Nothing
-returns-in-Nothing c = new_none _ _ c.requires (rw c.key_of-key.ensures at (sym c.find-there.ensures ∙ c.in-Nothing.is))
+returns-in-Nothing c = new_none _ _ c.requires (rw c.key_of-key.ensures at (sym c.find.ensures ∙ c.in-Nothing.is))
