@@ -7,7 +7,10 @@ use Rattle.numbers.specs.Limits.{ROW_NUMBERS, ANSWER_NUMBERS}
 use Rattle.numbers.specs.Meaning.{answer_numbers, Answer, accept, refuse}
 use Rattle.numbers.specs.declared.Operation.{Operation}
 use Rattle.table.specs.Loops.{Repeating, repeat_start, repeat_next, repeat_end}
+use Rattle.std.specs.Borrow.{MutBor}
+use Rattle.model.specs.Header.{Same}
 use Rattle.model.specs.State.{State, Tables, Route}
+use Rattle.model.specs.declared.Lent.{Lent}
 use Rattle.model.specs.declared.Fixed.{Fixed}
 use Rattle.operate.specs.Fit.{Fit}
 use Rattle.numbers.specs.declared.Refusal.{Refusal}
@@ -51,6 +54,10 @@ turn_sizes rows k p = row_sizes p.state (operation_in (row_at rows k))
 
 turn_room : (rows : List ℕ) (k : ℕ) (p : Progress) → length (turn rows k p).room ≡ length p.room
 turn_room rows k p = length-written p.room (k * ANSWER_NUMBERS) (answer_numbers (step_row p.state (row_at rows k)).answer)
+
+-- ---- the slices that were lent are lent on
+pub same_join : (a b c : Lent (MutBor (List ℕ))) → Same a b → Same b c → Same a c
+same_join a b c p q = (q.0 ∙ p.0, q.1 ∙ p.1, q.2 ∙ p.2, q.3 ∙ p.3, q.4 ∙ p.4, q.5 ∙ p.5, q.6 ∙ p.6, q.7 ∙ p.7, q.8 ∙ p.8)
 
 -- ---- after k of n rows
 pub record Running (rows : List ℕ) (n : ℕ) (start now : Progress) (k : ℕ) : Type 0 where
