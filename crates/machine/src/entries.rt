@@ -10,11 +10,7 @@ use model::{Lent, Machine};
 use numbers::{Answer, PhysPage, ROW_NUMBERS, Refusal, Refused, refuse};
 
 // ---- One operation, as a row; an unknown one is refused.
-pub fn operation(
-    m: &mut Machine,
-    lent: &mut Lent<&mut [u64]>,
-    row: [u64; ROW_NUMBERS],
-) -> Answer
+pub fn operation(m: &mut Machine, lent: &mut Lent<&mut [u64]>, row: [u64; ROW_NUMBERS]) -> Answer
     ensures judged { JudgedRow (state_of m.old (lists lent.old)) row (outcome result m.new (lists lent.new)) }
     ensures same { Same lent.old lent.new }
 {
