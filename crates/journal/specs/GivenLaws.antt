@@ -1,27 +1,15 @@
--- A row that is put whole, and from what `operation_log` says to what the functions for C give.
-use Rattle.std.specs.Prelude.{ℕ, ◌+◌, ◌<◌, true, false, Some, None, Result, Ok, Err, List, ◌≡◌, length, get_or, set, replicate}
-use Rattle.std.proofs.Common.{ap, ◌∙◌, arith, ext_get_or}
+-- From what `operation_log` says to what the functions for C give.
+use Rattle.std.specs.Prelude.{ℕ, true, false, Some, None, Result, Ok, Err, List, ◌≡◌, length, get_or, set, replicate}
+use Rattle.std.proofs.Common.{ap, ◌∙◌}
 use Rattle.numbers.specs.DecidesLaws.{decides_and, decides_equal}
 use Rattle.numbers.specs.Limits.{ROW_NUMBERS}
 use Rattle.numbers.specs.Meaning.{refusal_number}
 use Rattle.numbers.specs.declared.Refusal.TheVariants.{StateNotValid}
-use Rattle.model.specs.Sequence.{write_at}
-use Rattle.model.specs.WriteLaws.{length-written, written_here}
 use Rattle.operation_log.specs.Log.{log_refusal_number, Read, record_at, written_at, written}
 use Rattle.operation_log.specs.declared.LogRefusal.{LogRefusal}
 use Rattle.operation_log.specs.declared.Taken.{Taken}
-use Rattle.box_header.specs.PutLaws.{Putting, put_next}
 use Rattle.box_replay.specs.GivenLaws.{one_put}
 use Rattle.journal.specs.Given.{shaped, log_given, log_written, row_given, log_read}
-
--- ---- numbers put over as many, one by one, leave nothing of them
-pub put_more : (room ns now : List ℕ) (k : ℕ) → Putting room 0 ns now k → k < length ns → Putting room 0 ns (set now k (get_or ns k 0)) (k + 1)
-put_more room ns now k p h = let z : 0 + k ≡ k = omega arith in rw z at (put_next room 0 ns now k p h)
-
-pub put_whole : (room ns : List ℕ) → length room ≡ length ns → write_at room 0 ns ≡ ns
-put_whole room ns e =
-    ext_get_or 0 (write_at room 0 ns) ns (length-written room 0 ns ∙ e)
-    (λ i h. let l = length-written room 0 ns in let z : 0 + i ≡ i = omega arith in rw z at (written_here room 0 ns i (omega arith) (omega arith)))
 
 -- ---- a row or a place of another length
 module _ (row place : List ℕ) {number : ℕ} (s : shaped row place ≡ false) (k : number ≡ refusal_number StateNotValid) (log : List ℕ) where
