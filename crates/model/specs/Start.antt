@@ -36,11 +36,13 @@ number_told numbers k field = get_or numbers (k * UNIT_NUMBERS + field) 0
 abbrev pub unit_told : List ℕ → ℕ → Unit
 unit_told numbers k =
     record {
-      vm = record { 0 = number_told numbers k 0 };
-      guest = record { 0 = number_told numbers k 1 };
-      page = record { 0 = number_told numbers k 2 };
-      count = number_told numbers k 3;
-      access = number_told numbers k 4;
+      region = record {
+        vm = record { 0 = number_told numbers k 0 };
+        guest = record { 0 = number_told numbers k 1 };
+        page = record { 0 = number_told numbers k 2 };
+        count = number_told numbers k 3;
+        access = number_told numbers k 4;
+      };
       mark = mark_of (number_told numbers k 5);
     }
 
@@ -57,7 +59,7 @@ abbrev pub bad_field : List ℕ → ℕ → Bool
 bad_field numbers k = not (is_vm (number_told numbers k 0) && is_access (number_told numbers k 4) && is_mark (number_told numbers k 5))
 
 abbrev pub unit_region : Unit → Region
-unit_region unit = record { vm = unit.vm; guest = unit.guest; page = unit.page; count = unit.count; access = unit.access }
+unit_region unit = unit.region
 
 abbrev pub bad_span : ℕ → List ℕ → ℕ → Bool
 bad_span pages numbers k = not (region_span (unit_region (unit_told numbers k)) pages)

@@ -75,13 +75,13 @@ pub const ADDRESS_FIELD: u64 = VM_FIELD * GUEST_FIELD * 2;
 
 // ---- Kinds of number, kept apart.
 
-#[derive(Clone, Copy)]
+#[derive(Clone, Copy, PartialEq, Eq)]
 pub struct VmId(pub u64);
 
-#[derive(Clone, Copy)]
+#[derive(Clone, Copy, PartialEq, Eq)]
 pub struct GuestPage(pub u64);
 
-#[derive(Clone, Copy)]
+#[derive(Clone, Copy, PartialEq, Eq)]
 pub struct PhysPage(pub u64);
 
 // ---- The two sides of the machine, each with a map, a walker map, a cache, a hand and eight ports.
@@ -129,7 +129,7 @@ pub struct Refused {
 pub type Answer = Result<Accepted, Refused>;
 
 // ---- A region as a caller names it: the five fields that a unit must equal.
-#[derive(Clone, Copy)]
+#[derive(Clone, Copy, PartialEq, Eq)]
 pub struct Region {
     pub vm: VmId,
     pub guest: GuestPage,

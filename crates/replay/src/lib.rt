@@ -10,13 +10,11 @@ ghost use Rattle.replay.specs.Run.{carried, halted, came};
 
 use model::{Fixed, Machine, Registers};
 use numbers::{ANSWER_NUMBERS, ROW_NUMBERS, Refusal};
-use operation_log::{Found, LogRefusal};
+use operation_log::LogRefusal;
 
-// ---- Why it stopped.
-#[derive(Clone, Copy)]
+// ---- Why it stopped before as many records as were asked for were taken, or the log ended.
+#[derive(Clone, Copy, Debug, PartialEq, Eq)]
 pub enum Stop {
-    // As many records as were asked for are taken, or the log ended.
-    Done,
     Unreadable(LogRefusal),
     NotValid,
 }
@@ -24,20 +22,20 @@ pub enum Stop {
 // How far it came: the header, how many records it took, and the place of the next.
 #[derive(Clone, Copy)]
 pub struct Replayed {
-    pub stop: Stop,
+    pub stop: Result<(), Stop>,
     pub machine: Machine,
     pub taken: usize,
     pub place: usize,
 }
 
 // No answer of the machine carries a log's number.
-pub fn stop_number(stop: Stop) -> u64
+pub fn stop_number(stop: Result<(), Stop>) -> u64
     ensures { result ≡ stop_number stop }
 {
     match stop {
-        Stop::Done => 0,
-        Stop::Unreadable(why) => operation_log::log_refusal_number(why),
-        Stop::NotValid => numbers::refusal_number(Refusal::StateNotValid),
+        Ok(()) => 0,
+        Err(Stop::Unreadable(why)) => u64::from(why),
+        Err(Stop::NotValid) => numbers::refusal_number(Refusal::StateNotValid),
     }
 }
 
@@ -91,7 +89,13 @@ fn carry(
     )
 }
 
-fn halt(stop: Stop, fixed: Fixed, registers: Registers, taken: usize, place: usize) -> Replayed
+fn halt(
+    stop: Result<(), Stop>,
+    fixed: Fixed,
+    registers: Registers,
+    taken: usize,
+    place: usize,
+) -> Replayed
     ensures { result ≡ halted stop (header_of fixed registers) taken place }
 {
     Replayed {
@@ -131,26 +135,20 @@ fn run(
     let mut at = place;
     let mut taken = 0;
     while taken < most {
-        let record = operation_log::read_at(log, at);
-        let found = record.found;
-        match found {
-            Found::Record => {}
-            Found::End => {
-                return halt(Stop::Done, fixed, next, taken, at);
+        match operation_log::record_at(log, at) {
+            Ok(Some(record)) => {
+                next = carry(
+                    fixed, next, sets, pairs, cpu_map, cpu_walker, cpu_cache, dma_map, dma_walker,
+                    dma_cache, memory, record.row, room, taken,
+                );
+                at = record.next;
+                taken += 1;
             }
-            Found::Refused(why) => {
-                return halt(Stop::Unreadable(why), fixed, next, taken, at);
-            }
+            Ok(None) => return halt(Ok(()), fixed, next, taken, at),
+            Err(why) => return halt(Err(Stop::Unreadable(why)), fixed, next, taken, at),
         }
-        let row = record.row;
-        next = carry(
-            fixed, next, sets, pairs, cpu_map, cpu_walker, cpu_cache, dma_map, dma_walker,
-            dma_cache, memory, row, room, taken,
-        );
-        at = record.next;
-        taken += 1;
     }
-    halt(Stop::Done, fixed, next, taken, at)
+    halt(Ok(()), fixed, next, taken, at)
 }
 
 // ---- The entry: it asks for nothing. A state that is not valid is refused, none taken, and left with all else as it was.
@@ -180,7 +178,7 @@ pub fn replay(
         m, sets, pairs, cpu_map, cpu_walker, cpu_cache, dma_map, dma_walker, dma_cache, memory,
     ) {
         return Replayed {
-            stop: Stop::NotValid,
+            stop: Err(Stop::NotValid),
             machine: m,
             taken: 0,
             place,

@@ -1,5 +1,5 @@
 -- Laws of the loop that clears the pages of a VM, and of the search for the next of them.
-use Prim.Native.Nat.{ℕ, zero, suc, ◌+◌, ◌*◌, ◌-◌, ◌/◌, ◌%◌, ◌≤◌, ◌<◌}
+use Prim.Native.Nat.{ℕ, zero, suc, ◌+◌, ◌-◌, ◌/◌, ◌%◌, ◌≤◌, ◌<◌}
 use Rattle.std.specs.Prelude.{true, false, ◌||◌, List, ◌≡◌, refl, ltb, length}
 use Rattle.std.proofs.Common.{⊎_elim, ap, ◌∙◌, ltb-true, ltb-false}
 use Rattle.std.proofs.Math.Numerals.{add-one}

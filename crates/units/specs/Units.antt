@@ -33,19 +33,17 @@ suits Cpu side.Dma = false
 suits Dma side.Cpu = false
 suits Dma side.Dma = true
 
+abbrev pub same_region : Region → Region → Bool
+same_region r s = eqb r.vm.0 s.vm.0 && eqb r.guest.0 s.guest.0 && eqb r.page.0 s.page.0 && eqb r.count s.count && eqb r.access s.access
+
 -- the unit's five fields are the region's, and its mark suits the side
 abbrev pub is_unit : Side → Region → Unit → Bool
-is_unit s region unit =
-    suits unit.mark s
-    && eqb unit.vm.0 region.vm.0
-    && eqb unit.guest.0 region.guest.0
-    && eqb unit.page.0 region.page.0
-    && eqb unit.count region.count
-    && eqb unit.access region.access
+is_unit s region unit = suits unit.mark s && same_region unit.region region
 
 -- what stands past the units that start was given
 abbrev pub no_unit : Unit
-no_unit = record { vm = record { 0 = 0 }; guest = record { 0 = 0 }; page = record { 0 = 0 }; count = 0; access = 0; mark = Cpu }
+no_unit =
+    record { region = record { vm = record { 0 = 0 }; guest = record { 0 = 0 }; page = record { 0 = 0 }; count = 0; access = 0 }; mark = Cpu }
 
 -- any of the first n units will do, not only the first with these fields
 unfoldable pub assignable : List Unit → ℕ → Side → Region → Bool

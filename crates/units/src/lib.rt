@@ -6,7 +6,7 @@ ghost use Rattle.numbers.specs.Limits.{UNITS};
 ghost use Rattle.units.specs.Units.{mark_number, is_mark, mark_of, Marks, suits, is_unit, assignable};
 ghost use Rattle.units.specs.Spans.{span_within, region_span};
 
-use numbers::{GUEST_PAGES, GuestPage, PhysPage, Region, Side, UNITS, VmId};
+use numbers::{GUEST_PAGES, Region, Side, UNITS};
 
 // ---- Marks and their numbers.
 
@@ -70,11 +70,7 @@ pub fn suits(mark: Mark, side: Side) -> bool
 
 #[derive(Clone, Copy)]
 pub struct Unit {
-    pub vm: VmId,
-    pub guest: GuestPage,
-    pub page: PhysPage,
-    pub count: u64,
-    pub access: u64,
+    pub region: Region,
     pub mark: Mark,
 }
 
@@ -101,12 +97,7 @@ pub fn region_span(region: Region, pages: u64) -> bool
 pub fn is_unit(unit: Unit, side: Side, region: Region) -> bool
     ensures { result ≡ is_unit side region unit }
 {
-    suits(unit.mark, side)
-        & (unit.vm.0 == region.vm.0)
-        & (unit.guest.0 == region.guest.0)
-        & (unit.page.0 == region.page.0)
-        & (unit.count == region.count)
-        & (unit.access == region.access)
+    suits(unit.mark, side) & (unit.region == region)
 }
 
 pub fn assignable(units: [Unit; UNITS], count: u64, side: Side, region: Region) -> bool

@@ -57,14 +57,14 @@ pub fn has_pages(side: Side, sets: &[u64], vm: VmId) -> bool
 pub fn on_page(w: u64, page: PhysPage) -> bool
     ensures { result ≡ on_page page.0 w }
 {
-    (numbers::filled_of(w) == 1) & (numbers::page_of(w).0 == page.0)
+    (numbers::filled_of(w) == 1) & (numbers::page_of(w) == page)
 }
 
 // A mapping of the VM.
 pub fn of_vm(w: u64, vm: VmId) -> bool
     ensures { result ≡ of_vm vm.0 w }
 {
-    (numbers::filled_of(w) == 1) & (numbers::vm_of(w).0 == vm.0)
+    (numbers::filled_of(w) == 1) & (numbers::vm_of(w) == vm)
 }
 
 // A pair that has the VM at an end.
@@ -72,7 +72,7 @@ pub fn joins(w: u64, vm: VmId) -> bool
     ensures { result ≡ joins vm.0 w }
 {
     (numbers::filled_of(w) == 1)
-        & ((numbers::left_of(w).0 == vm.0) | (numbers::right_of(w).0 == vm.0))
+        & ((numbers::left_of(w) == vm) | (numbers::right_of(w) == vm))
 }
 
 // Where the pair of these two on the page stands, in whichever order of its ends.

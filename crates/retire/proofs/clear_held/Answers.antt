@@ -1,5 +1,4 @@
 -- `retire::clear_held` meets its contract: the pages before this one are done.
-use Prim.Native.Nat.{◌-◌}
 use Rattle.retire.specs.HeldLaws.{clear_start, clear_hit, clear_miss, clear_skip, clear_end}
 use Rattle.retire.proofs.clear_held.Goals as goal
 use Rattle.retire.proofs.clear_held.Goals.{else-claims, then-claims}
