@@ -11,7 +11,7 @@ use crate::{POOL, SHARED, cpu_row, dma_row, toggle};
 use model::{Fixed, Machine, Registers, SideRegisters};
 use numbers::{
     ACCESS_BIT, ACCESSES, ENTRIES, FILLED_BIT, GENERATIONS, GUEST_BIT, GUEST_PAGES, GuestPage,
-    IDLE, PAGE_BIT, PAIRS, PORT_BIT, PORTS, PhysPage, UNITS, VM_BIT, VMS, VmId,
+    IDLE, PAGE_BIT, PAIRS, PORT_BIT, PORTS, PhysPage, Region, UNITS, VM_BIT, VMS, VmId,
 };
 use units::{Mark, Unit};
 
@@ -41,12 +41,15 @@ pub fn pair(left: u64, right: u64, page: u64) -> u64
 }
 
 pub fn unit(vm: u64, guest: u64, page: u64, count: u64, access: u64) -> Unit {
-    Unit {
+    let region = Region {
         vm: VmId(vm),
         guest: GuestPage(guest),
         page: PhysPage(page),
         count,
         access,
+    };
+    Unit {
+        region,
         mark: Mark::Both,
     }
 }

@@ -8,7 +8,7 @@ ghost use Rattle.model.specs.Valid.{UnitGood, SetupGood, KnownGood};
 ghost use Rattle.judge.specs.Parts.{RouteSizes, Sizes, SetupNumbers};
 
 use model::{Fixed, Lent};
-use numbers::{ACCESSES, ENTRIES, PAGES, PAIRS, Region, SET_WORDS, SETS, SLOTS, UNITS, VMS};
+use numbers::{ACCESSES, ENTRIES, PAGES, PAIRS, SET_WORDS, SETS, SLOTS, UNITS, VMS};
 use units::Unit;
 
 // ---- 1: lengths. The units and the ports have theirs by type.
@@ -33,14 +33,8 @@ pub fn lengths(seen: Lent<&[u64]>) -> bool
 fn unit_good(unit: &Unit, pages: u64) -> bool
     ensures { Decides result (UnitGood pages unit.now) }
 {
-    let region = Region {
-        vm: unit.vm,
-        guest: unit.guest,
-        page: unit.page,
-        count: unit.count,
-        access: unit.access,
-    };
-    (unit.vm.0 < VMS) & (unit.access < ACCESSES) & units::region_span(region, pages)
+    let region = unit.region;
+    (region.vm.0 < VMS) & (region.access < ACCESSES) & units::region_span(region, pages)
 }
 
 // Units past the count are not judged.
