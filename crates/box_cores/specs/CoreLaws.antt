@@ -38,7 +38,7 @@ module _ (b : Box (List ℕ)) (h : HeaderGood b.header) where
   -- a state that is as it was is left in the box as it was
   pub left_same : left_in same b s ≡ b
   left_same = ap (λ (header : List ℕ). record { header = header; sets = b.sets; pairs = b.pairs; cpu_map = b.cpu_map; cpu_walker = b.cpu_walker; cpu_cache = b.cpu_cache; dma_map = b.dma_map; dma_walker = b.dma_walker; dma_cache = b.dma_cache; memory = b.memory })
-      (changed_same b.header h.whole b.sets b.pairs b.cpu_map b.cpu_walker b.cpu_cache b.dma_map b.dma_walker b.dma_cache)
+      (changed_same b.header h.whole (lent_in same b))
 
   left_kept : (answer : Answer) (new : State) → new ≡ kept answer s new → left_in same b new ≡ kept answer b (left_in same b new)
   left_kept (Ok ok) new e = refl

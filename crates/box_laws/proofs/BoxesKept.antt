@@ -23,7 +23,7 @@ use Rattle.model.proofs.Kept.{row_valid, sequence_valid}
 use Rattle.model.proofs.StartKept.{start_valid, empty_not_valid}
 use Rattle.model.proofs.Answers.{after_next}
 use Rattle.box_header.specs.HeaderLaws.{changed_good, state_changed, begun_good, state_begun}
-use Rattle.box_header.specs.Numbers.{fixed_of, machine_of, HeaderGood, changed, begun}
+use Rattle.box_header.specs.Numbers.{fixed_of, machine_of, lists_of, HeaderGood, changed, begun}
 use Rattle.box_cores.specs.Boxes.{Box, BoxValid, state_in, lent_in, with_header, left_in, begun_in}
 use Rattle.box_cores.specs.Given.{Judgement, met, unmet, operation_gives, sequence_gives, start_gives, HeaderWhole}
 
@@ -64,7 +64,7 @@ module _ {C : Type 0} (words_of : C → List ℕ) (cacheOf : List ℕ → C) (ba
   module _ (b : Box C) (new : State) (h : HeaderGood b.header) (v : Valid new) where
     pub left_state : new.tables.setup ≡ setup_of (fixed_of b.header) → state_in words_of (left_in cacheOf b new) ≡ new
     left_state e =
-        (λ i. state_of (machine_of (changed b.header new.tables)) new.tables.sets new.tables.pairs new.tables.cpu.map new.tables.cpu.walker (back new.tables.cpu.cache i) new.tables.dma.map new.tables.dma.walker (back new.tables.dma.cache i) new.memory)
+        (λ i. state_of (machine_of (changed b.header new.tables)) (record (lists_of new.tables new.memory) { cpu_cache = back new.tables.cpu.cache i; dma_cache = back new.tables.dma.cache i }))
         ∙ state_changed b.header new h.whole v.tables.lengths.cpu.ports v.tables.lengths.dma.ports e
 
     pub left_valid : new.tables.setup ≡ setup_of (fixed_of b.header) → BoxValid words_of (left_in cacheOf b new)
@@ -124,7 +124,7 @@ module _ {C : Type 0} (words_of : C → List ℕ) (cacheOf : List ℕ → C) (ba
 
     begun_state : state_in words_of (begun_in cacheOf b new) ≡ new
     begun_state =
-        (λ i. state_of (machine_of (begun b.header new.tables)) new.tables.sets new.tables.pairs new.tables.cpu.map new.tables.cpu.walker (back new.tables.cpu.cache i) new.tables.dma.map new.tables.dma.walker (back new.tables.dma.cache i) new.memory)
+        (λ i. state_of (machine_of (begun b.header new.tables)) (record (lists_of new.tables new.memory) { cpu_cache = back new.tables.cpu.cache i; dma_cache = back new.tables.dma.cache i }))
         ∙ state_begun b.header new h v.tables.lengths.units v.tables.lengths.cpu.ports v.tables.lengths.dma.ports
 
     pub start_state : state_in words_of (start_gives words_of cacheOf b told).box ≡ new

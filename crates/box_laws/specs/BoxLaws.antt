@@ -1,5 +1,5 @@
 -- From what a core gives for a box of words to what an entry gives for the box of slots behind it.
-use Rattle.std.specs.Prelude.{ℕ, ◌<◌, Bool, List, ◌≡◌, length, Ok, Err}
+use Rattle.std.specs.Prelude.{ℕ, ◌<◌, Bool, List, ◌≡◌, eqb, length, Ok, Err}
 use Rattle.std.proofs.Math.Logic.{⊎_elim}
 use Rattle.std.proofs.Math.Path.{sym}
 use Rattle.std.proofs.Common.{ap, ◌∙◌, arith}
@@ -81,7 +81,7 @@ module _ (header sets pairs cpu_map cpu_walker : List ℕ) (cpuSlots : List Slot
 
     -- ---- words that are stored
     abbrev kept_in : Box (List ℕ) → Box (List Slot)
-    kept_in x = box x.header x.sets x.pairs x.cpu_map x.cpu_walker (stored number x.cpu_cache cpuSlots) x.dma_map x.dma_walker (stored number x.dma_cache dmaSlots) x.memory
+    kept_in x = box x.header x.sets x.pairs x.cpu_map x.cpu_walker (stored (eqb number 0) x.cpu_cache cpuSlots) x.dma_map x.dma_walker (stored (eqb number 0) x.dma_cache dmaSlots) x.memory
 
     -- a refusal's are not
     stored_back : 0 < number → (h : List ℕ) → kept_in (with_header of_words h) ≡ with_header of_slots h
@@ -90,8 +90,8 @@ module _ (header sets pairs cpu_map cpu_walker : List ℕ) (cpuSlots : List Slot
     -- the words of a new state, in whole caches
     pub stored_new : AllThere → number ≡ 0 → (h : List ℕ) (s : State) → left_words ≡ box_of same h s → kept_in left_words ≡ box_of slots_of h s
     stored_new w z h s e =
-        let p : stored number cpuLeft cpuSlots ≡ slots_of cpuLeft = ap (λ (k : ℕ). stored k cpuLeft cpuSlots) z ∙ stored_whole cpuLeft cpuSlots cpuLength w.0 in
-        let q : stored number dmaLeft dmaSlots ≡ slots_of dmaLeft = ap (λ (k : ℕ). stored k dmaLeft dmaSlots) z ∙ stored_whole dmaLeft dmaSlots dmaLength w.1 in
+        let p : stored (eqb number 0) cpuLeft cpuSlots ≡ slots_of cpuLeft = ap (λ (k : ℕ). stored (eqb k 0) cpuLeft cpuSlots) z ∙ stored_whole cpuLeft cpuSlots cpuLength w.0 in
+        let q : stored (eqb number 0) dmaLeft dmaSlots ≡ slots_of dmaLeft = ap (λ (k : ℕ). stored (eqb k 0) dmaLeft dmaSlots) z ∙ stored_whole dmaLeft dmaSlots dmaLength w.1 in
         rw (p, q) (ap (λ (x : Box (List ℕ)). box x.header x.sets x.pairs x.cpu_map x.cpu_walker (slots_of x.cpu_cache) x.dma_map x.dma_walker (slots_of x.dma_cache) x.memory) e)
 
     stored_kept : AllThere → (answer : Answer) (old new : List ℕ) (s : State) → number ≡ number_of answer → left_words ≡ kept answer (with_header of_words old) (box_of same new s) → kept_in left_words ≡ kept answer (with_header of_slots old) (box_of slots_of new s)
@@ -102,7 +102,7 @@ module _ (header sets pairs cpu_map cpu_walker : List ℕ) (cpuSlots : List Slot
     pub stored_unjudged : (h : List ℕ) → number ≡ number_of not_valid_answer → left_words ≡ with_header of_words h → kept_in left_words ≡ with_header of_slots h
     stored_unjudged h z e = ap kept_in e ∙ stored_back (omega (arith, z)) h
 
-    module _ (cpuAfter dmaAfter : List Slot) (cpuStored : cpuAfter ≡ stored number cpuLeft cpuSlots) (dmaStored : dmaAfter ≡ stored number dmaLeft dmaSlots) where
+    module _ (cpuAfter dmaAfter : List Slot) (cpuStored : cpuAfter ≡ stored (eqb number 0) cpuLeft cpuSlots) (dmaStored : dmaAfter ≡ stored (eqb number 0) dmaLeft dmaSlots) where
       abbrev left_slots : Box (List Slot)
       left_slots = box header' sets' pairs' cpuMap' cpuWalker' cpuAfter dmaMap' dmaWalker' dmaAfter memory'
 

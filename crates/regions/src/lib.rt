@@ -6,9 +6,11 @@ ghost use Rattle.std.specs.Prelude.{◌≡◌};
 ghost use Rattle.model.specs.Regions.{region_early, insert_answer, remove_may, remove_answer};
 ghost use Rattle.regions.specs.Parts.{Sized, InsertReady, InsertDone, InsertLeft, RemoveSized, RemoveReady, RemoveDone, RemoveLeft};
 
+use crate::placed::PlacedRegion;
 use numbers::{ACCESSES, Answer, Refusal, Region, Side, VMS, accept, refuse};
 
 mod edits; // edits.rt: what the deeds change
+mod placed; // placed.rt: a region whose numbers are in range
 mod searches; // searches.rt: the lowest page of a region that fails a check
 
 // Early checks, of numbers alone. Spans are judged by refusal 3 and never by 2.
@@ -47,13 +49,14 @@ pub fn insert_answer(
     if !unit {
         return refuse(Refusal::NoSuchUnit, 0);
     }
-    if let Some(taken) = searches::lowest_not_free(side, sets, region) {
+    let placed = PlacedRegion { region };
+    if let Some(taken) = searches::lowest_not_free(side, sets, placed) {
         return refuse(Refusal::PageNotHeld, taken);
     }
-    if let Some(mapped) = searches::lowest_present(map, region) {
+    if let Some(mapped) = searches::lowest_present(map, placed) {
         return refuse(Refusal::MappingPresent, mapped);
     }
-    if let Some(claimed) = searches::lowest_claimed(side, sets, region) {
+    if let Some(claimed) = searches::lowest_claimed(side, sets, placed) {
         return refuse(Refusal::PageClaimed, claimed);
     }
     if table::free_entries(map) < region.count {
@@ -67,9 +70,10 @@ pub fn insert_do(side: Side, sets: &mut [u64], map: &mut [u64], walker: &mut [u6
     requires { InsertReady sets.old region }
     ensures { InsertDone sets.old map.old walker.old side region sets.new map.new walker.new }
 {
-    edits::take_pages(side, sets, region);
-    edits::install(map, region);
-    edits::install(walker, region);
+    let placed = PlacedRegion { region };
+    edits::take_pages(side, sets, placed);
+    edits::install(map, placed);
+    edits::install(walker, placed);
 }
 
 pub fn insert_region(
@@ -112,13 +116,14 @@ pub fn remove_may(
     if !unit {
         return refuse(Refusal::NoSuchUnit, 0);
     }
-    if let Some(missing) = searches::lowest_not_held(side, sets, region) {
+    let placed = PlacedRegion { region };
+    if let Some(missing) = searches::lowest_not_held(side, sets, placed) {
         return refuse(Refusal::PageNotHeld, missing);
     }
-    if let Some(other) = searches::lowest_differs(map, region) {
+    if let Some(other) = searches::lowest_differs(map, placed) {
         return refuse(Refusal::MappingDiffers, other);
     }
-    if let Some(used) = searches::lowest_in_use(side, pairs, map, region) {
+    if let Some(used) = searches::lowest_in_use(side, pairs, map, placed) {
         return refuse(Refusal::StillInUse, used);
     }
     accept(0)
@@ -139,11 +144,12 @@ pub fn remove_do(
     ensures { RemoveDone sets.old map.old walker.old cache.old memory.old side region result
         sets.new map.new walker.new cache.new memory.new }
 {
-    edits::clear_pages(side, sets, memory, region);
-    edits::return_pages(side, sets, region);
-    edits::sweep(map, region);
-    edits::sweep(walker, region);
-    edits::sweep(cache, region)
+    let placed = PlacedRegion { region };
+    edits::clear_pages(side, sets, memory, placed);
+    edits::return_pages(side, sets, placed);
+    edits::sweep(map, placed);
+    edits::sweep(walker, placed);
+    edits::sweep(cache, placed)
 }
 
 #[tactic(auto, unfolding(model::specs::Regions::remove_answer, model::specs::Effect::apply, model::specs::Effect::cleared_pages))]

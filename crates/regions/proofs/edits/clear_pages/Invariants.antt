@@ -3,4 +3,4 @@ use Rattle.regions.specs.RegionLaws.{Clearing}
 use Rattle.regions.proofs.edits.clear_pages.Given as goal
 
 abbrev pub invariant-loop-k : goal.invariant-loop-k
-invariant-loop-k l = Clearing l.side l.sets l.region l.initial.memory l.memory l.k
+invariant-loop-k l = Clearing l.side l.sets l.placed.region l.initial.memory l.memory l.k

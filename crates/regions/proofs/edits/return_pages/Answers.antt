@@ -5,7 +5,7 @@ use Rattle.regions.proofs.edits.return_pages.Goals as goal
 
 pub loop-k-preserved : goal.loop-k-preserved
 loop-k-preserved c =
-    sweep_next _ _ _ _ _ _ c.loop-k.invariant c.loop-k-test.true (rw (c.return_page.ensures, c.page_in.ensures)) c.return_page.auto.sets
+    sweep_next _ _ _ _ _ _ c.loop-k.invariant c.loop-k-test.true (rw (c.return_page.ensures, c.page.ensures)) c.return_page.auto.sets
 
 pub returns : goal.returns
 unfolding remove_sets

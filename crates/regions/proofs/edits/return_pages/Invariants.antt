@@ -5,4 +5,4 @@ use Rattle.model.specs.Regions.{remove_page, page_in}
 use Rattle.regions.proofs.edits.return_pages.Given as goal
 
 abbrev pub invariant-loop-k : goal.invariant-loop-k
-invariant-loop-k l = Sweeping (λ (i : ℕ). remove_page l.side l.region.vm.0 (page_in l.region i)) l.region.count l.initial.sets l.sets l.k
+invariant-loop-k l = Sweeping (λ (i : ℕ). remove_page l.side l.placed.region.vm.0 (page_in l.placed.region i)) l.placed.region.count l.initial.sets l.sets l.k

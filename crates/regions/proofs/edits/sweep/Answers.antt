@@ -5,4 +5,4 @@ use Rattle.regions.proofs.edits.sweep.Goals as goal
 
 pub returns : goal.returns
 unfolding remove_table
-returns c = let w = c.wipe.ensures (in_region c.args.region) (λ w yes e. search rules) in record { dropped = w.0; words = w.1 }
+returns c = let w = c.wipe.ensures (in_region c.args.placed.region) (λ w yes e. search rules) in record { dropped = w.0; words = w.1 }

@@ -5,7 +5,7 @@ use Rattle.regions.proofs.edits.take_pages.Goals as goal
 
 pub loop-k-preserved : goal.loop-k-preserved
 loop-k-preserved c =
-    sweep_next _ _ _ _ _ _ c.loop-k.invariant c.loop-k-test.true (rw (c.take_page.ensures, c.page_in.ensures)) c.take_page.auto.sets
+    sweep_next _ _ _ _ _ _ c.loop-k.invariant c.loop-k-test.true (rw (c.take_page.ensures, c.page.ensures)) c.take_page.auto.sets
 
 pub returns : goal.returns
 unfolding insert_sets

@@ -7,5 +7,5 @@ use Rattle.regions.proofs.searches.lowest_differs.Goals as goal
 
 pub returns : goal.returns
 returns c =
-    let fails = differs c.args.map.now c.args.region in
+    let fails = differs c.args.map.now c.args.placed.region in
     failing_is fails _ _ (first_from_Range _ _ _ _ (λ k. fails k ≡ true) (λ k. fails k ≡ false) c.find.ensures.ran (λ k q e. search rules) (λ k q e. (search rules, search rules)))

@@ -11,13 +11,13 @@ loop-k-preserved c =
     let e = sym (ask_no _ _ _ c.loop-w.invariant c.loop-w-test.false) in
     let f = sym (ask_no _ _ _ c.loop-pair.invariant c.loop-pair-test.false) in
     rise_next _ _ _ c.loop-k.invariant c.loop-k-test.true
-    (sym (in_use_binding c.args.side c.args.pairs.now c.args.map.now c.args.region c.loop-k.k) ∙ rw (← c.binding_pairs-edges.ensures, ← c.page_in-page.ensures, ← c.key_in-own.ensures, e, f))
+    (sym (in_use_binding c.args.side c.args.pairs.now c.args.map.now c.args.placed.region c.loop-k.k) ∙ rw (← c.binding_pairs-edges.ensures, ← c.page-page.ensures, ← c.key-own.ensures, e, f))
 
 pub returns-then-key_of-own : goal.returns-then-key_of-own
 unfolding targeted edge_on
 returns-then-key_of-own c =
     let e = sym (ask_yes _ _ _ c.loop-w.invariant c.loop-w-test.true (rw (← c.on_page.ensures, ← c.key_of.ensures) c.if-key_of-own.true)) in
-    failing_found _ _ _ (rise_found _ _ _ c.loop-k.invariant c.loop-k-test.true (sym (in_use_binding c.args.side c.args.pairs.now c.args.map.now c.args.region c.loop-k.k) ∙ rw (← c.page_in-page.ensures, ← c.key_in-own.ensures, e)))
+    failing_found _ _ _ (rise_found _ _ _ c.loop-k.invariant c.loop-k-test.true (sym (in_use_binding c.args.side c.args.pairs.now c.args.map.now c.args.placed.region c.loop-k.k) ∙ rw (← c.page-page.ensures, ← c.key-own.ensures, e)))
     c.loop-k-test.true
 
 pub returns-then-on_page : goal.returns-then-on_page
@@ -27,5 +27,5 @@ returns-then-on_page c =
     let f = sym (ask_yes _ _ _ c.loop-pair.invariant c.loop-pair-test.true (sym c.on_page-in-loop-pair.ensures ∙ c.if-on_page.true)) in
     failing_found _ _ _
     (rise_found _ _ _ c.loop-k.invariant c.loop-k-test.true
-    (sym (in_use_binding c.args.side c.args.pairs.now c.args.map.now c.args.region c.loop-k.k) ∙ rw (← c.binding_pairs-edges.ensures, ← c.page_in-page.ensures, ← c.key_in-own.ensures, e, f)))
+    (sym (in_use_binding c.args.side c.args.pairs.now c.args.map.now c.args.placed.region c.loop-k.k) ∙ rw (← c.binding_pairs-edges.ensures, ← c.page-page.ensures, ← c.key-own.ensures, e, f)))
     c.loop-k-test.true

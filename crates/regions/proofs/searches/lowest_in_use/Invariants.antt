@@ -12,4 +12,4 @@ abbrev pub invariant-loop-pair : goal.invariant-loop-pair
 invariant-loop-pair l = Asking (on_page l.page.0) l.edges l.pair-index
 
 abbrev pub invariant-loop-k : goal.invariant-loop-k
-invariant-loop-k l = Rising (in_use l.fn.side l.pairs l.map l.region) l.region.count l.k
+invariant-loop-k l = Rising (in_use l.fn.side l.pairs l.map l.placed.region) l.placed.region.count l.k
