@@ -4,7 +4,6 @@ use Prim.Native.Nat.{ℕ, zero, suc, ◌+◌, ◌-◌, ◌≤◌, ◌<◌}
 use mathlib.Core.Bool.{true}
 use mathlib.Core.List.{List, [], ◌∷◌, ◌++◌, map, append_assoc, append-nil}
 use mathlib.Core.Logic.{◌⊎◌, inl, inr}
-use mathlib.Core.Option.{some}
 use mathlib.Core.Path.{◌≡◌, refl, sym, ap, ap₂, ◌∙◌}
 use native.Mathlib.Nat.{sub-zero}
 use native.Mathlib.Omega.{arith}
@@ -74,7 +73,7 @@ same_operation row h =
 -- every operation whose arguments fit is read back from its record
 pub operation_back : (operation : Operation) → RowWritable operation → (log : List ℕ) (at : ℕ) → let row = operation_number operation ∷ operation_arguments operation in
     fits row ≡ true → at + HEAD_BYTES + body_length (operation_number operation) ≤ length log →
-    (taken : Taken) × (record_at (written row log at) at ≡ Ok (Some taken)) × (operation_in taken.row ≡ some operation)
+    (taken : Taken) × (record_at (written row log at) at ≡ Ok (Some taken)) × (operation_in taken.row ≡ Some operation)
 operation_back operation w log at fit room =
     let row = operation_number operation ∷ operation_arguments operation in
     let back = row_back operation w in

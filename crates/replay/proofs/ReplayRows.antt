@@ -13,8 +13,7 @@ use borrow.Author.Tests.{le-leb, leb-true}
 use Rattle.numbers.specs.CaseLaws.{equal}
 use Rattle.std.specs.Prelude.{if◌then◌else◌, Some, None, Ok, Err}
 use Rattle.numbers.specs.Limits.{ROW_NUMBERS, ANSWER_NUMBERS}
-use Rattle.numbers.specs.Meaning.{answer_numbers}
-use Rattle.numbers.specs.declared.Answer.{Answer}
+use Rattle.numbers.specs.Meaning.{answer_numbers, Answer}
 use Rattle.table.specs.Scan.{repeat}
 use Rattle.model.specs.State.{State}
 use Rattle.model.specs.Sequence.{Progress, beginning, write_at, row_at, step_row, turn, after}

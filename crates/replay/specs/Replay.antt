@@ -3,8 +3,7 @@
 use Rattle.std.specs.Prelude.{ℕ, zero, suc, ◌+◌, ◌*◌, Some, None, Result, Ok, Err, List, leb, length}
 use Rattle.std.specs.Prelude.{if◌then◌else◌}
 use Rattle.numbers.specs.Limits.{ANSWER_NUMBERS}
-use Rattle.numbers.specs.Meaning.{answer_numbers, refusal_number}
-use Rattle.numbers.specs.declared.Answer.{Answer}
+use Rattle.numbers.specs.Meaning.{answer_numbers, refusal_number, Answer}
 use Rattle.numbers.specs.declared.Refusal.TheVariants.{StateNotValid}
 use Rattle.model.specs.State.{State}
 use Rattle.model.specs.Entries.{Judged}

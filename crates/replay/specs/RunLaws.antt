@@ -7,8 +7,7 @@ use Rattle.std.proofs.lemmas.List.{take-set-le, drop-set-add}
 use Rattle.std.proofs.lemmas.Bool.{lt-leb}
 use Rattle.std.specs.Prelude.{if◌then◌else◌}
 use Rattle.numbers.specs.Limits.{ROW_NUMBERS, ANSWER_NUMBERS}
-use Rattle.numbers.specs.Meaning.{answer_numbers}
-use Rattle.numbers.specs.declared.Answer.{Answer}
+use Rattle.numbers.specs.Meaning.{answer_numbers, Answer}
 use Rattle.model.specs.State.{State}
 use Rattle.model.specs.Sequence.{Progress, beginning, write_at, operation_in, row_at, step_row, turn}
 use Rattle.model.specs.ShapeLaws.{SameSizes}
