@@ -14,7 +14,7 @@ returns c =
     let dma_walker : c.dma_walker-1.given.0 ≡ left.dma_walker.now = search rules in
     let memory : c.memory-1.given.0 ≡ left.memory.now = search rules in
     rw (sets, pairs, cpu_map, cpu_walker, dma_map, dma_walker, memory) (
-      start_slots c.args.machine.now c.args.sets.now c.args.pairs.now c.args.cpu_map.now c.args.cpu_walker.now c.args.cpu_cache.now
+    start_slots c.args.machine.now c.args.sets.now c.args.pairs.now c.args.cpu_map.now c.args.cpu_walker.now c.args.cpu_cache.now
     c.args.dma_map.now c.args.dma_walker.now c.args.dma_cache.now c.args.memory.now c.load-cpu_words.result c.load-dma_words.result
     c.load-cpu_words.ensures.0 c.load-dma_words.ensures.0 c.start-number.new.header left.sets.now left.pairs.now left.cpu_map.now left.cpu_walker.now
     left.cpu_cache.now left.dma_map.now left.dma_walker.now left.dma_cache.now left.memory.now (search rules) (search rules) c.start-number.result
