@@ -24,7 +24,7 @@ impl Homes<'_> {
         self.known_word(w)
             & (numbers::access_of(w) == 0)
             & (numbers::generation_of(w) == 0)
-            & (left.0 != right.0)
+            & (left != right)
             & self.knows(right)
     }
 

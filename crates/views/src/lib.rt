@@ -71,8 +71,7 @@ pub fn of_vm(w: u64, vm: VmId) -> bool
 pub fn joins(w: u64, vm: VmId) -> bool
     ensures { result ≡ joins vm.0 w }
 {
-    (numbers::filled_of(w) == 1)
-        & ((numbers::left_of(w) == vm) | (numbers::right_of(w) == vm))
+    (numbers::filled_of(w) == 1) & ((numbers::left_of(w) == vm) | (numbers::right_of(w) == vm))
 }
 
 // Where the pair of these two on the page stands, in whichever order of its ends.
