@@ -20,6 +20,7 @@ const LOG_ROOM: usize = 65536;
 const MANY: usize = LOG_ROOM / 2;
 
 // How far the script has come, by whose phase a line has its place or not, and how many bytes of its log wait in the room.
+// No vector has them: `operation_log::write` puts a record at a place of a slice.
 #[derive(Drop)]
 struct Logger<'t, 'e, W, E> {
     to: &'t mut W,

@@ -11,6 +11,7 @@ const LOG_ROOM: usize = 131072;
 // Bytes of the longest record: a length of two bytes, and as many as it may say.
 const LONGEST: usize = 65537;
 
+// No heap here, as std's BufReader needs; and `read` fills a slice, so that no vector has the bytes.
 #[derive(Drop)]
 pub struct Source<'f, F> {
     file: &'f mut F,
