@@ -132,17 +132,17 @@
  * follows, the return address included, beside the arguments that C puts there and what memcpy and memset take:
  *
  *     bytes of stack           aarch64    x86-64
- *     tiligormis_empty_slot      1,792     1,792
- *     tiligormis_fill_slot       1,792     1,792
+ *     tiligormis_empty_slot      1,280     1,280
+ *     tiligormis_fill_slot       1,280     1,280
  *     tiligormis_find_slot       1,280     1,280
- *     tiligormis_free           15,360    15,360
+ *     tiligormis_free           14,336    14,336
  *     tiligormis_log_read            0       256
  *     tiligormis_log_write         256       256
- *     tiligormis_operation      18,944    18,944
- *     tiligormis_replay         18,944    18,688
- *     tiligormis_sequence       19,200    18,944
- *     tiligormis_start           5,888     5,888
- *     tiligormis_valid          15,360    15,360
+ *     tiligormis_operation      16,384    16,384
+ *     tiligormis_replay         16,128    16,128
+ *     tiligormis_sequence       16,384    16,384
+ *     tiligormis_start          12,800    12,544
+ *     tiligormis_valid          14,336    14,336
  *
  * Link with libtiligormis.a. All functions may be called from several threads at once, on different boxes.
  */

@@ -182,7 +182,7 @@ const PLANTED: &[(Where, &str, &str, &str)] = &[
     (Crate("access"), "const WRITE: u64 = ", "const WRITE: u64 = 1 + ", "WRITE"),
     (
         Crate("box_header"),
-        "const NO_PAGE: u64 = 18446744073709551615",
+        "const NO_PAGE: u64 = u64::MAX",
         "const NO_PAGE: u64 = 0",
         "NO_PAGE",
     ),
@@ -198,11 +198,16 @@ const PLANTED: &[(Where, &str, &str, &str)] = &[
     // refusals and marks
     (Header, "TILIGORMIS_VM_KNOWN = 5", "TILIGORMIS_VM_KNOWN = 4", "VM_KNOWN"),
     (Numbers, "PORT_IDLE: u64 = ", "PORT_IDLE: u64 = 1 + ", "PORT_IDLE"),
-    (Crate("numbers"), "VmUnknown,\n    VmKnown,", "VmKnown,\n    VmUnknown,", "refusal 4"),
-    (Crate("numbers"), "Refusal::NoRoom => 14", "Refusal::NoRoom => 13", "NO_ROOM"),
-    (Crate("numbers"), "    AccessLacking,\n", "", "refusals"),
-    (Crate("numbers"), "word } => [0,", "word } => [1,", "ACCEPTED"),
-    (Crate("units"), "Mark::Both => 3", "Mark::Both => 4", "MARK_BOTH"),
+    (
+        Crate("numbers"),
+        "VmUnknown = 4,\n    VmKnown = 5,",
+        "VmKnown = 4,\n    VmUnknown = 5,",
+        "refusal 4",
+    ),
+    (Crate("numbers"), "NoRoom = 14", "NoRoom = 13", "NO_ROOM"),
+    (Crate("numbers"), "    AccessLacking = 16,\n", "", "refusals"),
+    (Crate("numbers"), "word }) => [0,", "word }) => [1,", "ACCEPTED"),
+    (Crate("units"), "Both = 3", "Both = 4", "MARK_BOTH"),
     (Header, "TILIGORMIS_CUT_SHORT = 20", "TILIGORMIS_CUT_SHORT = 19", "CUT_SHORT"),
     (Numbers, "DOES_NOT_FIT: u64 = ", "DOES_NOT_FIT: u64 = 1 + ", "DOES_NOT_FIT"),
     (
@@ -302,7 +307,12 @@ const PLANTED: &[(Where, &str, &str, &str)] = &[
     ),
     (Header, "    uint64_t pairs[TILIGORMIS_PAIRS];\n", "", "tiligormis_tables"),
     (Header, "    uint64_t *memory;\n    size_t memory_length;", "", "tiligormis_free, box"),
-    (Crate("judge"), "(sets == SETS * SET_WORDS)", "(sets == SETS)", "sets, length in a box"),
+    (
+        Crate("judge"),
+        "(seen.sets.len() == SETS * SET_WORDS)",
+        "(seen.sets.len() == SETS)",
+        "sets, length in a box",
+    ),
     // inline functions: names and sentences, rows, blocks, entries, fields, version
     (
         Header,

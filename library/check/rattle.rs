@@ -17,7 +17,7 @@ pub struct Source {
     pub accepted: Option<u64>,
     /// The refusals in the order of the enum.
     pub refusals: Vec<String>,
-    /// What `refusal_number` gives, and what `mark_number` does, by the case.
+    /// The number of each refusal, and of each mark, by the case.
     pub refusal_numbers: BTreeMap<String, u64>,
     pub mark_numbers: BTreeMap<String, u64>,
     /// The same of a log's refusals, and how many bytes the body of each kind of record has.
@@ -43,7 +43,7 @@ pub fn read(crates: &Crates) -> Source {
         constants(of(name), &mut side);
     }
     for (krate, name) in [("slots", "Slot"), ("units", "Unit")] {
-        side.structs.insert(name.to_string(), fields(of(krate), name));
+        side.structs.insert(name.to_string(), fields(of(krate), name, of("numbers")));
     }
     let mut exporting = BTreeMap::new();
     for (name, text) in &code {
@@ -57,8 +57,8 @@ pub fn read(crates: &Crates) -> Source {
         exporting,
         accepted: accepted(of("numbers")),
         refusals: cases(of("numbers"), "Refusal"),
-        refusal_numbers: arms(of("numbers"), "Refusal"),
-        mark_numbers: arms(of("units"), "Mark"),
+        refusal_numbers: numbered(of("numbers"), "Refusal"),
+        mark_numbers: numbered(of("units"), "Mark"),
         log_refusals: cases(of("operation_log"), "LogRefusal"),
         log_refusal_numbers: arms(of("operation_log"), "LogRefusal"),
         bodies: bodies(of("operation_log")),
@@ -82,27 +82,41 @@ fn constants(code: &str, side: &mut Side) {
     }
 }
 
-fn fields(code: &str, name: &str) -> Vec<Named> {
+/// A struct's fields; in place of a region stand the fields of one, which are `numbers`' to say.
+fn fields(code: &str, name: &str, numbers: &str) -> Vec<Named> {
     let body = block(code, &format!("pub struct {name} {{")).unwrap_or("");
     parts(body, ',')
         .iter()
-        .filter_map(|field| {
-            let (name, kind) = field.strip_prefix("pub ")?.split_once(':')?;
-            Some(Named::new(name.trim(), Kind::Value(kind.trim().to_string())))
+        .filter_map(|field| field.strip_prefix("pub ")?.split_once(':'))
+        .flat_map(|(name, kind)| match kind.trim() {
+            "Region" => fields(numbers, "Region", ""),
+            kind => vec![Named::new(name.trim(), Kind::Value(kind.to_string()))],
         })
         .collect()
 }
 
+/// An enum's cases, each without the number that it may be given.
 fn cases(code: &str, name: &str) -> Vec<String> {
     let body = block(code, &format!("pub enum {name} {{")).unwrap_or("");
-    parts(body, ',').into_iter().map(String::from).collect()
+    let case = |part: &str| part.split('=').next().unwrap_or("").trim().to_string();
+    parts(body, ',').into_iter().map(case).collect()
 }
 
-/// The arm `Answer::Accepted { .. } => [NUMBER, ..]`.
+/// The numbers that an enum gives its cases: `CASE = NUMBER`.
+fn numbered(code: &str, name: &str) -> BTreeMap<String, u64> {
+    let body = block(code, &format!("pub enum {name} {{")).unwrap_or("");
+    let found = parts(body, ',').into_iter().filter_map(|part| {
+        let (case, value) = part.split_once('=')?;
+        Some((case.trim().to_string(), number(value)?))
+    });
+    found.collect()
+}
+
+/// The arm `Ok(Accepted { .. }) => [NUMBER, ..]`.
 fn accepted(code: &str) -> Option<u64> {
     let arm = code
         .lines()
-        .find(|line| line.trim().starts_with("Answer::Accepted {") && line.contains("=> ["))?;
+        .find(|line| line.trim().starts_with("Ok(Accepted {") && line.contains("=> ["))?;
     number(arm.split_once("=> [")?.1.split(',').next()?)
 }
 
@@ -139,14 +153,16 @@ fn operations(code: &str) -> BTreeMap<u64, BTreeMap<char, String>> {
     }
     let region = parts(block(code, "fn region_of(").unwrap_or(""), ',');
     let region: Vec<&str> = region.iter().filter_map(|part| part.split(':').next()).collect();
-    bodies.into_iter().map(|(number, body)| (number, arguments(&body, &region))).collect()
+    bodies.into_iter().map(|(number, body)| (number, arguments(number, &body, &region))).collect()
 }
 
 /// What each argument of an arm is: by the kind of number that is made of it, by the field that it
-/// is given to, by the operation's own place for it, or by its place in a region.
-fn arguments(body: &str, region: &[&str]) -> BTreeMap<char, String> {
+/// is given to, by the operation's own place for it, or by its place in a region. An arm of two
+/// numbers says in `side_of(number, NUMBER)` which of them is the CPU's.
+fn arguments(of: u64, body: &str, region: &[&str]) -> BTreeMap<char, String> {
     let found = tokens(body);
-    let port = if body.contains("Side::Dma") { "device" } else { "cpu" };
+    let cpu = body.split_once("side_of(number,").and_then(|(_, rest)| rest.split(')').next());
+    let port = if cpu.and_then(number) == Some(of) { "cpu" } else { "device" };
     let mut kinds = BTreeMap::new();
     for (at, word) in found.iter().enumerate().filter(|(_, word)| "abcdef".contains(**word)) {
         let letter = word.chars().next().unwrap_or(' ');
@@ -200,14 +216,14 @@ fn parameter(text: &str) -> Option<Vec<Named>> {
     Some(vec![pointer, length])
 }
 
-/// What the judgement compares each length with: `(NAME == LENGTH)`, of memory `memory.len() as u64
-/// == LENGTH`.
+/// What the judgement compares each length with: `NAME.len() == LENGTH`, of memory `memory.len() as
+/// u64 == LENGTH`.
 fn lengths(code: &str) -> BTreeMap<String, String> {
     let mut found = BTreeMap::new();
     for (at, _) in code.match_indices("==") {
         let before = tokens(&code[..at]);
         let name = match before[..] {
-            [.., "(", name] => name,
+            [.., name, ".", "len", "(", ")"] => name,
             [.., name, ".", "len", "(", ")", "as", "u64"] => name,
             _ => continue,
         };

@@ -1,22 +1,21 @@
 -- What operations 21 to 24 answer and leave, as one step of the machine says it.
-use Rattle.std.specs.Prelude.{ℕ, List, [], ◌∷◌}
+use Rattle.std.specs.Prelude.{ℕ, List, [], ◌∷◌, Result, Ok, Err}
 use Rattle.numbers.specs.Limits.{READ, WRITE}
-use Rattle.numbers.specs.declared.Answer.{Answer}
-use Rattle.model.specs.Effect.{accepted, refused, kept, quiet, reads, writes, apply, memory_index}
+use Rattle.numbers.specs.Meaning.{Answer}
+use Rattle.numbers.specs.declared.Refused.{Refused}
+use Rattle.model.specs.Effect.{accepted, kept, quiet, reads, writes, apply, memory_index}
 use Rattle.model.specs.Ports.{vm_on}
 use Rattle.model.specs.Access.{access_answer, access_place}
 use Rattle.model.specs.Step.{answer_with}
-use Rattle.access.specs.declared.Reached.{Reached}
-use Rattle.access.specs.declared.Reached.TheVariants.{Word, Refused}
 
 -- ---- where an access ends
-abbrev pub answer_of : Reached → Answer
-answer_of (Word place) = accepted
-answer_of (Refused refusal) = refused refusal
+abbrev pub answer_of : Result ℕ Refused → Answer
+answer_of (Ok place) = accepted
+answer_of (Err err) = Err err
 
-abbrev pub place_of : Reached → ℕ
-place_of (Word place) = place
-place_of (Refused refusal) = 0
+abbrev pub place_of : Result ℕ Refused → ℕ
+place_of (Ok place) = place
+place_of (Err err) = 0
 
 -- the place of the word in memory, 0 where the access is refused
 abbrev pub access_index : List ℕ → List ℕ → List ℕ → ℕ → ℕ → ℕ → ℕ → ℕ

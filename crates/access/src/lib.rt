@@ -11,7 +11,8 @@ ghost use Rattle.model.specs.Ports.{vm_on};
 ghost use Rattle.access.specs.Words.{answer_of, place_of, access_index, read_answer, written_memory};
 
 use numbers::{
-    Answer, GUEST_PAGES, GuestPage, IDLE, PAGE_WORDS, PORTS, PhysPage, Refusal, VMS, VmId,
+    Accepted, Answer, GUEST_PAGES, GuestPage, IDLE, PAGE_WORDS, PORTS, PhysPage, Refusal, Refused,
+    VMS, VmId, accept, refuse,
 };
 
 // ---- Clearing.
@@ -37,9 +38,10 @@ pub fn vm_on(ports: [u64; PORTS as usize], port: u64) -> u64
     ensures { result ≡ vm_on ports port }
 {
     if port < PORTS {
-        return ports[port as usize];
+        ports[port as usize]
+    } else {
+        IDLE
     }
-    IDLE
 }
 
 // The word that translates: the port's slot if one is held, else the walker's entry, 0 where there is neither.
@@ -62,14 +64,7 @@ fn allows(bit: u64, entry: u64) -> bool
     numbers::access_of(entry) / bit % 2 == 1
 }
 
-// Where an access ends: at a place in memory, or refused.
-#[derive(Clone, Copy)]
-enum Reached {
-    Word(usize),
-    Refused(Refusal),
-}
-
-// The refusals in their order; past them the place of the word.
+// The place in memory at which an access ends, past the refusals in their order.
 fn reach(
     ports: [u64; PORTS as usize],
     cache: &[u64],
@@ -78,27 +73,27 @@ fn reach(
     port: u64,
     guest: GuestPage,
     word: u64,
-) -> Reached
+) -> Result<usize, Refused>
     requires { 0 < bit }
     ensures { (answer_of result ≡ access_answer ports cache.now walker.now bit port guest.0 word)
         × (place_of result ≡ access_index ports cache.now walker.now bit port guest.0 word) }
 {
     if !((port < PORTS) & (guest.0 < GUEST_PAGES) & (word < PAGE_WORDS)) {
-        return Reached::Refused(Refusal::OutOfRange);
+        return refuse(Refusal::OutOfRange, 0);
     }
     let vm = vm_on(ports, port);
     if !(vm < VMS) {
-        return Reached::Refused(Refusal::PortIdle);
+        return refuse(Refusal::PortIdle, 0);
     }
     let entry = translate(cache, walker, port, VmId(vm), guest);
     if entry == 0 {
-        return Reached::Refused(Refusal::MappingDiffers);
+        return refuse(Refusal::MappingDiffers, 0);
     }
     if !allows(bit, entry) {
-        return Reached::Refused(Refusal::AccessLacking);
+        return refuse(Refusal::AccessLacking, 0);
     }
     let page = numbers::page_of(entry);
-    Reached::Word((page.0 * PAGE_WORDS + word) as usize)
+    Ok((page.0 * PAGE_WORDS + word) as usize)
 }
 
 // Operations 21 and 22. A word past the end of memory reads as 0.
@@ -113,22 +108,9 @@ pub fn read_word(
 ) -> Answer
     ensures { result ≡ read_answer ports cache.now walker.now memory.now port guest.0 word }
 {
-    let reached = reach(ports, cache, walker, READ, port, guest, word);
-    match reached {
-        Reached::Refused(refusal) => Answer::Refused { refusal, index: 0 },
-        Reached::Word(place) => {
-            if place < memory.len() {
-                return Answer::Accepted {
-                    dropped: 0,
-                    word: memory[place],
-                };
-            }
-            Answer::Accepted {
-                dropped: 0,
-                word: 0,
-            }
-        }
-    }
+    let place = reach(ports, cache, walker, READ, port, guest, word)?;
+    let word = memory.get(place).copied().unwrap_or(0);
+    Ok(Accepted { dropped: 0, word })
 }
 
 // Operations 23 and 24. A place past the end of memory is not written.
@@ -145,17 +127,9 @@ pub fn write_word(
     ensures { (result ≡ access_answer ports cache.now walker.now WRITE port guest.0 word)
         × (memory.new ≡ written_memory ports cache.now walker.now memory.old port guest.0 word value) }
 {
-    let reached = reach(ports, cache, walker, WRITE, port, guest, word);
-    match reached {
-        Reached::Refused(refusal) => Answer::Refused { refusal, index: 0 },
-        Reached::Word(place) => {
-            if place < memory.len() {
-                memory[place] = value;
-            }
-            Answer::Accepted {
-                dropped: 0,
-                word: 0,
-            }
-        }
+    let place = reach(ports, cache, walker, WRITE, port, guest, word)?;
+    if place < memory.len() {
+        memory[place] = value;
     }
+    accept(0)
 }

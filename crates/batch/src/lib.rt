@@ -2,15 +2,18 @@
 #![tactic(auto)]
 
 ghost use Rattle.std.specs.Prelude.{◌≡◌};
-ghost use Rattle.batch.specs.Room.{Orderly};
+ghost use Rattle.model.specs.Header.{lists, seen_lists};
+ghost use Rattle.batch.specs.Lending.{lists_with};
 
 pub mod carry;
 pub mod print;
 
 use crate::print::BATCH;
-use model::Machine;
-use numbers::{PAGE_WORDS, PAGES, ROW_NUMBERS, SET_WORDS, SETS, SLOTS, UNITS};
+use arrayvec::ArrayVec;
+use model::{Lent, Machine};
+use numbers::{ENTRIES, PAGE_WORDS, PAGES, PAIRS, ROW_NUMBERS, SET_WORDS, SETS, SLOTS, UNITS};
 use start::UNIT_NUMBERS;
+use std::fmt;
 
 // ---- The rooms that a program lends, by how many words they have.
 
@@ -19,12 +22,80 @@ pub const SETS_WORDS: usize = SETS * SET_WORDS;
 pub const CACHE_WORDS: usize = SLOTS as usize;
 
 pub const MEMORY_WORDS: usize = (PAGES * PAGE_WORDS) as usize;
-
-pub const ROWS_ROOM: usize = BATCH * ROW_NUMBERS;
 // One unit more than a machine may have, by which start sees that there are too many; those after it make no difference.
 pub const UNITS_KEPT: usize = UNITS + 1;
 
-pub const UNITS_ROOM: usize = UNITS_KEPT * UNIT_NUMBERS;
+// The tables of a machine.
+#[derive(Drop)]
+pub struct Tables {
+    pub sets: [u64; SETS_WORDS],
+    pub pairs: [u64; PAIRS],
+    pub cpu_map: [u64; ENTRIES],
+    pub cpu_walker: [u64; ENTRIES],
+    pub cpu_cache: [u64; CACHE_WORDS],
+    pub dma_map: [u64; ENTRIES],
+    pub dma_walker: [u64; ENTRIES],
+    pub dma_cache: [u64; CACHE_WORDS],
+}
+
+impl Tables {
+    pub fn new() -> Tables {
+        Tables {
+            sets: [0; SETS_WORDS],
+            pairs: [0; PAIRS],
+            cpu_map: [0; ENTRIES],
+            cpu_walker: [0; ENTRIES],
+            cpu_cache: [0; CACHE_WORDS],
+            dma_map: [0; ENTRIES],
+            dma_walker: [0; ENTRIES],
+            dma_cache: [0; CACHE_WORDS],
+        }
+    }
+
+    // They and the memory, as an entry takes them.
+    pub fn lend<'a>(&'a mut self, memory: &'a mut [u64]) -> Lent<&'a mut [u64]>
+        ensures { lists result ≡ lists_with self.old memory.old }
+    {
+        let Tables {
+            sets,
+            pairs,
+            cpu_map,
+            cpu_walker,
+            cpu_cache,
+            dma_map,
+            dma_walker,
+            dma_cache,
+        } = self;
+        Lent {
+            sets,
+            pairs,
+            cpu_map,
+            cpu_walker,
+            cpu_cache,
+            dma_map,
+            dma_walker,
+            dma_cache,
+            memory,
+        }
+    }
+
+    // The same to be read.
+    pub fn seen<'a>(&'a self, memory: &'a [u64]) -> Lent<&'a [u64]>
+        ensures { seen_lists result ≡ lists_with self.now memory.now }
+    {
+        Lent {
+            sets: &self.sets,
+            pairs: &self.pairs,
+            cpu_map: &self.cpu_map,
+            cpu_walker: &self.cpu_walker,
+            cpu_cache: &self.cpu_cache,
+            dma_map: &self.dma_map,
+            dma_walker: &self.dma_walker,
+            dma_cache: &self.dma_cache,
+            memory,
+        }
+    }
+}
 
 // ---- How far the box has come.
 #[derive(Clone, Copy)]
@@ -35,8 +106,6 @@ pub enum Phase {
     Told,
     // Start has answered, whatever it said: a machine that it refused refuses every row.
     Begun,
-    // Nothing more counts.
-    Ended(End),
 }
 
 // What ended the reading before the script did.
@@ -47,90 +116,45 @@ pub enum End {
     CannotWrite,
 }
 
-#[derive(Clone, Copy)]
+impl fmt::Display for End {
+    fn fmt<W: fmt::Write>(&self, f: &mut fmt::Formatter<W>) -> fmt::Result {
+        f.write_str(match self {
+            End::NotUnderstood => "not understood",
+            End::CannotRead => "cannot read",
+            End::CannotWrite => "cannot write",
+        })
+    }
+}
+
+#[derive(Drop)]
 pub struct Work {
     pub phase: Phase,
+    // The number of the line.
+    pub line: u64,
     pub machine: Machine,
-    // What its box line says, and how many units it was told.
+    pub tables: Tables,
+    // What its box line says, and the units that it was told.
     pub pages: u64,
     pub base: u64,
     pub count: u64,
-    pub units: usize,
+    pub units: ArrayVec<[u64; UNIT_NUMBERS], UNITS_KEPT>,
     // Rows that wait to be carried out.
-    pub rows: usize,
-    // The number of the line.
-    pub line: u64,
+    pub rows: ArrayVec<[u64; ROW_NUMBERS], BATCH>,
 }
 
-pub fn no_work() -> Work
-    ensures { Orderly result.units result.rows }
-{
-    let machine = start::empty_machine();
-    Work {
-        phase: Phase::NoBox,
-        machine,
-        pages: 0,
-        base: 0,
-        count: 0,
-        units: 0,
-        rows: 0,
-        line: 0,
+impl Work {
+    // The work before any line, with no box.
+    pub fn new() -> Work {
+        Work {
+            phase: Phase::NoBox,
+            line: 0,
+            machine: start::empty_machine(),
+            tables: Tables::new(),
+            pages: 0,
+            base: 0,
+            count: 0,
+            units: ArrayVec::new(),
+            rows: ArrayVec::new(),
+        }
     }
-}
-
-pub fn has_ended(work: Work) -> bool {
-    let phase = work.phase;
-    if let Phase::Ended(_) = phase {
-        return true;
-    }
-    false
-}
-
-// Whether a row waits. Then the units have ended, and start may be carried out with it.
-pub fn rows_wait(work: Work) -> bool {
-    work.rows > 0
-}
-
-// ---- The work with one thing changed.
-
-// No script has as many lines as would make the count wrap.
-pub fn counted(work: Work) -> Work
-    ensures { (result.units ≡ work.units) × (result.rows ≡ work.rows) }
-{
-    let mut next = work;
-    next.line = std::num::wrapping_add_u64(work.line, 1);
-    next
-}
-
-// The phase and the header that start or the rows leave, with so many rows waiting.
-pub fn moved(work: Work, phase: Phase, machine: Machine, rows: usize) -> Work
-    ensures { (result.units ≡ work.units) × (result.rows ≡ rows) }
-{
-    Work {
-        phase,
-        machine,
-        pages: work.pages,
-        base: work.base,
-        count: work.count,
-        units: work.units,
-        rows,
-        line: work.line,
-    }
-}
-
-pub fn ended(work: Work, end: End) -> Work
-    ensures { (result.units ≡ work.units) × (result.rows ≡ work.rows) }
-{
-    let machine = work.machine;
-    moved(work, Phase::Ended(end), machine, work.rows)
-}
-
-// After a write: where not all of it was written, nothing more counts.
-pub fn written(work: Work, all: bool) -> Work
-    ensures { (result.units ≡ work.units) × (result.rows ≡ work.rows) }
-{
-    if all {
-        return work;
-    }
-    ended(work, End::CannotWrite)
 }

@@ -1,118 +1,95 @@
-// What is written; each function says whether all of it was. The answers of a batch are written at once.
-ghost use Rattle.std.specs.Prelude.{◌+◌, ◌*◌, ◌<◌, ◌≤◌, length};
+// What is written. The answers of a batch are written at once.
+ghost use Rattle.std.specs.Prelude.{◌+◌, ◌≤◌, ◌↔◌, length, IsOk};
+ghost use Rattle.arrayvec.specs.ArrayVec.{array_vec_len};
 ghost use Rattle.batch.specs.Room.{BATCH, ANSWER_BYTES, NUMBER_BYTES};
 
+use crate::End;
+use arrayvec::ArrayVec;
 use itoa::Buffer;
-use numbers::{ANSWER_NUMBERS, Answer, Lowest};
+use machine::entries::FreePages;
+use numbers::{ANSWER_NUMBERS, PhysPage, Refused};
+use std::io;
 use std::io::Write;
 
 // Rows that are carried out together.
 pub const BATCH: usize = 1024;
-
-pub const ANSWER_ROOM: usize = BATCH * ANSWER_NUMBERS;
 // The most bytes of a number and the byte after it.
 pub const NUMBER_BYTES: usize = 21;
 
 const TEXT: usize = BATCH * ANSWER_NUMBERS * NUMBER_BYTES;
 
-const BLANK: u8 = 32;
-
-const LF: u8 = 10;
-
 // ---- The answers of a batch.
 
-// The number and the byte that ends it, at the given place; answers the place after them.
-pub fn put(text: &mut [u8], at: usize, number: u64, end: u8) -> usize
-    requires { at + NUMBER_BYTES ≤ length text.old }
-    ensures { result ≤ at + NUMBER_BYTES }
+// The number and the byte that ends it, behind the text. By itoa and not by `write!`, of which nothing says that it succeeds
+// where there is room: `put` promises that the text holds the number whole.
+pub fn put<const N: usize>(text: &mut ArrayVec<u8, N>, number: u64, end: u8)
+    requires { array_vec_len text.old + NUMBER_BYTES ≤ N }
+    ensures { array_vec_len text.new ≤ array_vec_len text.old + NUMBER_BYTES }
 {
     let mut buffer = Buffer::new();
     let digits = buffer.format(number).as_bytes();
-    let count = digits.len();
-    let mut i = 0;
-    while i < count {
-        text[at + i] = digits[i];
-        i += 1;
-    }
-    text[at + count] = end;
-    at + count + 1
+    text.try_extend_from_slice(digits).unwrap();
+    text.push(end);
 }
 
-// Answer k of the room, a line of four numbers.
-pub fn put_answer(text: &mut [u8], at: usize, room: &[u64; ANSWER_ROOM], k: usize) -> usize
-    requires { (k < BATCH) × (at + ANSWER_BYTES ≤ length text.old) }
-    ensures { result ≤ at + ANSWER_BYTES }
+// An answer, a line of four numbers.
+pub fn put_answer<const N: usize>(text: &mut ArrayVec<u8, N>, answer: &[u64; ANSWER_NUMBERS])
+    requires { array_vec_len text.old + ANSWER_BYTES ≤ N }
+    ensures { array_vec_len text.new ≤ array_vec_len text.old + ANSWER_BYTES }
 {
-    let number = k * ANSWER_NUMBERS;
-    let index = number + 1;
-    let dropped = index + 1;
-    let word = dropped + 1;
-    let a = put(text, at, room[number], BLANK);
-    let b = put(text, a, room[index], BLANK);
-    let c = put(text, b, room[dropped], BLANK);
-    put(text, c, room[word], LF)
+    let [number, index, dropped, word] = *answer;
+    put(text, number, b' ');
+    put(text, index, b' ');
+    put(text, dropped, b' ');
+    put(text, word, b'\n');
 }
 
-// The first `count` answers of the room.
-pub fn print_answers<W: Write>(to: &mut W, room: &[u64; ANSWER_ROOM], count: usize) -> bool
-    requires { count ≤ BATCH }
+pub fn print_answers<W: Write>(to: &mut W, answers: &[[u64; ANSWER_NUMBERS]]) -> Result<(), End>
+    requires { length answers.now ≤ BATCH }
 {
-    let mut text = [0u8; TEXT];
-    let mut at = 0;
-    let mut k = 0;
-    while k < count {
-        at = put_answer(&mut text, at, room, k);
-        k += 1;
+    let mut text: ArrayVec<u8, TEXT> = ArrayVec::new();
+    for answer in answers {
+        put_answer(&mut text, answer);
     }
-    print_text(to, &text[..at])
+    print_text(to, text.as_slice())
 }
 
 // ---- Single lines.
 
-pub fn print_text<W: Write>(to: &mut W, text: &[u8]) -> bool {
-    to.write_all(text).is_ok()
+// How it ended where not all of it was written.
+pub fn printed(wrote: io::Result<()>) -> Result<(), End>
+    ensures { IsOk result ↔ IsOk wrote }
+{
+    wrote.map_err(|_| End::CannotWrite)
 }
 
-// A number between two texts.
-pub fn print_between<W: Write>(to: &mut W, before: &[u8], number: u64, after: &[u8]) -> bool {
-    if !print_text(to, before) {
-        return false;
-    }
-    let mut buffer = Buffer::new();
-    if !print_text(to, buffer.format(number).as_bytes()) {
-        return false;
-    }
-    print_text(to, after)
+pub fn print_text<W: Write>(to: &mut W, text: &[u8]) -> Result<(), End> {
+    printed(to.write_all(text))
 }
 
-pub fn print_start<W: Write>(to: &mut W, answer: Answer) -> bool {
-    match answer {
-        Answer::Accepted {
-            dropped: _,
-            word: _,
-        } => print_text(to, b"start 0\n"),
-        Answer::Refused { refusal, index: _ } => {
-            print_between(to, b"start ", numbers::refusal_number(refusal), b"\n")
-        }
-    }
+pub fn print_start<W: Write>(to: &mut W, refused: Option<Refused>) -> Result<(), End> {
+    let number = refused.map_or(0, |refused| u64::from(refused.refusal));
+    printed(writeln!(to, "start {number}"))
 }
 
-pub fn print_free<W: Write>(to: &mut W, count: u64, lowest: Lowest) -> bool {
-    match lowest {
-        Lowest::Page(page) => {
-            if !print_between(to, b"free ", count, b" ") {
-                return false;
-            }
-            print_between(to, b"", page.0, b"\n")
-        }
-        Lowest::Nothing => print_between(to, b"free ", count, b" none\n"),
-    }
+pub fn print_free<W: Write>(to: &mut W, free: Result<FreePages, Refused>) -> Result<(), End> {
+    printed(match free {
+        Ok(
+            FreePages {
+                count,
+                lowest: Some(PhysPage(page)),
+            },
+        ) => writeln!(to, "free {count} {page}"),
+        Ok(
+            FreePages {
+                count,
+                lowest: None,
+            },
+        ) => writeln!(to, "free {count} none"),
+        Err(_) => writeln!(to, "free refused 1"),
+    })
 }
 
-pub fn print_free_refused<W: Write>(to: &mut W) -> bool {
-    print_text(to, b"free refused 1\n")
-}
-
-pub fn print_not_understood<W: Write>(to: &mut W, line: u64) -> bool {
-    print_between(to, b"line ", line, b": not understood\n")
+pub fn print_not_understood<W: Write>(to: &mut W, line: u64) -> Result<(), End> {
+    printed(writeln!(to, "line {line}: not understood"))
 }

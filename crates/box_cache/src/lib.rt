@@ -3,9 +3,9 @@
 #![tactic(auto)]
 
 ghost use Rattle.std.specs.Prelude.{◌≡◌};
-ghost use Rattle.slots.specs.Calls.{find_slot, change, fill_slot, empty_slot};
+ghost use Rattle.slots.specs.Calls.{find_slot, change, change_number, fill_slot, empty_slot};
 
-use numbers::SLOTS;
+use numbers::{Refusal, SLOTS};
 use slots::Slot;
 
 // The lowest filled slot, of the first 64, that holds this port, VM and guest page; 64 where there is none.
@@ -13,9 +13,18 @@ use slots::Slot;
 pub extern "C" fn tiligormis_find_slot(slots: &[Slot], port: u64, vm: u64, guest: u64) -> usize
     ensures { result ≡ find_slot slots.now port vm guest }
 {
-    let count = slots.len();
-    let words = slots::load(slots, count);
-    slots::find(words, port, vm, guest)
+    let words = slots::load(slots, slots.len());
+    slots::find(&words, port, vm, guest).unwrap_or(SLOTS as usize)
+}
+
+// What C is told of a change: 0, or the number of its refusal.
+fn number_of(answer: Result<(), Refusal>) -> u64
+    ensures { result ≡ change_number answer }
+{
+    match answer {
+        Ok(()) => 0,
+        Err(refusal) => refusal.into(),
+    }
 }
 
 // Fills slot `place`, or leaves all slots as they were and answers why.
@@ -33,12 +42,12 @@ pub extern "C" fn tiligormis_fill_slot(
     ensures { change result slots.new ≡ fill_slot slots.old place port vm guest page access generation }
 {
     let count = slots.len();
-    let words = slots::load(&*slots, SLOTS as usize);
-    let out = slots::fill(
-        count, words, place, port, vm, guest, page, access, generation,
+    let mut words = slots::load(&*slots, SLOTS as usize);
+    let answer = slots::fill(
+        count, &mut words, place, port, vm, guest, page, access, generation,
     );
-    slots::store(slots, out.words, out.number);
-    out.number
+    slots::store(slots, &words, answer.is_ok());
+    number_of(answer)
 }
 
 // Empties slot `place`, or leaves all slots as they were and answers why.
@@ -47,8 +56,8 @@ pub extern "C" fn tiligormis_empty_slot(slots: &mut [Slot], place: u64) -> u64
     ensures { change result slots.new ≡ empty_slot slots.old place }
 {
     let count = slots.len();
-    let words = slots::load(&*slots, SLOTS as usize);
-    let out = slots::empty(count, words, place);
-    slots::store(slots, out.words, out.number);
-    out.number
+    let mut words = slots::load(&*slots, SLOTS as usize);
+    let answer = slots::empty(count, &mut words, place);
+    slots::store(slots, &words, answer.is_ok());
+    number_of(answer)
 }

@@ -1,8 +1,7 @@
 -- A box: a machine header as numbers, and all that is lent with it (docs/MACHINE.md, 13). A cache is of one form or another: words
 -- in the cores, slot records at the entries.
 use Rattle.std.specs.Prelude.{ℕ, List}
-use Rattle.model.specs.Header.{state_of}
-use Rattle.model.specs.Start.{Lent}
+use Rattle.model.specs.Header.{state_of, Lists}
 use Rattle.model.specs.State.{State}
 use Rattle.model.specs.Valid.{Valid}
 use Rattle.box_header.specs.Numbers.{machine_of, HeaderGood, changed, begun}
@@ -34,14 +33,15 @@ box header sets pairs cpu_map cpu_walker cpu_cache dma_map dma_walker dma_cache 
       memory = memory;
     }
 
+-- a box whose caches are words, from its header and what is lent with it
+abbrev pub box_with : List ℕ → Lists → Box (List ℕ)
+box_with header l = box header l.sets l.pairs l.cpu_map l.cpu_walker l.cpu_cache l.dma_map l.dma_walker l.dma_cache l.memory
+
 abbrev pub with_header : {C : Type 0} → Box C → List ℕ → Box C
 with_header b header = box header b.sets b.pairs b.cpu_map b.cpu_walker b.cpu_cache b.dma_map b.dma_walker b.dma_cache b.memory
 
--- ---- the state in a box, by the words of its caches
-abbrev pub state_in : {C : Type 0} → (C → List ℕ) → Box C → State
-state_in words_of b = state_of (machine_of b.header) b.sets b.pairs b.cpu_map b.cpu_walker (words_of b.cpu_cache) b.dma_map b.dma_walker (words_of b.dma_cache) b.memory
-
-abbrev pub lent_in : {C : Type 0} → (C → List ℕ) → Box C → Lent
+-- ---- what is lent in a box, and its state, by the words of its caches
+abbrev pub lent_in : {C : Type 0} → (C → List ℕ) → Box C → Lists
 lent_in words_of b =
     record {
       sets = b.sets;
@@ -54,6 +54,9 @@ lent_in words_of b =
       dma_cache = words_of b.dma_cache;
       memory = b.memory;
     }
+
+abbrev pub state_in : {C : Type 0} → (C → List ℕ) → Box C → State
+state_in words_of b = state_of (machine_of b.header) (lent_in words_of b)
 
 pub record BoxValid {C : Type 0} (words_of : C → List ℕ) (b : Box C) : Type 0 where
   pub header : HeaderGood b.header

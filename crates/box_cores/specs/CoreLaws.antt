@@ -1,13 +1,11 @@
 -- From what the machine's entries leave to what a core gives.
-use Rattle.std.specs.Prelude.{ℕ, ◌+◌, ◌<◌, Bool, List, ◌≡◌, length, get_or}
+use Rattle.std.specs.Prelude.{ℕ, ◌+◌, ◌<◌, Bool, List, ◌≡◌, length, get_or, Ok, Err}
 use Rattle.std.proofs.Math.Path.{refl, ap}
 use Rattle.std.proofs.Common.{◌∙◌, subst, arith, eq-eqb, ne_eqb}
 use Rattle.numbers.specs.Decides.{Decides}
 use Rattle.numbers.specs.DecidesLaws.{decides_as}
 use Rattle.numbers.specs.Limits.{ROW_NUMBERS, ANSWER_NUMBERS}
-use Rattle.numbers.specs.Meaning.{answer_numbers, number_of}
-use Rattle.numbers.specs.declared.Answer.{Answer}
-use Rattle.numbers.specs.declared.Answer.TheVariants.{Accepted, Refused}
+use Rattle.numbers.specs.Meaning.{answer_numbers, number_of, Answer}
 use Rattle.model.specs.Effect.{kept}
 use Rattle.model.specs.Entries.{JudgedRow, JudgedSequence, JudgedFree, valid, not_valid}
 use Rattle.model.specs.Sequence.{Sequenced, step_row, sequence}
@@ -40,11 +38,11 @@ module _ (b : Box (List ℕ)) (h : HeaderGood b.header) where
   -- a state that is as it was is left in the box as it was
   pub left_same : left_in same b s ≡ b
   left_same = ap (λ (header : List ℕ). record { header = header; sets = b.sets; pairs = b.pairs; cpu_map = b.cpu_map; cpu_walker = b.cpu_walker; cpu_cache = b.cpu_cache; dma_map = b.dma_map; dma_walker = b.dma_walker; dma_cache = b.dma_cache; memory = b.memory })
-      (changed_same b.header h.whole b.sets b.pairs b.cpu_map b.cpu_walker b.cpu_cache b.dma_map b.dma_walker b.dma_cache)
+      (changed_same b.header h.whole (lent_in same b))
 
   left_kept : (answer : Answer) (new : State) → new ≡ kept answer s new → left_in same b new ≡ kept answer b (left_in same b new)
-  left_kept (Accepted dropped word) new e = refl
-  left_kept (Refused refusal index) new e = ap (left_in same b) e ∙ left_same
+  left_kept (Ok ok) new e = refl
+  left_kept (Err err) new e = ap (left_in same b) e ∙ left_same
 
   -- ---- one operation
   module _ (row room : List ℕ) where
@@ -86,8 +84,8 @@ module _ (b : Box (List ℕ)) (told : Told) where
   begun_kept : (answer : Answer) → begun_in same b (kept answer (empty_state (lent_in same b)) (fresh_state told))
       ≡ kept answer (with_header b (begun b.header (kept answer (empty_state (lent_in same b)) (fresh_state told)).tables)) (begun_in same b (kept answer (empty_state (lent_in same b)) (fresh_state told)))
   unfolding empty_state
-  begun_kept (Accepted dropped word) = refl
-  begun_kept (Refused refusal index) = refl
+  begun_kept (Ok ok) = refl
+  begun_kept (Err err) = refl
 
   pub start_given_lem : (r : Started) → r ≡ start told (lent_in same b) → begins r ≡ start_gives same same b told
   unfolding start
@@ -106,7 +104,7 @@ RowReady cpuSlots dmaSlots b row room = (Ready cpuSlots dmaSlots b × (length ro
 
 -- the state of a box by the machine that was read from its header
 abbrev under : Box (List ℕ) → Machine → State
-under b m = state_of m b.sets b.pairs b.cpu_map b.cpu_walker b.cpu_cache b.dma_map b.dma_walker b.dma_cache b.memory
+under b m = state_of m (lent_in same b)
 
 -- what is asked of an operation, beside validity, is what was tested
 pub row_asked : {cpuSlots dmaSlots : ℕ} {b : Box (List ℕ)} {row room : List ℕ} → Whole cpuSlots dmaSlots × OperationAsked same b row room → RowReady cpuSlots dmaSlots b row room

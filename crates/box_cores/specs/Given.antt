@@ -1,8 +1,7 @@
 -- What each entry gives for a box (docs/MACHINE.md, 13): a number, the answer room, and the box as it is left.
 use Rattle.std.specs.Prelude.{ℕ, List, ◌≡◌, length}
 use Rattle.numbers.specs.Limits.{SLOTS, ROW_NUMBERS, ANSWER_NUMBERS}
-use Rattle.numbers.specs.Meaning.{answer_numbers, number_of}
-use Rattle.numbers.specs.declared.Answer.{Answer}
+use Rattle.numbers.specs.Meaning.{answer_numbers, number_of, Answer}
 use Rattle.numbers.specs.declared.Refusal.TheVariants.{StateNotValid}
 use Rattle.model.specs.Effect.{refused, kept}
 use Rattle.model.specs.Sequence.{Sequenced, step_row, sequence}

@@ -1,5 +1,6 @@
-// The entries over numbers alone that may change a box: a header as numbers, tables, and the 64 words of each cache by value, beside
-// how many slots were lent. Each says what it gives for any box at all (docs/MACHINE.md, 13). What only reads is crate `box_reads`.
+// The entries over numbers alone that may change a box: a header as numbers, and what is lent with it, whose caches are the 64 words
+// of each, beside how many slots were lent. Each says what it gives for any box at all (docs/MACHINE.md, 13). What only reads is
+// crate `box_reads`.
 #![tactic(auto)]
 
 ghost use Rattle.std.specs.Prelude.{◌≡◌, length};
@@ -7,19 +8,13 @@ ghost use Rattle.numbers.specs.Decides.{Decides};
 ghost use Rattle.numbers.specs.Limits.{ROW_NUMBERS, ANSWER_NUMBERS};
 ghost use Rattle.start.specs.Begun.{told};
 ghost use Rattle.box_header.specs.Numbers.{HeaderGood};
-ghost use Rattle.box_cores.specs.Boxes.{box, BoxValid};
+ghost use Rattle.model.specs.Header.{lists, Same};
+ghost use Rattle.box_cores.specs.Boxes.{box_with, BoxValid};
 ghost use Rattle.box_cores.specs.Given.{Judgement, given, operation_gives, operation_refused, OperationAsked, sequence_gives, refused_whole, StartOfWords, start_given, Whole, same};
 
 use box_header::MACHINE_NUMBERS;
-use numbers::{ANSWER_NUMBERS, ROW_NUMBERS, Refusal, SLOTS};
-
-// What a core hands back: the words of both caches, and the number that it answers.
-#[derive(Clone, Copy)]
-pub struct Finished {
-    pub cpu: [u64; SLOTS as usize],
-    pub dma: [u64; SLOTS as usize],
-    pub number: u64,
-}
+use model::Lent;
+use numbers::{ANSWER_NUMBERS, Answer, ROW_NUMBERS, Refusal, SLOTS, refuse};
 
 // Whether both caches have as many slots as they must.
 fn whole(cpu_slots: usize, dma_slots: usize) -> bool
@@ -53,172 +48,84 @@ fn row_ready(
 // ---- One operation, as a row.
 pub fn operation(
     header: &mut [u64],
-    sets: &mut [u64],
-    pairs: &mut [u64],
-    cpu_map: &mut [u64],
-    cpu_walker: &mut [u64],
-    dma_map: &mut [u64],
-    dma_walker: &mut [u64],
-    memory: &mut [u64],
+    lent: &mut Lent<&mut [u64]>,
     row: &[u64],
     answer: &mut [u64],
     cpu_slots: usize,
     dma_slots: usize,
-    cpu_words: [u64; SLOTS as usize],
-    dma_words: [u64; SLOTS as usize],
-) -> Finished
-    ensures { let before = box header.old sets.old pairs.old cpu_map.old cpu_walker.old cpu_words
-        dma_map.old dma_walker.old dma_words memory.old in
-        let left = box header.new sets.new pairs.new cpu_map.new cpu_walker.new result.cpu
-        dma_map.new dma_walker.new result.dma memory.new in
+) -> u64
+    ensures given { let before = box_with header.old (lists lent.old) in
         Judgement (Whole cpu_slots dma_slots × OperationAsked same before row.now answer.old)
         (operation_gives same same before row.now answer.old) (operation_refused before answer.old)
-        (given result.number answer.new left) }
+        (given result answer.new (box_with header.new (lists lent.new))) }
+    ensures same { Same lent.old lent.new }
 {
     if !row_ready(header, row, answer, cpu_slots, dma_slots) {
-        let refused = numbers::refuse(Refusal::StateNotValid, 0);
+        let refused = refuse(Refusal::StateNotValid, 0);
         box_header::put_answer(answer, refused);
-        return Finished {
-            cpu: cpu_words,
-            dma: dma_words,
-            number: box_header::number_of(refused),
-        };
+        return box_header::number_of(refused);
     }
-    let m = box_header::machine_in(header);
-    let mut cpu = cpu_words;
-    let mut dma = dma_words;
-    let numbers = box_header::eight(row);
-    let done = machine::entries::operation(
-        m, sets, pairs, cpu_map, cpu_walker, &mut cpu, dma_map, dma_walker, &mut dma, memory,
-        numbers,
-    );
-    let next = done.machine;
-    let gave = done.answer;
-    box_header::put_changed(header, next);
+    let mut m = box_header::machine_in(header);
+    let gave = machine::entries::operation(&mut m, lent, box_header::eight(row));
+    box_header::put_changed(header, &m);
     box_header::put_answer(answer, gave);
-    Finished {
-        cpu,
-        dma,
-        number: box_header::number_of(gave),
-    }
+    box_header::number_of(gave)
 }
 
 // ---- All the rows, one after the other.
 pub fn sequence(
     header: &mut [u64],
-    sets: &mut [u64],
-    pairs: &mut [u64],
-    cpu_map: &mut [u64],
-    cpu_walker: &mut [u64],
-    dma_map: &mut [u64],
-    dma_walker: &mut [u64],
-    memory: &mut [u64],
+    lent: &mut Lent<&mut [u64]>,
     rows: &[u64],
     answers: &mut [u64],
     cpu_slots: usize,
     dma_slots: usize,
-    cpu_words: [u64; SLOTS as usize],
-    dma_words: [u64; SLOTS as usize],
-) -> Finished
-    ensures { let before = box header.old sets.old pairs.old cpu_map.old cpu_walker.old cpu_words
-        dma_map.old dma_walker.old dma_words memory.old in
-        let left = box header.new sets.new pairs.new cpu_map.new cpu_walker.new result.cpu
-        dma_map.new dma_walker.new result.dma memory.new in
+) -> u64
+    ensures given { let before = box_with header.old (lists lent.old) in
         Judgement (Whole cpu_slots dma_slots × BoxValid same before)
         (sequence_gives same same before rows.now answers.old) (refused_whole before answers.old)
-        (given result.number answers.new left) }
+        (given result answers.new (box_with header.new (lists lent.new))) }
+    ensures same { Same lent.old lent.new }
 {
     if !ready(header, cpu_slots, dma_slots) {
-        let refused = numbers::refuse(Refusal::StateNotValid, 0);
-        return Finished {
-            cpu: cpu_words,
-            dma: dma_words,
-            number: box_header::number_of(refused),
-        };
+        return Refusal::StateNotValid.into();
     }
-    let m = box_header::machine_in(header);
-    let mut cpu = cpu_words;
-    let mut dma = dma_words;
-    let ran = machine::entries::sequence(
-        m, sets, pairs, cpu_map, cpu_walker, &mut cpu, dma_map, dma_walker, &mut dma, memory, rows,
-        answers,
-    );
-    let next = ran.machine;
-    let gave = ran.answer;
-    box_header::put_changed(header, next);
-    Finished {
-        cpu,
-        dma,
-        number: box_header::number_of(gave),
-    }
+    let mut m = box_header::machine_in(header);
+    let gave = machine::entries::sequence(&mut m, lent, rows, answers);
+    box_header::put_changed(header, &m);
+    box_header::number_of(gave)
 }
 
 // ---- Start.
 pub fn start(
     header: &mut [u64],
-    sets: &mut [u64],
-    pairs: &mut [u64],
-    cpu_map: &mut [u64],
-    cpu_walker: &mut [u64],
-    dma_map: &mut [u64],
-    dma_walker: &mut [u64],
-    memory: &mut [u64],
+    lent: &mut Lent<&mut [u64]>,
     pages: u64,
     shared_base: u64,
     shared_count: u64,
     units: &[u64],
     cpu_slots: usize,
     dma_slots: usize,
-    cpu_words: [u64; SLOTS as usize],
-    dma_words: [u64; SLOTS as usize],
-) -> Finished
-    ensures { let before = box header.old sets.old pairs.old cpu_map.old cpu_walker.old cpu_words
-        dma_map.old dma_walker.old dma_words memory.old in
-        let left = box header.new sets.new pairs.new cpu_map.new cpu_walker.new result.cpu
-        dma_map.new dma_walker.new result.dma memory.new in
-        StartOfWords cpu_slots dma_slots before (told pages shared_base shared_count units.now)
-        (start_given result.number left) }
+) -> u64
+    ensures given { StartOfWords cpu_slots dma_slots (box_with header.old (lists lent.old)) (told pages shared_base shared_count units.now)
+        (start_given result (box_with header.new (lists lent.new))) }
+    ensures same { Same lent.old lent.new }
 {
-    let refused = numbers::refuse(Refusal::StateNotValid, 0);
     if header.len() != MACHINE_NUMBERS {
-        return Finished {
-            cpu: cpu_words,
-            dma: dma_words,
-            number: box_header::number_of(refused),
-        };
+        return Refusal::StateNotValid.into();
     }
     if !whole(cpu_slots, dma_slots) {
-        let empty = start::empty_machine();
-        box_header::put_machine(header, empty);
-        return Finished {
-            cpu: cpu_words,
-            dma: dma_words,
-            number: box_header::number_of(refused),
-        };
+        box_header::put_machine(header, &start::empty_machine());
+        return Refusal::StateNotValid.into();
     }
-    let mut cpu = cpu_words;
-    let mut dma = dma_words;
-    let started = start::start(
-        sets,
-        pairs,
-        cpu_map,
-        cpu_walker,
-        &mut cpu,
-        dma_map,
-        dma_walker,
-        &mut dma,
-        memory,
-        pages,
-        shared_base,
-        shared_count,
-        units,
-    );
-    let next = started.machine;
-    let gave = started.answer;
-    box_header::put_machine(header, next);
-    Finished {
-        cpu,
-        dma,
-        number: box_header::number_of(gave),
+    match start::start(lent, pages, shared_base, shared_count, units) {
+        Ok(m) => {
+            box_header::put_machine(header, &m);
+            0
+        }
+        Err(refused) => {
+            box_header::put_machine(header, &start::empty_machine());
+            refused.refusal.into()
+        }
     }
 }

@@ -5,11 +5,11 @@ use Rattle.std.proofs.Math.ListN.{get_or-append}
 use Rattle.std.proofs.lemmas.List.{set-get_or}
 use Rattle.numbers.specs.Limits.{PORTS, UNITS}
 use Rattle.units.specs.Units.{is_mark, no_unit}
-use Rattle.model.specs.Header.{setup_of, tables_of, state_of}
+use Rattle.model.specs.Header.{setup_of, tables_of, state_of, Lists}
 use Rattle.model.specs.Sequence.{write_at}
 use Rattle.model.specs.Start.{UNIT_NUMBERS, number_told, units_told, units_from}
 use Rattle.model.specs.State.{Tables, State}
-use Rattle.box_header.specs.Numbers.{UNIT_COUNT_AT, KNOWN_AT, CPUS_AT, DEVICES_AT, UNITS_AT, MACHINE_NUMBERS, part, units_part, fixed_of, machine_of, HeaderGood, changing, changed, unit_numbers, setup_numbers, begun}
+use Rattle.box_header.specs.Numbers.{UNIT_COUNT_AT, KNOWN_AT, CPUS_AT, DEVICES_AT, UNITS_AT, MACHINE_NUMBERS, part, units_part, fixed_of, machine_of, HeaderGood, lists_of, changing, changed, unit_numbers, setup_numbers, begun}
 use Rattle.box_header.specs.PieceLaws.{three_writes}
 use Rattle.box_header.specs.UnitLaws.{mark_good, length-begun, before_units, unit_here, number_at, units_again}
 use Rattle.model.specs.WriteLaws.{length-written, written_before, written_here}
@@ -30,10 +30,9 @@ pub changed_length : (numbers : List ℕ) (t : Tables) → length (changed numbe
 changed_length numbers t = length-written numbers KNOWN_AT (changing t)
 
 -- what is written back unchanged changes nothing
-pub changed_same : (numbers : List ℕ) → length numbers ≡ MACHINE_NUMBERS → (sets pairs cpu_map cpu_walker cpu_cache dma_map dma_walker dma_cache : List ℕ) →
-    changed numbers (tables_of (machine_of numbers) sets pairs cpu_map cpu_walker cpu_cache dma_map dma_walker dma_cache) ≡ numbers
-changed_same numbers whole sets pairs cpu_map cpu_walker cpu_cache dma_map dma_walker dma_cache =
-    sym (three_writes numbers (tables_of (machine_of numbers) sets pairs cpu_map cpu_walker cpu_cache dma_map dma_walker dma_cache) (ports CPUS_AT (omega arith)))
+pub changed_same : (numbers : List ℕ) → length numbers ≡ MACHINE_NUMBERS → (l : Lists) → changed numbers (tables_of (machine_of numbers) l) ≡ numbers
+changed_same numbers whole l =
+    sym (three_writes numbers (tables_of (machine_of numbers) l) (ports CPUS_AT (omega arith)))
     ∙ rw (set-get_or numbers 4 0, set-get_or numbers 5 0, set-get_or numbers 6 0, rewritten CPUS_AT (omega arith)) (rewritten DEVICES_AT (omega arith))
   where
     ports : (at : ℕ) → at + PORTS ≤ MACHINE_NUMBERS → length (part numbers at PORTS) ≡ PORTS
@@ -72,8 +71,8 @@ module _ (numbers : List ℕ) (t : Tables) (whole : length numbers ≡ MACHINE_N
             let z : KNOWN_AT + suc (suc (suc (length t.cpu.ports + j))) ≡ DEVICES_AT + j = omega arith in
             rw z at (change_at_lem (suc (suc (suc (length t.cpu.ports + j)))) (omega (arith, ends))) ∙ get_or-append-add t.cpu.ports t.dma.ports j 0
 
-    tables_are : setup_of (fixed_of now) ≡ t.setup → tables_of (machine_of now) t.sets t.pairs t.cpu.map t.cpu.walker t.cpu.cache t.dma.map t.dma.walker t.dma.cache ≡ t
-    tables_are setup =
+    tables_are : (memory : List ℕ) → setup_of (fixed_of now) ≡ t.setup → tables_of (machine_of now) (lists_of t memory) ≡ t
+    tables_are memory setup =
         λ i.
         record {
           setup = setup i;
@@ -94,7 +93,7 @@ changed_good numbers t good cpus devices =
     }
 
 pub state_changed : (numbers : List ℕ) (s : State) → length numbers ≡ MACHINE_NUMBERS → length s.tables.cpu.ports ≡ PORTS → length s.tables.dma.ports ≡ PORTS → s.tables.setup ≡ setup_of (fixed_of numbers) →
-    state_of (machine_of (changed numbers s.tables)) s.tables.sets s.tables.pairs s.tables.cpu.map s.tables.cpu.walker s.tables.cpu.cache s.tables.dma.map s.tables.dma.walker s.tables.dma.cache s.memory ≡ s
+    state_of (machine_of (changed numbers s.tables)) (lists_of s.tables s.memory) ≡ s
 state_changed numbers s whole cpus devices setup =
     let t = s.tables in
     let before : (j : ℕ) → j < KNOWN_AT → get_or (changed numbers t) j 0 ≡ get_or numbers j 0 = written_before numbers KNOWN_AT (changing t) in
@@ -107,7 +106,7 @@ state_changed numbers s whole cpus devices setup =
       units = units_told (units_kept numbers t whole cpus devices i);
       unit_count = before UNIT_COUNT_AT (omega arith) i;
     } in
-    let tables = tables_are numbers t whole cpus devices (changed numbers t) (changed_length numbers t ∙ whole) (λ j b. refl) (kept ∙ sym setup) in
+    let tables = tables_are numbers t whole cpus devices (changed numbers t) (changed_length numbers t ∙ whole) (λ j b. refl) s.memory (kept ∙ sym setup) in
     λ i. record { tables = tables i; memory = s.memory }
 
 -- ---- a header after start
@@ -144,7 +143,7 @@ module _ (numbers : List ℕ) (s : State) (whole : length numbers ≡ MACHINE_NU
   units_are : units_from (units_part (begun numbers s.tables)) 0 UNITS ≡ s.tables.setup.units
   units_are = units_again (units_part (begun numbers s.tables)) s.tables.setup.units UNITS (rw units_long (omega arith)) all unit_told_lem
 
-  pub state_begun : state_of (machine_of (begun numbers s.tables)) s.tables.sets s.tables.pairs s.tables.cpu.map s.tables.cpu.walker s.tables.cpu.cache s.tables.dma.map s.tables.dma.walker s.tables.dma.cache s.memory ≡ s
+  pub state_begun : state_of (machine_of (begun numbers s.tables)) (lists_of s.tables s.memory) ≡ s
   state_begun =
       let setup : setup_of (fixed_of (begun numbers s.tables)) ≡ s.tables.setup =
       λ i.
@@ -155,5 +154,5 @@ module _ (numbers : List ℕ) (s : State) (whole : length numbers ≡ MACHINE_NU
         units = units_are i;
         unit_count = setup_at UNIT_COUNT_AT (omega arith) i;
       } in
-      let tables = tables_are (write_at numbers 0 four) s.tables (length-written numbers 0 four ∙ whole) cpus devices (begun numbers s.tables) long same setup in
+      let tables = tables_are (write_at numbers 0 four) s.tables (length-written numbers 0 four ∙ whole) cpus devices (begun numbers s.tables) long same s.memory setup in
       λ i. record { tables = tables i; memory = s.memory }

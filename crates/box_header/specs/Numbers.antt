@@ -1,13 +1,13 @@
 -- The header of a machine as numbers alone, the form in which it crosses to C (docs/MACHINE.md, 13).
-use Rattle.std.specs.Prelude.{ℕ, ◌+◌, ◌*◌, ◌<◌, Bool, true, not, ◌&&◌, List, [], ◌∷◌, ◌++◌, ◌≡◌, eqb, ltb, length, get_or, take, drop}
+use Rattle.std.specs.Prelude.{ℕ, ◌+◌, ◌*◌, ◌<◌, Bool, true, not, ◌&&◌, List, [], ◌∷◌, ◌++◌, ◌≡◌, eqb, ltb, length, get_or, take, drop, Option}
 use Rattle.std.specs.Prelude.{if◌then◌else◌}
 use Rattle.numbers.specs.Limits.{PORTS, UNITS}
 use Rattle.numbers.specs.Meaning.{lowest_numbers}
-use Rattle.numbers.specs.declared.Lowest.{Lowest}
+use Rattle.numbers.specs.declared.PhysPage.{PhysPage}
 use Rattle.table.specs.Scan.{repeat}
 use Rattle.units.specs.Units.{mark_number, is_mark, no_unit}
 use Rattle.units.specs.declared.Unit.{Unit}
-use Rattle.model.specs.Header.{header_of, tables_of}
+use Rattle.model.specs.Header.{header_of, tables_of, Lists}
 use Rattle.model.specs.Sequence.{write_at}
 use Rattle.model.specs.Start.{UNIT_NUMBERS, number_told, units_told}
 use Rattle.model.specs.State.{Tables, Setup}
@@ -81,6 +81,24 @@ pub record HeaderGood (numbers : List ℕ) : Type 0 where
 abbrev pub bad_mark : List ℕ → ℕ → ℕ → Bool
 bad_mark units count k = ltb k count && not (is_mark (number_told units k MARK_AT))
 
+-- ---- what is lent with a header: the lists of tables, with memory, or none at all
+abbrev pub lists_of : Tables → List ℕ → Lists
+lists_of t memory =
+    record {
+      sets = t.sets;
+      pairs = t.pairs;
+      cpu_map = t.cpu.map;
+      cpu_walker = t.cpu.walker;
+      cpu_cache = t.cpu.cache;
+      dma_map = t.dma.map;
+      dma_walker = t.dma.walker;
+      dma_cache = t.dma.cache;
+      memory = memory;
+    }
+
+abbrev pub no_lists : Lists
+no_lists = record { sets = []; pairs = []; cpu_map = []; cpu_walker = []; cpu_cache = []; dma_map = []; dma_walker = []; dma_cache = []; memory = [] }
+
 -- ---- what an operation leaves: the numbers that it may change, written over those that were there
 abbrev pub changing : Tables → List ℕ
 changing t = t.known ∷ t.cpu.hand ∷ t.dma.hand ∷ (t.cpu.ports ++ t.dma.ports)
@@ -90,11 +108,11 @@ changed numbers t = write_at numbers KNOWN_AT (changing t)
 
 -- the same of a machine, as the code has it
 abbrev pub changed_by : List ℕ → Machine → List ℕ
-changed_by numbers m = changed numbers (tables_of m [] [] [] [] [] [] [] [])
+changed_by numbers m = changed numbers (tables_of m no_lists)
 
 -- ---- what start leaves: all of them
 abbrev pub unit_numbers : Unit → List ℕ
-unit_numbers unit = unit.vm.0 ∷ unit.guest.0 ∷ unit.page.0 ∷ unit.count ∷ unit.access ∷ mark_number unit.mark ∷ []
+unit_numbers unit = unit.region.vm.0 ∷ unit.region.guest.0 ∷ unit.region.page.0 ∷ unit.region.count ∷ unit.region.access ∷ mark_number unit.mark ∷ []
 
 abbrev pub setup_numbers : Setup → List ℕ
 setup_numbers s = s.pages ∷ s.shared_base ∷ s.shared_count ∷ s.unit_count ∷ []
@@ -106,7 +124,7 @@ abbrev pub begun : List ℕ → Tables → List ℕ
 begun numbers t = repeat (unit_written t.setup.units) 0 UNITS (changed (write_at numbers 0 (setup_numbers t.setup)) t)
 
 abbrev pub begun_by : List ℕ → Machine → List ℕ
-begun_by numbers m = begun numbers (tables_of m [] [] [] [] [] [] [] [])
+begun_by numbers m = begun numbers (tables_of m no_lists)
 
 -- ---- answers as numbers
 -- numbers written over a room that has just as many places, and no other
@@ -117,8 +135,8 @@ answered room numbers = if eqb (length room) (length numbers) then write_at room
 abbrev pub NO_PAGE : ℕ
 NO_PAGE = 18446744073709551615
 
-abbrev pub lowest_number : Lowest → ℕ
+abbrev pub lowest_number : Option PhysPage → ℕ
 lowest_number lowest = get_or (lowest_numbers lowest) 0 NO_PAGE
 
-abbrev pub free_numbers : ℕ → Lowest → List ℕ
+abbrev pub free_numbers : ℕ → Option PhysPage → List ℕ
 free_numbers count lowest = count ∷ lowest_number lowest ∷ []

@@ -58,11 +58,13 @@ unit_again numbers unit k told =
     let mark : mark_of (number_told numbers k 5) ≡ unit.mark = ap mark_of (told 5 (omega arith)) ∙ mark_again unit.mark in
     λ i.
     record {
-      vm = record { 0 = told 0 (omega arith) i };
-      guest = record { 0 = told 1 (omega arith) i };
-      page = record { 0 = told 2 (omega arith) i };
-      count = told 3 (omega arith) i;
-      access = told 4 (omega arith) i;
+      region = record {
+        vm = record { 0 = told 0 (omega arith) i };
+        guest = record { 0 = told 1 (omega arith) i };
+        page = record { 0 = told 2 (omega arith) i };
+        count = told 3 (omega arith) i;
+        access = told 4 (omega arith) i;
+      };
       mark = mark i;
     }
 

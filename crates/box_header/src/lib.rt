@@ -11,7 +11,7 @@ ghost use Rattle.model.specs.Start.{UNIT_NUMBERS};
 ghost use Rattle.box_header.specs.Numbers.{MACHINE_NUMBERS, fixed_of, registers_of, machine_of, HeaderGood, bad_mark, changed_by, unit_numbers, unit_written, begun_by, answered, lowest_number, free_numbers};
 
 use model::{Fixed, Machine, Registers, SideRegisters};
-use numbers::{Answer, Lowest, PORTS, UNITS};
+use numbers::{Answer, PORTS, PhysPage, UNITS};
 use start::UNIT_NUMBERS;
 use units::Unit;
 
@@ -36,7 +36,7 @@ const MARK_AT: usize = 5;
 pub const MACHINE_NUMBERS: usize = UNITS_AT + UNITS * UNIT_NUMBERS;
 
 // The lowest free page where none is free.
-pub const NO_PAGE: u64 = 18446744073709551615;
+pub const NO_PAGE: u64 = u64::MAX;
 
 // ---- Reading.
 
@@ -45,13 +45,11 @@ fn any_bad_mark(units: &[u64], count: u64) -> bool
     requires { length units.now ≡ UNITS * UNIT_NUMBERS }
     ensures { result ≡ any_below (bad_mark units.now count) UNITS }
 {
-    let mut k = 0;
-    while k < UNITS {
+    for k in 0..UNITS {
         let mark = units[k * UNIT_NUMBERS + MARK_AT];
         if ((k as u64) < count) & !units::is_mark(mark) {
             return true;
         }
-        k += 1;
     }
     false
 }
@@ -60,10 +58,8 @@ fn any_bad_mark(units: &[u64], count: u64) -> bool
 pub fn is_header(numbers: &[u64]) -> bool
     ensures { Decides result (HeaderGood numbers.now) }
 {
-    if numbers.len() != MACHINE_NUMBERS {
-        return false;
-    }
-    !any_bad_mark(&numbers[UNITS_AT..MACHINE_NUMBERS], numbers[UNIT_COUNT_AT])
+    numbers.len() == MACHINE_NUMBERS
+        && !any_bad_mark(&numbers[UNITS_AT..MACHINE_NUMBERS], numbers[UNIT_COUNT_AT])
 }
 
 // Eight numbers by value: the ports of a side, or a row.
@@ -71,22 +67,18 @@ pub fn eight(numbers: &[u64]) -> [u64; PORTS as usize]
     requires { length numbers.now ≡ PORTS }
     ensures { result ≡ numbers.now }
 {
-    [
-        numbers[0], numbers[1], numbers[2], numbers[3], numbers[4], numbers[5], numbers[6],
-        numbers[7],
-    ]
+    numbers.try_into().unwrap()
 }
 
 fn fixed_in(numbers: &[u64]) -> Fixed
     requires { length numbers.now ≡ MACHINE_NUMBERS }
     ensures { result ≡ fixed_of numbers.now }
 {
-    let units = start::units_told(&numbers[UNITS_AT..MACHINE_NUMBERS]);
     Fixed {
         pages: numbers[0],
         shared_base: numbers[1],
         shared_count: numbers[2],
-        units,
+        units: start::units_told(&numbers[UNITS_AT..MACHINE_NUMBERS]),
         unit_count: numbers[UNIT_COUNT_AT],
     }
 }
@@ -95,16 +87,14 @@ fn registers_in(numbers: &[u64]) -> Registers
     requires { length numbers.now ≡ MACHINE_NUMBERS }
     ensures { result ≡ registers_of numbers.now }
 {
-    let cpus = eight(&numbers[CPUS_AT..DEVICES_AT]);
-    let devices = eight(&numbers[DEVICES_AT..UNITS_AT]);
     Registers {
         known: numbers[KNOWN_AT],
         cpu: SideRegisters {
-            ports: cpus,
+            ports: eight(&numbers[CPUS_AT..DEVICES_AT]),
             hand: numbers[CPU_HAND_AT],
         },
         dma: SideRegisters {
-            ports: devices,
+            ports: eight(&numbers[DEVICES_AT..UNITS_AT]),
             hand: numbers[DMA_HAND_AT],
         },
     }
@@ -115,9 +105,10 @@ pub fn machine_in(numbers: &[u64]) -> Machine
     requires { length numbers.now ≡ MACHINE_NUMBERS }
     ensures { result ≡ machine_of numbers.now }
 {
-    let fixed = fixed_in(numbers);
-    let registers = registers_in(numbers);
-    Machine { fixed, registers }
+    Machine {
+        fixed: fixed_in(numbers),
+        registers: registers_in(numbers),
+    }
 }
 
 // ---- Writing.
@@ -127,72 +118,58 @@ fn put_numbers(numbers: &mut [u64], at: usize, from: &[u64])
     requires { at + length from.now ≤ length numbers.old }
     ensures { numbers.new ≡ write_at numbers.old at from.now }
 {
-    let mut k = 0;
-    while k < from.len() {
-        numbers[at + k] = from[k];
-        k += 1;
-    }
+    numbers[at..at + from.len()].copy_from_slice(from);
 }
 
 // The numbers that an operation may change; all others stay.
-pub fn put_changed(numbers: &mut [u64], m: Machine)
+pub fn put_changed(numbers: &mut [u64], m: &Machine)
     requires { length numbers.old ≡ MACHINE_NUMBERS }
-    ensures { numbers.new ≡ changed_by numbers.old m }
+    ensures { numbers.new ≡ changed_by numbers.old m.now }
 {
-    let hands = [
-        m.registers.known,
-        m.registers.cpu.hand,
-        m.registers.dma.hand,
-    ];
-    let cpus = m.registers.cpu.ports;
-    let devices = m.registers.dma.ports;
-    put_numbers(numbers, KNOWN_AT, &hands);
-    put_numbers(numbers, CPUS_AT, &cpus);
-    put_numbers(numbers, DEVICES_AT, &devices);
+    let Registers { known, cpu, dma } = m.registers;
+    put_numbers(numbers, KNOWN_AT, &[known, cpu.hand, dma.hand]);
+    put_numbers(numbers, CPUS_AT, &cpu.ports);
+    put_numbers(numbers, DEVICES_AT, &dma.ports);
 }
 
 fn unit_numbers(unit: Unit) -> [u64; UNIT_NUMBERS]
     ensures { result ≡ unit_numbers unit }
 {
-    let mark = unit.mark;
+    let Unit { region, mark } = unit;
     [
-        unit.vm.0,
-        unit.guest.0,
-        unit.page.0,
-        unit.count,
-        unit.access,
-        units::mark_number(mark),
+        region.vm.0,
+        region.guest.0,
+        region.page.0,
+        region.count,
+        region.access,
+        mark.into(),
     ]
 }
 
-fn put_units(numbers: &mut [u64], units: [Unit; UNITS])
+fn put_units(numbers: &mut [u64], units: &[Unit; UNITS])
     requires { length numbers.old ≡ MACHINE_NUMBERS }
-    ensures { numbers.new ≡ repeat (unit_written units) 0 UNITS numbers.old }
+    ensures { numbers.new ≡ repeat (unit_written units.now) 0 UNITS numbers.old }
 {
-    let mut k = 0;
-    while k < UNITS {
-        let unit = units[k];
-        let six = unit_numbers(unit);
-        put_numbers(numbers, UNITS_AT + k * UNIT_NUMBERS, &six);
-        k += 1;
+    for (k, unit) in units.iter().enumerate() {
+        put_numbers(numbers, UNITS_AT + k * UNIT_NUMBERS, &unit_numbers(*unit));
     }
 }
 
 // All the numbers of a header.
-pub fn put_machine(numbers: &mut [u64], m: Machine)
+pub fn put_machine(numbers: &mut [u64], m: &Machine)
     requires { length numbers.old ≡ MACHINE_NUMBERS }
-    ensures { numbers.new ≡ begun_by numbers.old m }
+    ensures { numbers.new ≡ begun_by numbers.old m.now }
 {
+    let fixed = &m.fixed;
     let setup = [
-        m.fixed.pages,
-        m.fixed.shared_base,
-        m.fixed.shared_count,
-        m.fixed.unit_count,
+        fixed.pages,
+        fixed.shared_base,
+        fixed.shared_count,
+        fixed.unit_count,
     ];
-    let units = m.fixed.units;
     put_numbers(numbers, 0, &setup);
     put_changed(numbers, m);
-    put_units(numbers, units);
+    put_units(numbers, &fixed.units);
 }
 
 // ---- Answers as numbers.
@@ -201,8 +178,8 @@ pub fn number_of(answer: Answer) -> u64
     ensures { result ≡ number_of answer }
 {
     match answer {
-        Answer::Accepted { dropped, word } => 0,
-        Answer::Refused { refusal, index } => numbers::refusal_number(refusal),
+        Ok(_) => 0,
+        Err(refused) => refused.refusal.into(),
     }
 }
 
@@ -218,22 +195,17 @@ fn put_all(room: &mut [u64], from: &[u64])
 pub fn put_answer(room: &mut [u64], answer: Answer)
     ensures { room.new ≡ answered room.old (answer_numbers answer) }
 {
-    let four = numbers::answer_numbers(answer);
-    put_all(room, &four);
+    put_all(room, &numbers::answer_numbers(answer));
 }
 
-fn lowest_number(lowest: Lowest) -> u64
+fn lowest_number(lowest: Option<PhysPage>) -> u64
     ensures { result ≡ lowest_number lowest }
 {
-    match lowest {
-        Lowest::Page(page) => page.0,
-        Lowest::Nothing => NO_PAGE,
-    }
+    lowest.map_or(NO_PAGE, |page| page.0)
 }
 
-pub fn put_free(room: &mut [u64], count: u64, lowest: Lowest)
+pub fn put_free(room: &mut [u64], count: u64, lowest: Option<PhysPage>)
     ensures { room.new ≡ answered room.old (free_numbers count lowest) }
 {
-    let two = [count, lowest_number(lowest)];
-    put_all(room, &two);
+    put_all(room, &[count, lowest_number(lowest)]);
 }

@@ -8,8 +8,7 @@ use mathlib.Core.Path.{◌≡◌, refl, sym, ap, ◌∙◌}
 use native.Mathlib.Omega.{arith}
 use lib.ListN.{length, get_or}
 use Rattle.numbers.specs.Limits.{ANSWER_NUMBERS}
-use Rattle.numbers.specs.Meaning.{answer_numbers, number_of}
-use Rattle.numbers.specs.declared.Answer.{Answer}
+use Rattle.numbers.specs.Meaning.{answer_numbers, number_of, Answer}
 use Rattle.numbers.specs.declared.Refusal.TheVariants.{StateNotValid}
 use Rattle.model.specs.Conditions.{RowConditions}
 use Rattle.model.specs.Entries.{valid}

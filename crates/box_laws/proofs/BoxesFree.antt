@@ -6,8 +6,8 @@ use mathlib.Core.Path.{◌≡◌, refl, ap, ◌∙◌}
 use native.Mathlib.Omega.{arith}
 use lib.ListN.{length, get_or}
 use Rattle.numbers.specs.Limits.{ROW_NUMBERS, ANSWER_NUMBERS}
-use Rattle.numbers.specs.declared.Lowest.{Lowest}
-use Rattle.numbers.specs.declared.Lowest.TheVariants.{Page, Nothing}
+use Rattle.std.specs.Prelude.{Option, Some, None}
+use Rattle.numbers.specs.declared.PhysPage.{PhysPage}
 use Rattle.model.specs.Conditions.{Knows}
 use Rattle.model.specs.Start.{free, free_refused}
 use Rattle.model.specs.State.{Tables}
@@ -40,8 +40,8 @@ module _ {C : Type 0} (words_of : C → List ℕ) (cacheOf : List ℕ → C) (b 
       second : lowest_in f ≡ lowest_number (free t).lowest
       second = ap lowest_in e ∙ answered_here room (free_numbers (free t).count (free t).lowest) a.whole_room 1 (omega arith)
 
-      which : (lowest : Lowest) → (free t).lowest ≡ lowest → r.number ≡ 0
-      which Nothing q = absurd (some (second ∙ ap lowest_number q))
-      which (Page page) q =
+      which : (lowest : Option PhysPage) → (free t).lowest ≡ lowest → r.number ≡ 0
+      which None q = absurd (some (second ∙ ap lowest_number q))
+      which (Some page) q =
           (operation_exactly words_of cacheOf b (assign_lowest f vm rest) answers r j).1
           (record { box = a.box; whole_row = omega (arith, l); whole_room = l' }, rw (second ∙ ap lowest_number q) (lowest_row t a.box.state.tables page q vm known rest))

@@ -2,12 +2,11 @@
 -- equal. Said for caches of any form whose words can be read again.
 use Prim.Native.Nat.{ℕ, zero, suc}
 use mathlib.Core.List.{List}
-use mathlib.Core.Option.{Option, none, some}
+use Rattle.std.specs.Prelude.{Option, None, Some, Ok, Err}
 use mathlib.Core.Path.{◌≡◌, refl, sym, ap, ◌∙◌, subst}
 use lib.ListN.{length-replicate}
 use Rattle.numbers.specs.Limits.{PORTS, UNITS, IDLE}
-use Rattle.numbers.specs.declared.Answer.{Answer}
-use Rattle.numbers.specs.declared.Answer.TheVariants.{Accepted, Refused}
+use Rattle.numbers.specs.Meaning.{Answer, refuse}
 use Rattle.numbers.specs.declared.Operation.{Operation}
 use Rattle.numbers.specs.declared.Refusal.{Refusal}
 use Rattle.units.specs.Units.{no_unit}
@@ -24,7 +23,7 @@ use Rattle.model.proofs.Kept.{row_valid, sequence_valid}
 use Rattle.model.proofs.StartKept.{start_valid, empty_not_valid}
 use Rattle.model.proofs.Answers.{after_next}
 use Rattle.box_header.specs.HeaderLaws.{changed_good, state_changed, begun_good, state_begun}
-use Rattle.box_header.specs.Numbers.{fixed_of, machine_of, HeaderGood, changed, begun}
+use Rattle.box_header.specs.Numbers.{fixed_of, machine_of, lists_of, HeaderGood, changed, begun}
 use Rattle.box_cores.specs.Boxes.{Box, BoxValid, state_in, lent_in, with_header, left_in, begun_in}
 use Rattle.box_cores.specs.Given.{Judgement, met, unmet, operation_gives, sequence_gives, start_gives, HeaderWhole}
 
@@ -37,8 +36,8 @@ determined (unmet n e) (unmet n' e') = e ∙ sym e'
 
 -- ---- what start fixed stays
 known_setup : (s : State) (o : Option Operation) → (step_known s o).state.tables.setup ≡ s.tables.setup
-known_setup s none = refl
-known_setup s (some operation) = (step_sizes s operation).tables.setup
+known_setup s None = refl
+known_setup s (Some operation) = (step_sizes s operation).tables.setup
 
 pub row_setup : (s : State) (row : List ℕ) → (step_row s row).state.tables.setup ≡ s.tables.setup
 unfolding step_row
@@ -57,15 +56,15 @@ sequence_setup s rows room = whole (shape_answer rows room)
     p = beginning s room
 
     whole : (answer : Answer) → (kept answer p (after rows (row_count rows) p)).state.tables.setup ≡ s.tables.setup
-    whole (Accepted dropped word) = after_setup rows (row_count rows) p
-    whole (Refused refusal index) = refl
+    whole (Ok ok) = after_setup rows (row_count rows) p
+    whole (Err err) = refl
 
 module _ {C : Type 0} (words_of : C → List ℕ) (cacheOf : List ℕ → C) (back : (ws : List ℕ) → words_of (cacheOf ws) ≡ ws) where
   -- the state of a box that was left, from its header and the words of its caches
   module _ (b : Box C) (new : State) (h : HeaderGood b.header) (v : Valid new) where
     pub left_state : new.tables.setup ≡ setup_of (fixed_of b.header) → state_in words_of (left_in cacheOf b new) ≡ new
     left_state e =
-        (λ i. state_of (machine_of (changed b.header new.tables)) new.tables.sets new.tables.pairs new.tables.cpu.map new.tables.cpu.walker (back new.tables.cpu.cache i) new.tables.dma.map new.tables.dma.walker (back new.tables.dma.cache i) new.memory)
+        (λ i. state_of (machine_of (changed b.header new.tables)) (record (lists_of new.tables new.memory) { cpu_cache = back new.tables.cpu.cache i; dma_cache = back new.tables.dma.cache i }))
         ∙ state_changed b.header new h.whole v.tables.lengths.cpu.ports v.tables.lengths.dma.ports e
 
     pub left_valid : new.tables.setup ≡ setup_of (fixed_of b.header) → BoxValid words_of (left_in cacheOf b new)
@@ -79,12 +78,12 @@ module _ {C : Type 0} (words_of : C → List ℕ) (cacheOf : List ℕ → C) (ba
   module _ (b : Box C) (v : BoxValid words_of b) where
     kept_state : (answer : Answer) (new : State) → new ≡ kept answer (state_in words_of b) new → Valid new → new.tables.setup ≡ setup_of (fixed_of b.header)
         → state_in words_of (kept answer b (left_in cacheOf b new)) ≡ new
-    kept_state (Accepted dropped word) new k w e = left_state b new v.header w e
-    kept_state (Refused refusal index) new k w e = sym k
+    kept_state (Ok ok) new k w e = left_state b new v.header w e
+    kept_state (Err err) new k w e = sym k
 
     kept_valid : (answer : Answer) (new : State) → Valid new → new.tables.setup ≡ setup_of (fixed_of b.header) → BoxValid words_of (kept answer b (left_in cacheOf b new))
-    kept_valid (Accepted dropped word) new w e = left_valid b new v.header w e
-    kept_valid (Refused refusal index) new w e = v
+    kept_valid (Ok ok) new w e = left_valid b new v.header w e
+    kept_valid (Err err) new w e = v
 
     -- ---- one operation
     pub operation_state : (row room : List ℕ) → state_in words_of (operation_gives words_of cacheOf b row room).box ≡ (step_row (state_in words_of b) row).state
@@ -125,7 +124,7 @@ module _ {C : Type 0} (words_of : C → List ℕ) (cacheOf : List ℕ → C) (ba
 
     begun_state : state_in words_of (begun_in cacheOf b new) ≡ new
     begun_state =
-        (λ i. state_of (machine_of (begun b.header new.tables)) new.tables.sets new.tables.pairs new.tables.cpu.map new.tables.cpu.walker (back new.tables.cpu.cache i) new.tables.dma.map new.tables.dma.walker (back new.tables.dma.cache i) new.memory)
+        (λ i. state_of (machine_of (begun b.header new.tables)) (record (lists_of new.tables new.memory) { cpu_cache = back new.tables.cpu.cache i; dma_cache = back new.tables.dma.cache i }))
         ∙ state_begun b.header new h v.tables.lengths.units v.tables.lengths.cpu.ports v.tables.lengths.dma.ports
 
     pub start_state : state_in words_of (start_gives words_of cacheOf b told).box ≡ new
@@ -140,11 +139,11 @@ module _ {C : Type 0} (words_of : C → List ℕ) (cacheOf : List ℕ → C) (ba
         })
 
   -- refused, it leaves a box that is not valid: its header says the empty machine
-  module _ (b : Box C) (told : Told) (h : HeaderWhole b.header) {refusal : Refusal} {index : ℕ} (e : start_answer told (lent_in words_of b) ≡ Refused refusal index) where
+  module _ (b : Box C) (told : Told) (h : HeaderWhole b.header) {refusal : Refusal} {index : ℕ} (e : start_answer told (lent_in words_of b) ≡ refuse refusal index) where
     abbrev nothing : State
     nothing = empty_state (lent_in words_of b)
 
-    no : (start told (lent_in words_of b)).answer ≡ Refused refusal index
+    no : (start told (lent_in words_of b)).answer ≡ refuse refusal index
     unfolding start
     no = e
 

@@ -11,9 +11,8 @@ use lib.ListN.{length, get_or}
 use borrow.Author.Tests.{eq-eqb}
 use Rattle.numbers.specs.CaseLaws.{equal}
 use Rattle.numbers.specs.Limits.{PAGE_WORDS, ANSWER_NUMBERS}
-use Rattle.numbers.specs.Meaning.{answer_numbers, number_of}
-use Rattle.numbers.specs.declared.Answer.{Answer}
-use Rattle.numbers.specs.declared.Answer.TheVariants.{Accepted, Refused}
+use Rattle.numbers.specs.Meaning.{answer_numbers, number_of, Answer}
+use Rattle.std.specs.Prelude.{Ok, Err}
 use Rattle.model.specs.Effect.{word_in, kept}
 use Rattle.model.specs.EarlyLaws.{never_both}
 use Rattle.model.specs.Entries.{valid}
@@ -91,10 +90,10 @@ module _ (members : ℕ → Bool) (Secret : Tables → ℕ → Type 0) (reading 
 
     kept_rest : (x y : Answer) → without_word x ≡ without_word y → (new new' : State) → new.tables ≡ new'.tables →
         with_memory (kept x b (left_in cacheOf b new)) [] ≡ with_memory (kept y b' (left_in cacheOf b' new')) []
-    kept_rest (Accepted d w) (Accepted d' w') e new new' t = left_rest new new' t
-    kept_rest (Refused refusal k) (Refused refusal' k') e new new' t = like.rest
-    kept_rest (Accepted d w) (Refused refusal k) e new new' t = never_both (sym e)
-    kept_rest (Refused refusal k) (Accepted d w) e new new' t = never_both e
+    kept_rest (Ok ok) (Ok ok') e new new' t = left_rest new new' t
+    kept_rest (Err err) (Err err') e new new' t = like.rest
+    kept_rest (Ok ok) (Err err) e new new' t = never_both (sym e)
+    kept_rest (Err err) (Ok ok) e new new' t = never_both e
 
   -- boxes with alike states
   boxes_of : (x x' : Box C) (new new' : State) → state_in words_of x ≡ new → state_in words_of x' ≡ new' → Alike members Secret new new' → with_memory x [] ≡ with_memory x' [] → BoxesAlike members Secret words_of x x'
@@ -213,6 +212,6 @@ module _ (members : ℕ → Bool) (Secret : Tables → ℕ → Type 0) (reading 
       p = beginning (state_in words_of b) room
 
       stays : (x : Answer) → Unchanged (state_in words_of b) (after rows (row_count rows) p).state page word → Unchanged (state_in words_of b) (kept x p (after rows (row_count rows) p)).state page word
-      stays (Accepted d w) same = same
-      stays (Refused refusal k) same = refl
+      stays (Ok ok) same = same
+      stays (Err err) same = refl
   sequence_own_write b rows room r (unmet n e) page word h private = inl (ap (λ (g : Given C). word_in g.box.memory page word) e)

@@ -9,7 +9,7 @@ use mathlib.Core.Path.{◌≡◌, refl}
 use lib.Dec.{eqb}
 use lib.ListN.{length, get_or}
 use Rattle.numbers.specs.Limits.{ROW_NUMBERS, ANSWER_NUMBERS}
-use Rattle.numbers.specs.declared.Answer.TheVariants.{Refused}
+use Rattle.numbers.specs.Meaning.{refuse}
 use Rattle.numbers.specs.declared.Refusal.{Refusal}
 use Rattle.model.specs.Conditions.{Knows, RowConditions}
 use Rattle.model.specs.Effect.{accepted}
@@ -53,7 +53,7 @@ module _ (b : Box (List Slot)) where
     pub start_slots_valid : start_answer told (lent_in words b) ≡ accepted → BoxValid words (start_gives words slots_of b told).box
     start_slots_valid = start_box_valid words slots_of words_again b told h
 
-    pub refused_slots_not_valid : {refusal : Refusal} {index : ℕ} → start_answer told (lent_in words b) ≡ Refused refusal index → BoxValid words (start_gives words slots_of b told).box → ⊥
+    pub refused_slots_not_valid : {refusal : Refusal} {index : ℕ} → start_answer told (lent_in words b) ≡ refuse refusal index → BoxValid words (start_gives words slots_of b told).box → ⊥
     refused_slots_not_valid = refused_box_not_valid words slots_of words_again b told h
 
 -- ---- accepted exactly when: what `tiligormis_operation` returns, and answer row k of `tiligormis_sequence`

@@ -1,5 +1,5 @@
 -- From what a core gives for a box of words to what an entry gives for the box of slots behind it.
-use Rattle.std.specs.Prelude.{ℕ, ◌<◌, Bool, List, ◌≡◌, length}
+use Rattle.std.specs.Prelude.{ℕ, ◌<◌, Bool, List, ◌≡◌, eqb, length, Ok, Err}
 use Rattle.std.proofs.Math.Logic.{⊎_elim}
 use Rattle.std.proofs.Math.Path.{sym}
 use Rattle.std.proofs.Common.{ap, ◌∙◌, arith}
@@ -7,14 +7,13 @@ use Rattle.std.proofs.lemmas.List.{length-map}
 use Rattle.numbers.specs.Decides.{Decides}
 use Rattle.numbers.specs.DecidesLaws.{decides_as}
 use Rattle.numbers.specs.Limits.{SLOTS}
-use Rattle.numbers.specs.Meaning.{number_of}
+use Rattle.numbers.specs.Meaning.{number_of, Answer}
 use Rattle.numbers.specs.MeaningLaws.{refusal_above}
-use Rattle.numbers.specs.declared.Answer.{Answer}
-use Rattle.numbers.specs.declared.Answer.TheVariants.{Accepted, Refused}
 use Rattle.numbers.specs.CaseLaws.{cases}
 use Rattle.model.specs.Effect.{kept}
 use Rattle.model.specs.Sequence.{step_row, sequence}
-use Rattle.model.specs.Start.{Told, Lent, lengths_good, start_answer, empty_state, start, free, free_refused}
+use Rattle.model.specs.Start.{Told, lengths_good, start_answer, empty_state, start, free, free_refused}
+use Rattle.model.specs.Header.{Lists}
 use Rattle.model.specs.State.{State}
 use Rattle.model.specs.ToldLaws.{LengthsPassed, lengths_passed}
 use Rattle.box_header.specs.Numbers.{changed, begun}
@@ -82,7 +81,7 @@ module _ (header sets pairs cpu_map cpu_walker : List ℕ) (cpuSlots : List Slot
 
     -- ---- words that are stored
     abbrev kept_in : Box (List ℕ) → Box (List Slot)
-    kept_in x = box x.header x.sets x.pairs x.cpu_map x.cpu_walker (stored number x.cpu_cache cpuSlots) x.dma_map x.dma_walker (stored number x.dma_cache dmaSlots) x.memory
+    kept_in x = box x.header x.sets x.pairs x.cpu_map x.cpu_walker (stored (eqb number 0) x.cpu_cache cpuSlots) x.dma_map x.dma_walker (stored (eqb number 0) x.dma_cache dmaSlots) x.memory
 
     -- a refusal's are not
     stored_back : 0 < number → (h : List ℕ) → kept_in (with_header of_words h) ≡ with_header of_slots h
@@ -91,19 +90,19 @@ module _ (header sets pairs cpu_map cpu_walker : List ℕ) (cpuSlots : List Slot
     -- the words of a new state, in whole caches
     pub stored_new : AllThere → number ≡ 0 → (h : List ℕ) (s : State) → left_words ≡ box_of same h s → kept_in left_words ≡ box_of slots_of h s
     stored_new w z h s e =
-        let p : stored number cpuLeft cpuSlots ≡ slots_of cpuLeft = ap (λ (k : ℕ). stored k cpuLeft cpuSlots) z ∙ stored_whole cpuLeft cpuSlots cpuLength w.0 in
-        let q : stored number dmaLeft dmaSlots ≡ slots_of dmaLeft = ap (λ (k : ℕ). stored k dmaLeft dmaSlots) z ∙ stored_whole dmaLeft dmaSlots dmaLength w.1 in
+        let p : stored (eqb number 0) cpuLeft cpuSlots ≡ slots_of cpuLeft = ap (λ (k : ℕ). stored (eqb k 0) cpuLeft cpuSlots) z ∙ stored_whole cpuLeft cpuSlots cpuLength w.0 in
+        let q : stored (eqb number 0) dmaLeft dmaSlots ≡ slots_of dmaLeft = ap (λ (k : ℕ). stored (eqb k 0) dmaLeft dmaSlots) z ∙ stored_whole dmaLeft dmaSlots dmaLength w.1 in
         rw (p, q) (ap (λ (x : Box (List ℕ)). box x.header x.sets x.pairs x.cpu_map x.cpu_walker (slots_of x.cpu_cache) x.dma_map x.dma_walker (slots_of x.dma_cache) x.memory) e)
 
     stored_kept : AllThere → (answer : Answer) (old new : List ℕ) (s : State) → number ≡ number_of answer → left_words ≡ kept answer (with_header of_words old) (box_of same new s) → kept_in left_words ≡ kept answer (with_header of_slots old) (box_of slots_of new s)
-    stored_kept w (Accepted dropped word) old new s z e = stored_new w z new s e
-    stored_kept w (Refused refusal index) old new s z e = ap kept_in e ∙ stored_back (omega (arith, refusal_above refusal, z)) old
+    stored_kept w (Ok ok) old new s z e = stored_new w z new s e
+    stored_kept w (Err err) old new s z e = ap kept_in e ∙ stored_back (omega (arith, refusal_above err.refusal, z)) old
 
     -- the box was not judged
     pub stored_unjudged : (h : List ℕ) → number ≡ number_of not_valid_answer → left_words ≡ with_header of_words h → kept_in left_words ≡ with_header of_slots h
     stored_unjudged h z e = ap kept_in e ∙ stored_back (omega (arith, z)) h
 
-    module _ (cpuAfter dmaAfter : List Slot) (cpuStored : cpuAfter ≡ stored number cpuLeft cpuSlots) (dmaStored : dmaAfter ≡ stored number dmaLeft dmaSlots) where
+    module _ (cpuAfter dmaAfter : List Slot) (cpuStored : cpuAfter ≡ stored (eqb number 0) cpuLeft cpuSlots) (dmaStored : dmaAfter ≡ stored (eqb number 0) dmaLeft dmaSlots) where
       abbrev left_slots : Box (List Slot)
       left_slots = box header' sets' pairs' cpuMap' cpuWalker' cpuAfter dmaMap' dmaWalker' dmaAfter memory'
 
@@ -146,7 +145,7 @@ module _ (header sets pairs cpu_map cpu_walker : List ℕ) (cpuSlots : List Slot
           → Judgement (HeaderWhole header) (start_gives words slots_of of_slots told) (start_refused of_slots) (start_given number left_slots)
       start_slots told (all_there h w e) =
           let q = start told (lent_in same of_words) in
-          met h (began _ _ _ e (stored_kept w q.answer (begun header q.state.tables) (begun header q.state.tables) q.state) ∙ ap (λ (l : Lent). started_by slots_of of_slots (start told l)) (same_lent w))
+          met h (began _ _ _ e (stored_kept w q.answer (begun header q.state.tables) (begun header q.state.tables) q.state) ∙ ap (λ (l : Lists). started_by slots_of of_slots (start told l)) (same_lent w))
       start_slots told (not_whole h n e) =
           met h (began _ _ _ e (stored_unjudged (begun header (empty_state (lent_in same of_words)).tables)) ∙ sym (refused_short told n))
       start_slots told (no_header n e) = unmet n (began _ _ _ e (stored_unjudged header))

@@ -1,11 +1,10 @@
 -- What replay gives for a box (docs/MACHINE.md, 14): a number, the place of the next record, the answers, how many records were taken,
 -- and the box as it is left. Place and taken are rooms of one number.
-use Rattle.std.specs.Prelude.{ℕ, ◌&&◌, List, [], ◌∷◌, ◌≡◌, eqb, length, get_or}
+use Rattle.std.specs.Prelude.{ℕ, Bool, true, false, ◌&&◌, Err, List, [], ◌∷◌, ◌≡◌, eqb, length, get_or}
 use Rattle.std.specs.Prelude.{if◌then◌else◌}
 use Rattle.numbers.specs.Meaning.{number_of}
-use Rattle.replay.specs.Replay.{Replayed, stop_number, replay}
-use Rattle.replay.specs.declared.Stop.{Stop}
-use Rattle.replay.specs.declared.Stop.TheVariants.{Done, Unreadable, NotValid}
+use Rattle.replay.specs.Replay.{Ended, Replayed, stop_number, replay}
+use Rattle.replay.specs.declared.Stop.TheVariants.{NotValid}
 use Rattle.box_cores.specs.Boxes.{Box, BoxValid, state_in, left_in}
 use Rattle.box_cores.specs.Given.{not_valid_answer}
 
@@ -39,9 +38,8 @@ none_taken place taken = if eqb (length place) 1 && eqb (length taken) 1 then 0 
 abbrev pub replay_not_valid : {C : Type 0} → Box C → List ℕ → List ℕ → List ℕ → ReplayGiven C
 replay_not_valid b place answers taken = replay_given (number_of not_valid_answer) place answers (none_taken place taken) b
 
--- ---- whether caches are stored: 0 where the box was taken, 1 where it was refused. The number that is returned does not say it, since
--- a replay that a record stopped has changed the box.
-abbrev pub stored_by : Stop → ℕ
-stored_by Done = 0
-stored_by (Unreadable why) = 0
-stored_by NotValid = 1
+-- ---- whether caches are stored: where the box was taken, and not where it was refused. The number that is returned does not say it,
+-- since a replay that a record stopped has changed the box.
+abbrev pub stored_by : Ended → Bool
+stored_by (Err NotValid) = false
+stored_by _ = true

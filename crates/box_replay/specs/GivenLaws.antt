@@ -1,5 +1,5 @@
 -- From what `replay` leaves of a state to what its core gives for a box of words.
-use Rattle.std.specs.Prelude.{ℕ, zero, suc, ◌<◌, ◌&&◌, List, [], ◌∷◌, ◌≡◌, refl, length, get_or, set, eqb}
+use Rattle.std.specs.Prelude.{ℕ, zero, suc, ◌<◌, Bool, true, false, ◌&&◌, Some, None, Ok, Err, List, [], ◌∷◌, ◌≡◌, refl, length, get_or, set, eqb}
 use Rattle.std.proofs.Common.{⊎_elim, sym, ap, ◌∙◌, subst, arith, length-set}
 use Rattle.numbers.specs.CaseLaws.{cases}
 use Rattle.numbers.specs.Decides.{Decides}
@@ -9,12 +9,11 @@ use Rattle.model.specs.Header.{state_of}
 use Rattle.model.specs.State.{State}
 use Rattle.model.specs.Entries.{valid, not_valid}
 use Rattle.model.specs.declared.Machine.{Machine}
-use Rattle.operation_log.specs.Log.{record_at}
-use Rattle.operation_log.specs.declared.Found.{Found}
-use Rattle.operation_log.specs.declared.Found.TheVariants.{Record, End, Refused}
+use Rattle.operation_log.specs.Log.{Read, record_at}
+use Rattle.operation_log.specs.declared.Taken.{Taken}
 use Rattle.replay.specs.Replay.{Course, Replayed, stop_number, onward, goes_on, replay_from, replay_refused, JudgedReplay}
 use Rattle.box_header.specs.Numbers.{HeaderGood, machine_of, changed}
-use Rattle.box_cores.specs.Boxes.{Box, box, state_in, box_of, left_in}
+use Rattle.box_cores.specs.Boxes.{Box, state_in, lent_in, box_of}
 use Rattle.box_cores.specs.CoreLaws.{left_same}
 use Rattle.box_cores.specs.Given.{Judgement, met, unmet, Whole, not_valid_answer, same}
 use Rattle.box_replay.specs.Given.{ReplayGiven, replay_given, ReplayAsked, replayed_by, replay_gives, none_taken, replay_not_valid, stored_by}
@@ -34,15 +33,15 @@ one_put (m ∷ []) n e = refl
 one_put (m ∷ k ∷ ms) n e = absurd (omega arith)
 
 -- ---- a replay that began is never refused
-goes_stored : (found : Found) (c : Course) (rest : Replayed) → stored_by rest.stop ≡ 0 → stored_by (goes_on found c rest).stop ≡ 0
-goes_stored Record c rest e = e
-goes_stored End c rest e = refl
-goes_stored (Refused why) c rest e = refl
+goes_stored : (read : Read) (c : Course) (rest : Taken → Replayed) → ((taken : Taken) → stored_by (rest taken).stop ≡ true) → stored_by (goes_on read c rest).stop ≡ true
+goes_stored (Ok (Some taken)) c rest e = e taken
+goes_stored (Ok None) c rest e = refl
+goes_stored (Err why) c rest e = refl
 
-from_stored : (most : ℕ) (log : List ℕ) (c : Course) → stored_by (replay_from most log c).stop ≡ 0
+from_stored : (most : ℕ) (log : List ℕ) (c : Course) → stored_by (replay_from most log c).stop ≡ true
 unfolding replay_from
 from_stored zero log c = refl
-from_stored (suc most) log c = goes_stored (record_at log c.place).found c _ (from_stored most log (onward c (record_at log c.place)))
+from_stored (suc most) log c = goes_stored (record_at log c.place) c _ (λ taken. from_stored most log (onward c taken))
 
 -- ---- for a box of words
 module _ (cpuSlots dmaSlots : ℕ) (b : Box (List ℕ)) (log place : List ℕ) (most : ℕ) (answers taken : List ℕ) where
@@ -52,12 +51,12 @@ module _ (cpuSlots dmaSlots : ℕ) (b : Box (List ℕ)) (log place : List ℕ) (
   abbrev OneEach : Type 0
   OneEach = (length place ≡ 1) × (length taken ≡ 1)
 
-  abbrev Given : ReplayGiven (List ℕ) → ℕ → Type 0
-  Given result stored = Judgement Asked (replay_gives same same b log place most answers) (replay_not_valid b place answers taken) result × Judgement Asked 0 1 stored
+  abbrev Given : ReplayGiven (List ℕ) → Bool → Type 0
+  Given result stored = Judgement Asked (replay_gives same same b log place most answers) (replay_not_valid b place answers taken) result × Judgement Asked true false stored
 
   -- the state of the box by the machine that was read from its header
   abbrev under : Machine → State
-  under m = state_of m b.sets b.pairs b.cpu_map b.cpu_walker b.cpu_cache b.dma_map b.dma_walker b.dma_cache b.memory
+  under m = state_of m (lent_in same b)
 
   -- where place and taken have one number each it is told that none is taken
   tested : Decides (eqb (length place) 1 && eqb (length taken) 1) OneEach
@@ -81,23 +80,18 @@ module _ (cpuSlots dmaSlots : ℕ) (b : Box (List ℕ)) (log place : List ℕ) (
       (unmet (λ a. n a.1.box.state) (ap (replayed_by same b) e ∙ refused_given h o), unmet (λ a. n a.1.box.state) (ap (λ (x : Replayed). stored_by x.stop) e))
 
   -- ---- as the code has it, call by call
-  pub replay_core : {m : Machine} {r : Replayed} {number stored : ℕ} {header' : List ℕ} → OneEach → Whole cpuSlots dmaSlots × HeaderGood b.header → m ≡ machine_of b.header
-      → JudgedReplay (under m) log (get_or place 0 0) most answers r → number ≡ stop_number r.stop → stored ≡ stored_by r.stop
-      → header' ≡ changed b.header r.course.state.tables
-      → Given (replay_given number (set place 0 r.course.place) r.course.room (set (set taken 0 0) 0 r.course.taken) (box_of same header' r.course.state)) stored
-  replay_core {r = r} o (w, h) e j n s c =
-      rw (n, s, c, one_put place r.course.place o.0, one_put (set taken 0 0) r.course.taken (length-set taken 0 0 ∙ o.1)) (judged w h o r (subst (λ (x : Machine). JudgedReplay (under x) log (get_or place 0 0) most answers r) e j))
+  pub replay_core : {m : Machine} {r : Replayed} {header' : List ℕ} → OneEach → Whole cpuSlots dmaSlots × HeaderGood b.header → m ≡ machine_of b.header
+      → JudgedReplay (under m) log (get_or place 0 0) most answers r → header' ≡ changed b.header r.course.state.tables
+      → Given (replay_given (stop_number r.stop) (set place 0 r.course.place) r.course.room (set (set taken 0 0) 0 r.course.taken) (box_of same header' r.course.state)) (stored_by r.stop)
+  replay_core {r = r} o (w, h) e j c =
+      rw (c, one_put place r.course.place o.0, one_put (set taken 0 0) r.course.taken (length-set taken 0 0 ∙ o.1)) (judged w h o r (subst (λ (x : Machine). JudgedReplay (under x) log (get_or place 0 0) most answers r) e j))
 
-  -- refused before the state was looked at: the words of the caches are handed back as they were
-  module _ {cpu dma : List ℕ} {stored number : ℕ} (back : (cpu ≡ b.cpu_cache) × (dma ≡ b.dma_cache) × (stored ≡ 1) × (number ≡ number_of not_valid_answer)) where
-    abbrev left : Box (List ℕ)
-    left = box b.header b.sets b.pairs b.cpu_map b.cpu_walker cpu b.dma_map b.dma_walker dma b.memory
+  -- refused before the state was looked at
+  refused_early : (Asked → ⊥) → (taken' : List ℕ) → taken' ≡ none_taken place taken → Given (replay_given (number_of not_valid_answer) place answers taken' b) false
+  refused_early n taken' t = rw t (unmet n refl, unmet n refl)
 
-    refused_early : (Asked → ⊥) → (taken' : List ℕ) → taken' ≡ none_taken place taken → Given (replay_given number place answers taken' left) stored
-    refused_early n taken' t = rw (back.0, back.1, back.3, t) (unmet n refl, unmet n back.2)
+  pub not_one_each : (OneEach → ⊥) → Given (replay_given (number_of not_valid_answer) place answers taken b) false
+  not_one_each o = refused_early (λ a. o (a.1.one_place, a.1.one_taken)) taken (sym (told_nothing o))
 
-    pub not_one_each : (OneEach → ⊥) → Given (replay_given number place answers taken left) stored
-    not_one_each o = refused_early (λ a. o (a.1.one_place, a.1.one_taken)) taken (sym (told_nothing o))
-
-    pub not_ready : OneEach → (Whole cpuSlots dmaSlots × HeaderGood b.header → ⊥) → Given (replay_given number place answers (set taken 0 0) left) stored
-    not_ready o n = refused_early (λ a. n (a.0, a.1.box.header)) (set taken 0 0) (one_put taken 0 o.1 ∙ sym (told_none o))
+  pub not_ready : OneEach → (Whole cpuSlots dmaSlots × HeaderGood b.header → ⊥) → Given (replay_given (number_of not_valid_answer) place answers (set taken 0 0) b) false
+  not_ready o n = refused_early (λ a. n (a.0, a.1.box.header)) (set taken 0 0) (one_put taken 0 o.1 ∙ sym (told_none o))

@@ -6,6 +6,7 @@ ghost use Rattle.box_cores.specs.Boxes.{box};
 ghost use Rattle.box_cores.specs.Given.{Judgement, start_gives, start_given, start_refused, HeaderWhole};
 ghost use Rattle.slots.specs.Slots.{words, slots_of};
 
+use model::Lent;
 use numbers::SLOTS;
 use slots::Slot;
 
@@ -37,27 +38,30 @@ pub extern "C" fn tiligormis_start(
 {
     let cpu_slots = cpu_cache.len();
     let dma_slots = dma_cache.len();
-    let cpu_words = slots::load(&*cpu_cache, SLOTS as usize);
-    let dma_words = slots::load(&*dma_cache, SLOTS as usize);
-    let out = box_cores::start(
-        machine,
+    let mut cpu_words = slots::load(&*cpu_cache, SLOTS as usize);
+    let mut dma_words = slots::load(&*dma_cache, SLOTS as usize);
+    let mut lent: Lent<&mut [u64]> = Lent {
         sets,
         pairs,
         cpu_map,
         cpu_walker,
+        cpu_cache: &mut cpu_words,
         dma_map,
         dma_walker,
+        dma_cache: &mut dma_words,
         memory,
+    };
+    let number = box_cores::start(
+        machine,
+        &mut lent,
         pages,
         shared_base,
         shared_count,
         units,
         cpu_slots,
         dma_slots,
-        cpu_words,
-        dma_words,
     );
-    slots::store(cpu_cache, out.cpu, out.number);
-    slots::store(dma_cache, out.dma, out.number);
-    out.number
+    slots::store(cpu_cache, &cpu_words, number == 0);
+    slots::store(dma_cache, &dma_words, number == 0);
+    number
 }

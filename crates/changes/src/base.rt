@@ -7,11 +7,11 @@ ghost use Rattle.changes.specs.Words.{WORDS};
 use crate::state::{
     CACHE_WORDS, CPU_CACHE_AT, CPU_MAP_AT, DMA_CACHE_AT, DMA_MAP_AT, N, PAIRS_AT, SETS_AT, WORDS,
 };
-use crate::{POOL, SHARED, toggle, toggle_cpu, toggle_dma};
+use crate::{POOL, SHARED, cpu_row, dma_row, toggle};
 use model::{Fixed, Machine, Registers, SideRegisters};
 use numbers::{
     ACCESS_BIT, ACCESSES, ENTRIES, FILLED_BIT, GENERATIONS, GUEST_BIT, GUEST_PAGES, GuestPage,
-    IDLE, PAGE_BIT, PAIRS, PORT_BIT, PORTS, PhysPage, UNITS, VM_BIT, VMS, VmId,
+    IDLE, PAGE_BIT, PAIRS, PORT_BIT, PORTS, PhysPage, Region, UNITS, VM_BIT, VMS, VmId,
 };
 use units::{Mark, Unit};
 
@@ -41,12 +41,15 @@ pub fn pair(left: u64, right: u64, page: u64) -> u64
 }
 
 pub fn unit(vm: u64, guest: u64, page: u64, count: u64, access: u64) -> Unit {
-    Unit {
+    let region = Region {
         vm: VmId(vm),
         guest: GuestPage(guest),
         page: PhysPage(page),
         count,
         access,
+    };
+    Unit {
+        region,
         mark: Mark::Both,
     }
 }
@@ -123,7 +126,7 @@ fn give(words: &mut [u64; WORDS], vm: usize, page: u64)
     requires { (vm < VMS) × (page < PAGES) }
 {
     toggle(words, POOL, page);
-    toggle_cpu(words, vm, page);
+    toggle(words, cpu_row(vm), page);
 }
 
 fn fill_sets(words: &mut [u64; WORDS]) {
@@ -139,12 +142,12 @@ fn fill_sets(words: &mut [u64; WORDS]) {
     give(words, 10, 65);
     give(words, LAST_VM as usize, 6);
     // Their own pages, and pages of the pool.
-    toggle_dma(words, 1, 0);
-    toggle_dma(words, 1, 1);
-    toggle_dma(words, 1, 4);
-    toggle_dma(words, 2, 64);
-    toggle_dma(words, 2, 5);
-    toggle_dma(words, 11, 69);
+    toggle(words, dma_row(1), 0);
+    toggle(words, dma_row(1), 1);
+    toggle(words, dma_row(1), 4);
+    toggle(words, dma_row(2), 64);
+    toggle(words, dma_row(2), 5);
+    toggle(words, dma_row(11), 69);
 }
 
 // Of pages owned by the left end and by the right. VMs 6 and 7 borrow and do nothing else.

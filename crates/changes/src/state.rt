@@ -1,12 +1,11 @@
 // The words of a state in one array: the nine slices in the order of the machine, each with a spare word after it, so that a
 // slice can be lent a word too long. A change is of one word, of one number of the header, or of one length.
-ghost use Rattle.std.specs.Prelude.{◌≡◌, ◌+◌, ◌*◌, ◌≤◌, ◌<◌, length};
+ghost use Rattle.std.specs.Prelude.{◌+◌, ◌*◌, ◌≤◌, ◌<◌};
 ghost use Rattle.numbers.specs.Limits.{PAGE_WORDS};
 ghost use Rattle.changes.specs.Words.{N, WORDS};
 
-use model::Machine;
+use model::{Lent, Machine};
 use numbers::{ENTRIES, PAGE_WORDS, PAIRS, SET_WORDS, SETS, SLOTS};
-use std::io::Write;
 
 // Physical pages of the states: the last word of a page set that is used is used in part.
 pub const N: u64 = 70;
@@ -39,9 +38,6 @@ pub const MEMORY_AT: usize = DMA_CACHE_AT + CACHE_WORDS + 1;
 
 pub const WORDS: usize = MEMORY_AT + MEMORY_WORDS + 1;
 
-// Where no slice begins.
-pub const NOWHERE: usize = WORDS;
-
 // The slices of which a single word is changed. Page sets are changed by pages.
 #[derive(Clone, Copy)]
 pub enum Table {
@@ -72,71 +68,35 @@ pub fn start_of(table: Table) -> usize
 
 // ---- Judging.
 
-// Where a slice ends as it is lent: after its own words, or after `count` where it is the slice that begins at `changed`.
-fn end_of(at: usize, own: usize, changed: usize, count: usize) -> usize
-    requires { (at + own < WORDS) × (changed + count ≤ WORDS) }
-    ensures { (at ≤ result) × (result ≤ WORDS) }
+// A slice that is lent with a length not its own: where it begins, and how many words of it are lent.
+#[derive(Clone, Copy)]
+pub struct Cut {
+    pub at: usize,
+    pub count: usize,
+    pub ghost inside: { at + count ≤ WORDS },
+}
+
+// The slice of `own` words that begins at `at`, as it is lent.
+fn part(words: &[u64; WORDS], at: usize, own: usize, cut: Option<Cut>) -> &[u64]
+    requires { at + own < WORDS }
 {
-    if at == changed {
-        return changed + count;
+    match cut {
+        Some(cut) if cut.at == at => &words[at..at + cut.count],
+        _ => &words[at..at + own],
     }
-    at + own
 }
 
-fn is_valid(m: Machine, words: &[u64], changed: usize, count: usize) -> bool
-    requires { (length words.now ≡ WORDS) × (changed + count ≤ WORDS) }
-{
-    let sets = end_of(SETS_AT, SETS_WORDS, changed, count);
-    let pairs = end_of(PAIRS_AT, PAIRS, changed, count);
-    let cpu_map = end_of(CPU_MAP_AT, ENTRIES, changed, count);
-    let cpu_walker = end_of(CPU_WALKER_AT, ENTRIES, changed, count);
-    let cpu_cache = end_of(CPU_CACHE_AT, CACHE_WORDS, changed, count);
-    let dma_map = end_of(DMA_MAP_AT, ENTRIES, changed, count);
-    let dma_walker = end_of(DMA_WALKER_AT, ENTRIES, changed, count);
-    let dma_cache = end_of(DMA_CACHE_AT, CACHE_WORDS, changed, count);
-    let memory = end_of(MEMORY_AT, MEMORY_WORDS, changed, count);
-    judge::valid(
-        m,
-        &words[SETS_AT..sets],
-        &words[PAIRS_AT..pairs],
-        &words[CPU_MAP_AT..cpu_map],
-        &words[CPU_WALKER_AT..cpu_walker],
-        &words[CPU_CACHE_AT..cpu_cache],
-        &words[DMA_MAP_AT..dma_map],
-        &words[DMA_WALKER_AT..dma_walker],
-        &words[DMA_CACHE_AT..dma_cache],
-        &words[MEMORY_AT..memory],
-    )
-}
-
-// All of the text; answers whether it was written. A line goes on where a part of it could not be written.
-fn put<W: Write>(to: &mut W, text: &[u8]) -> bool {
-    to.write_all(text).is_ok()
-}
-
-// The line of a state whose slice that begins at `changed` is lent with `count` words.
-pub fn show_lent<W: Write>(
-    to: &mut W,
-    rule: &[u8],
-    clause: &[u8],
-    m: Machine,
-    words: &[u64; WORDS],
-    changed: usize,
-    count: usize,
-)
-    requires { changed + count ≤ WORDS }
-{
-    put(to, rule);
-    put(to, b", ");
-    put(to, clause);
-    if is_valid(m, words, changed, count) {
-        put(to, b": valid\n");
-        return;
-    }
-    put(to, b": not valid\n");
-}
-
-// The line of a state, every slice of its length.
-pub fn show<W: Write>(to: &mut W, rule: &[u8], clause: &[u8], m: Machine, words: &[u64; WORDS]) {
-    show_lent(to, rule, clause, m, words, NOWHERE, 0);
+pub fn is_valid(m: &Machine, words: &[u64; WORDS], cut: Option<Cut>) -> bool {
+    let seen = Lent {
+        sets: part(words, SETS_AT, SETS_WORDS, cut),
+        pairs: part(words, PAIRS_AT, PAIRS, cut),
+        cpu_map: part(words, CPU_MAP_AT, ENTRIES, cut),
+        cpu_walker: part(words, CPU_WALKER_AT, ENTRIES, cut),
+        cpu_cache: part(words, CPU_CACHE_AT, CACHE_WORDS, cut),
+        dma_map: part(words, DMA_MAP_AT, ENTRIES, cut),
+        dma_walker: part(words, DMA_WALKER_AT, ENTRIES, cut),
+        dma_cache: part(words, DMA_CACHE_AT, CACHE_WORDS, cut),
+        memory: part(words, MEMORY_AT, MEMORY_WORDS, cut),
+    };
+    judge::valid(m, seen)
 }

@@ -4,49 +4,66 @@
 mod routes;
 mod rules;
 
-use changes::state::{WORDS, show};
-use changes::{base, harmless};
-use model::Machine;
+use changes::state::WORDS;
+use changes::{Cases, base, harmless};
 use numbers::Side;
 use std::io::Write;
 
 // The machine that a refused start gives, and the state after start.
 fn fresh<W: Write>(to: &mut W, words: &mut [u64; WORDS]) {
-    let m = base::fresh_header();
-    rules::rule_2_empty_machine(to, m, words);
+    rules::rule_2_empty_machine(to, words);
     base::fill_pool(words);
-    show(to, b"undamaged", b"after start", m, words);
-    rules::rule_2_empty_span(to, m, words);
-    harmless::fresh(to, m, words);
+    let m = base::fresh_header();
+    let mut cases = Cases {
+        to,
+        rule: b"undamaged",
+        m: &m,
+        words,
+    };
+    cases.show(b"after start");
+    rules::rule_2_empty_span(&mut cases);
+    harmless::fresh(&mut cases);
 }
 
 // Every damaged state, in the order of the rules.
-fn harmed<W: Write>(to: &mut W, m: Machine, words: &[u64; WORDS]) {
-    rules::rule_1(to, m, words);
-    rules::rule_2(to, m, words);
-    rules::rule_2_unit(to, m, words);
-    rules::rule_3(to, m, words);
-    rules::rule_4_header(to, m, words);
-    rules::rule_4_bounds(to, m, words);
-    rules::rule_4_homes(to, m, words);
-    rules::rule_5_fields(to, m, words);
-    rules::rule_5_ends(to, m, words);
-    routes::rule_6(to, m, words);
-    routes::rule_6_elsewhere(to, m, words);
-    routes::rule_7(to, m, words);
-    rules::rule_8(to, b"8 CPUs", Side::Cpu, 8, m, words);
-    rules::rule_8(to, b"8 devices", Side::Dma, 9, m, words);
-    rules::rule_9(to, m, words);
+fn harmed<W: Write>(cases: &mut Cases<W>) {
+    rules::rule_1(cases);
+    rules::rule_2(cases);
+    rules::rule_2_unit(cases);
+    rules::rule_3(cases);
+    rules::rule_4_header(cases);
+    rules::rule_4_bounds(cases);
+    rules::rule_4_homes(cases);
+    rules::rule_5_fields(cases);
+    rules::rule_5_ends(cases);
+    routes::rule_6(cases);
+    routes::rule_6_elsewhere(cases);
+    routes::rule_7(cases);
+    cases.rule = b"8 CPUs";
+    rules::rule_8(cases, Side::Cpu, 8);
+    cases.rule = b"8 devices";
+    rules::rule_8(cases, Side::Dma, 9);
+    rules::rule_9(cases);
 }
 
-// The state with VMs at work. It is shown again at the end: no change has stayed.
+// All that is said of the state with VMs at work. It is shown again at the end: no change has stayed.
+fn at_work<W: Write>(cases: &mut Cases<W>) {
+    cases.show(b"at work");
+    harmed(cases);
+    harmless::busy(cases);
+    cases.rule = b"undamaged";
+    cases.show(b"at work, at the end");
+}
+
 fn busy<W: Write>(to: &mut W, words: &mut [u64; WORDS]) {
-    let m = base::busy_header();
     base::fill(words);
-    show(to, b"undamaged", b"at work", m, words);
-    harmed(to, m, words);
-    harmless::busy(to, m, words);
-    show(to, b"undamaged", b"at work, at the end", m, words);
+    let m = base::busy_header();
+    at_work(&mut Cases {
+        to,
+        rule: b"undamaged",
+        m: &m,
+        words,
+    });
 }
 
 fn main(rt: HostRuntime) {

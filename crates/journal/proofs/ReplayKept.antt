@@ -3,10 +3,10 @@ use Prim.Native.Nat.{ℕ, zero, suc}
 use mathlib.Core.List.{List}
 use mathlib.Core.Path.{◌≡◌, refl, ◌∙◌}
 use lib.ListN.{get_or}
+use Rattle.std.specs.Prelude.{Some, None, Ok, Err}
 use Rattle.model.specs.Valid.{Valid}
-use Rattle.operation_log.specs.Log.{record_at}
-use Rattle.operation_log.specs.declared.Found.{Found}
-use Rattle.operation_log.specs.declared.Found.TheVariants.{Record, End, Refused}
+use Rattle.operation_log.specs.Log.{Read, record_at}
+use Rattle.operation_log.specs.declared.Taken.{Taken}
 use Rattle.replay.specs.Replay.{Course, Replayed, onward, goes_on, replay_from, replay}
 use Rattle.replay.proofs.Pieces.{replay_valid}
 use Rattle.box_cores.specs.Boxes.{Box, BoxValid, state_in}
@@ -17,17 +17,17 @@ use Rattle.slots.specs.Slots.{words, slots_of}
 use Rattle.slots.specs.declared.Slot.{Slot}
 
 -- ---- what start fixed stays
-goes_setup : (found : Found) (c : Course) (rest : Replayed) → rest.course.state.tables.setup ≡ c.state.tables.setup → (goes_on found c rest).course.state.tables.setup ≡ c.state.tables.setup
-goes_setup Record c rest e = e
-goes_setup End c rest e = refl
-goes_setup (Refused why) c rest e = refl
+goes_setup : (read : Read) (c : Course) (rest : Taken → Replayed) → ((taken : Taken) → (rest taken).course.state.tables.setup ≡ c.state.tables.setup) →
+    (goes_on read c rest).course.state.tables.setup ≡ c.state.tables.setup
+goes_setup (Ok (Some taken)) c rest e = e taken
+goes_setup (Ok None) c rest e = refl
+goes_setup (Err why) c rest e = refl
 
 from_setup : (most : ℕ) (log : List ℕ) (c : Course) → (replay_from most log c).course.state.tables.setup ≡ c.state.tables.setup
 unfolding replay_from
 from_setup zero log c = refl
 from_setup (suc most) log c =
-    let taken = record_at log c.place in
-    goes_setup taken.found c (replay_from most log (onward c taken)) (from_setup most log (onward c taken) ∙ row_setup c.state taken.row)
+    goes_setup (record_at log c.place) c _ (λ taken. from_setup most log (onward c taken) ∙ row_setup c.state taken.row)
 
 module _ (b : Box (List Slot)) (v : BoxValid words b) (log place : List ℕ) (most : ℕ) (answers : List ℕ) where
   kept : Valid (replay (state_in words b) log (get_or place 0 0) most answers).course.state

@@ -2,46 +2,39 @@
 // whose caches are slot records (docs/MACHINE.md, 14). include/tiligormis.h is their manual.
 #![tactic(auto)]
 
-ghost use Rattle.std.specs.Prelude.{◌≡◌, length};
-ghost use Rattle.numbers.specs.Limits.{ROW_NUMBERS};
+ghost use Rattle.std.specs.Prelude.{◌≡◌};
 ghost use Rattle.box_cores.specs.Boxes.{box};
 ghost use Rattle.box_cores.specs.Given.{Judgement};
-ghost use Rattle.box_replay.specs.Given.{replay_given, ReplayAsked, replay_gives, replay_not_valid};
-ghost use Rattle.journal.specs.Given.{log_given, log_written, row_given, log_read};
+ghost use Rattle.box_replay.specs.Given.{replay_given, ReplayAsked, replay_gives, replay_not_valid, stored_by};
+ghost use Rattle.journal.specs.Given.{shaped, log_given, log_written, row_given, log_read};
 ghost use Rattle.slots.specs.Slots.{words, slots_of};
 
+use model::Lent;
 use numbers::{ROW_NUMBERS, Refusal, SLOTS};
-use operation_log::{Found, Written};
+use replay::Stop;
 use slots::Slot;
+
+// Whether a row and a place are of their lengths.
+fn shaped(row: &[u64], place: &[u64]) -> bool
+    ensures { result ≡ shaped row.now place.now }
+{
+    (row.len() == ROW_NUMBERS) & (place.len() == 1)
+}
 
 // Writes a row's record at the place, and moves the place past it. Refused, it leaves both.
 #[unsafe(no_mangle)]
 pub extern "C" fn tiligormis_log_write(row: &[u64], log: &mut [u8], place: &mut [u64]) -> u64
     ensures { log_given result log.new place.new ≡ log_written row.now log.old place.old }
 {
-    if !((row.len() == ROW_NUMBERS) & (place.len() == 1)) {
-        return numbers::refusal_number(Refusal::StateNotValid);
+    if !shaped(row, place) {
+        return Refusal::StateNotValid.into();
     }
-    let eight = box_header::eight(row);
-    let put = operation_log::write(eight, log, place[0] as usize);
-    match put {
-        Written::Past(next) => {
+    match operation_log::write(box_header::eight(row), log, place[0] as usize) {
+        Ok(next) => {
             place[0] = next as u64;
             0
         }
-        Written::Refused(why) => operation_log::log_refusal_number(why),
-    }
-}
-
-// Eight numbers into a row.
-fn put_row(row: &mut [u64], eight: [u64; ROW_NUMBERS])
-    requires { length row.old ≡ ROW_NUMBERS }
-    ensures { row.new ≡ eight }
-{
-    let mut k = 0;
-    while k < ROW_NUMBERS {
-        row[k] = eight[k];
-        k += 1;
+        Err(why) => why.into(),
     }
 }
 
@@ -51,24 +44,28 @@ fn put_row(row: &mut [u64], eight: [u64; ROW_NUMBERS])
 pub extern "C" fn tiligormis_log_read(log: &[u8], place: &mut [u64], row: &mut [u64]) -> u64
     ensures { row_given result place.new row.new ≡ log_read log.now place.old row.old }
 {
-    if !((row.len() == ROW_NUMBERS) & (place.len() == 1)) {
-        return numbers::refusal_number(Refusal::StateNotValid);
+    if !shaped(row, place) {
+        return Refusal::StateNotValid.into();
     }
-    let taken = operation_log::read_at(log, place[0] as usize);
-    let found = taken.found;
-    match found {
-        Found::Record => {
-            let eight = taken.row;
-            put_row(row, eight);
+    match operation_log::record_at(log, place[0] as usize) {
+        Ok(Some(taken)) => {
+            row.copy_from_slice(&taken.row);
             place[0] = taken.next as u64;
             0
         }
-        Found::End => {
-            put_row(row, [0; ROW_NUMBERS]);
+        Ok(None) => {
+            row.fill(0);
             0
         }
-        Found::Refused(why) => operation_log::log_refusal_number(why),
+        Err(why) => why.into(),
     }
+}
+
+// Whether caches are stored: those of a box that was taken.
+fn stored_by(stop: Result<(), Stop>) -> bool
+    ensures { result ≡ stored_by stop }
+{
+    stop != Err(Stop::NotValid)
 }
 
 // At most so many records from the place on, one after the other, and the place of the next. A box that is not valid is refused with 1
@@ -102,13 +99,24 @@ pub extern "C" fn tiligormis_replay(
 {
     let cpu_slots = cpu_cache.len();
     let dma_slots = dma_cache.len();
-    let cpu_words = slots::load(&*cpu_cache, SLOTS as usize);
-    let dma_words = slots::load(&*dma_cache, SLOTS as usize);
-    let out = box_replay::replay(
-        machine, sets, pairs, cpu_map, cpu_walker, dma_map, dma_walker, memory, log, place, most,
-        answers, taken, cpu_slots, dma_slots, cpu_words, dma_words,
+    let mut cpu_words = slots::load(&*cpu_cache, SLOTS as usize);
+    let mut dma_words = slots::load(&*dma_cache, SLOTS as usize);
+    let mut lent: Lent<&mut [u64]> = Lent {
+        sets,
+        pairs,
+        cpu_map,
+        cpu_walker,
+        cpu_cache: &mut cpu_words,
+        dma_map,
+        dma_walker,
+        dma_cache: &mut dma_words,
+        memory,
+    };
+    let stop = box_replay::replay(
+        machine, &mut lent, log, place, most, answers, taken, cpu_slots, dma_slots,
     );
-    slots::store(cpu_cache, out.cpu, out.stored);
-    slots::store(dma_cache, out.dma, out.stored);
-    out.number
+    let stored = stored_by(stop);
+    slots::store(cpu_cache, &cpu_words, stored);
+    slots::store(dma_cache, &dma_words, stored);
+    replay::stop_number(stop)
 }

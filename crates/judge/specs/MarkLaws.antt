@@ -1,16 +1,16 @@
 -- The pass over the pairs: how it begins, what a word adds, where it fails, and what it gives at the end.
 use Prim.Native.Nat.{ℕ, zero, suc, ◌+◌, ◌*◌, ◌/◌, ◌%◌, ◌^◌, ◌≤◌, ◌<◌}
-use Rattle.std.specs.Prelude.{Bool, true, false, not, ◌&&◌, ◌||◌, List, [], ◌∷◌, ◌++◌, ◌⊎◌, ◌≡◌, length, take, replicate}
+use Rattle.std.specs.Prelude.{Bool, true, false, ◌&&◌, ◌||◌, List, [], ◌∷◌, ◌++◌, ◌⊎◌, ◌≡◌, length, take, replicate}
 use Rattle.std.proofs.Common.{true≢false, inl, inr, sym, ap, ◌∙◌, arith, take_all}
 use Rattle.std.proofs.Math.Logic.{⊎_elim}
 use Rattle.std.proofs.Math.Path.{refl}
 use Rattle.std.proofs.Math.Nat.{zero-div}
-use borrow.Author.Tests.{eq-eqb, eqb-true, not-false}
+use borrow.Author.Tests.{eq-eqb, eqb-true}
 use Rattle.std.proofs.Math.Dec.{eqb}
 use Rattle.std.proofs.Math.ListN.{get_or}
 use Rattle.std.proofs.lemmas.List.{length-replicate}
 use Rattle.numbers.specs.CaseLaws.{cases, equal}
-use Rattle.numbers.specs.DecidesLaws.{says_yes, says_no, passed, failed, decides_or, decides_equal, same_answer}
+use Rattle.numbers.specs.DecidesLaws.{says_yes, says_no, refutes, decides_or, decides_equal, same_answer}
 use Rattle.numbers.specs.Limits.{PAGES, VMS, SET_WORDS}
 use Rattle.numbers.specs.Packing.{left_of, right_of, page_of, filled_of, pair_key_of}
 use Rattle.table.specs.ScanLaws.{has_any, any_true}
@@ -140,7 +140,7 @@ module _ (pages known : ℕ) (sets : List ℕ) (most : pages ≤ PAGES) (known-g
           }
 
   -- ---- a turn of the loop
-  pub mark_next : (pairs lent lent' : List ℕ) (i : ℕ) (t : Bool) → Marking pages known sets pairs lent i → i < length pairs → Marked pages known sets (get_or pairs i 0) lent lent' t → not t ≡ false → Marking pages known sets pairs lent' (i + 1)
+  pub mark_next : (pairs lent lent' : List ℕ) (i : ℕ) (t : Bool) → Marking pages known sets pairs lent i → i < length pairs → Marked pages known sets (get_or pairs i 0) lent lent' t → t ≡ true → Marking pages known sets pairs lent' (i + 1)
   mark_next pairs lent lent' i t r h m e = ⊎_elim empty filled (equal w 0)
     where
       w : ℕ
@@ -156,11 +156,11 @@ module _ (pages known : ℕ) (sets : List ℕ) (most : pages ≤ PAGES) (known-g
 
       filled : NotEmpty w → Marking pages known sets pairs lent' (i + 1)
       filled f =
-          let (g, n) = passed m.exact e f in
+          let (g, n) = m.exact.sound e f in
           record {
             place = omega arith;
             good = rw (take_more pairs i h) (good_filled (take i pairs) lent w r.good r.marks f g n);
-            marks = rw (take_more pairs i h, m.filled (not-false t e) f) (marks_filled (take i pairs) lent w r.good r.marks f g);
+            marks = rw (take_more pairs i h, m.filled e f) (marks_filled (take i pairs) lent w r.good r.marks f g);
           }
 
   -- good pairs pass: a mark that is there already is that of an earlier word of the same key
@@ -182,9 +182,9 @@ module _ (pages known : ℕ) (sets : List ℕ) (most : pages ≤ PAGES) (known-g
           let z = good.once k i l h (rw q e) in
           omega (arith, pair.filled)
 
-  pub mark_stop : (pairs lent lent' : List ℕ) (i : ℕ) (t : Bool) → Marking pages known sets pairs lent i → i < length pairs → Marked pages known sets (get_or pairs i 0) lent lent' t → not t ≡ true → PairsJudged pages known sets pairs lent' false
+  pub mark_stop : (pairs lent lent' : List ℕ) (i : ℕ) (t : Bool) → Marking pages known sets pairs lent i → i < length pairs → Marked pages known sets (get_or pairs i 0) lent lent' t → t ≡ false → PairsJudged pages known sets pairs lent' false
   mark_stop pairs lent lent' i t r h m e =
-      record { exact = says_no (λ good. failed m.exact e (good_passes pairs lent i r h good)); lends = λ q. absurd (true≢false (sym q)) }
+      record { exact = says_no (λ good. refutes m.exact e (good_passes pairs lent i r h good)); lends = λ q. absurd (true≢false (sym q)) }
 
   -- ---- at the end
   -- a VM that does not own the page has its mark where it is an end of a pair on it

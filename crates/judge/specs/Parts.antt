@@ -1,29 +1,39 @@
 -- What the parts of the test ask, where the model's rule names more than a part is handed.
-use Rattle.std.specs.Prelude.{ℕ, ◌+◌, ◌*◌, ◌≤◌, ◌<◌, true, List, ◌⊎◌, ◌≡◌}
+use Rattle.std.specs.Prelude.{ℕ, ◌+◌, ◌*◌, ◌≤◌, ◌<◌, true, List, ◌⊎◌, ◌≡◌, length}
 use Rattle.numbers.specs.Limits.{PAGES, UNITS, PORTS, IDLE, ENTRIES, PAIRS, SLOTS, SETS, SET_WORDS}
 use Rattle.numbers.specs.Packing.{port_of, filled_of, vm_of, page_of, access_of, generation_of, left_of, right_of}
 use Rattle.numbers.specs.declared.Side.{Side}
-use Rattle.model.specs.Valid.{MapGood, SameMap}
+use Rattle.model.specs.Header.{Lists, setup_of}
+use Rattle.model.specs.Valid.{SetupGood, KnownGood, PagesGood, MapGood, SameMap}
 use Rattle.model.specs.Views.{knows}
+use Rattle.model.specs.declared.Fixed.{Fixed}
+use Rattle.model.specs.declared.Machine.{Machine}
 
 -- ---- 1: the lengths of what is lent; units and ports have theirs by type
-pub record RouteSizes (m w c : ℕ) : Type 0 where
-  pub map : m ≡ ENTRIES
-  pub walker : w ≡ ENTRIES
-  pub cache : c ≡ SLOTS
+pub record RouteSizes (m w c : List ℕ) : Type 0 where
+  pub map : length m ≡ ENTRIES
+  pub walker : length w ≡ ENTRIES
+  pub cache : length c ≡ SLOTS
 
-pub record Sizes (s p cm cw cc dm dw dc : ℕ) : Type 0 where
-  pub sets : s ≡ SETS * SET_WORDS
-  pub pairs : p ≡ PAIRS
-  pub cpu : RouteSizes cm cw cc
-  pub dma : RouteSizes dm dw dc
+pub record Sizes (l : Lists) : Type 0 where
+  pub sets : length l.sets ≡ SETS * SET_WORDS
+  pub pairs : length l.pairs ≡ PAIRS
+  pub cpu : RouteSizes l.cpu_map l.cpu_walker l.cpu_cache
+  pub dma : RouteSizes l.dma_map l.dma_walker l.dma_cache
 
 -- ---- 2: the setup without its units
-pub record SetupNumbers (pages base count units : ℕ) : Type 0 where
-  pub some_pages : 0 < pages
-  pub most_pages : pages ≤ PAGES
-  pub shared : base + count ≤ pages
-  pub unit_count : units ≤ UNITS
+pub record SetupNumbers (fixed : Fixed) : Type 0 where
+  pub some_pages : 0 < fixed.pages
+  pub most_pages : fixed.pages ≤ PAGES
+  pub shared : fixed.shared_base + fixed.shared_count ≤ fixed.pages
+  pub unit_count : fixed.unit_count ≤ UNITS
+
+-- ---- 1 to 4 together
+pub record HomesGood (m : Machine) (l : Lists) : Type 0 where
+  pub sizes : Sizes l
+  pub setup : SetupGood (setup_of m.fixed)
+  pub known : KnownGood m.registers.known
+  pub pages : PagesGood m.fixed.pages m.fixed.shared_base m.fixed.shared_count m.registers.known l.sets
 
 -- ---- 5 to 7: a word that is none of the table's empty places
 abbrev pub NotEmpty : ℕ → Type 0

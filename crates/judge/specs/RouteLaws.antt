@@ -8,11 +8,11 @@ use Rattle.model.specs.Valid.{KnownGood, EntryGood}
 use Rattle.judge.specs.Parts.{SlotPacked}
 
 -- good entries are packed as the comparison of keys asks
-pub packed : (side : Side) (pages known : ℕ) (sets pairs table : List ℕ) → KnownGood known → ((w : ℕ) → Has table w → EntryGood side pages known sets pairs w) → Packed table
+pub packed : {side : Side} {pages known : ℕ} {sets pairs table : List ℕ} → KnownGood known → ((w : ℕ) → Has table w → EntryGood side pages known sets pairs w) → Packed table
 unfolding Packed
-packed side pages known sets pairs table k each w h =
+packed k each w h =
     let g = each w h in
-    record { port = g.port; filled = g.filled; vm = knows_below known _ k g.vm }
+    record { port = g.port; filled = g.filled; vm = knows_below _ _ k g.vm }
 
 pub filled : (cache : List ℕ) → ((w : ℕ) → Has cache w → SlotPacked w) → Filled cache
 unfolding Filled

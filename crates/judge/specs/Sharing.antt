@@ -2,11 +2,11 @@
 use Rattle.std.specs.Prelude.{ℕ, ◌*◌, ◌≤◌, ◌<◌, Bool, true, false, List, ◌≡◌, length, take}
 use Rattle.std.specs.Prelude.{if◌then◌else◌}
 use Rattle.numbers.specs.Decides.{Decides}
-use Rattle.numbers.specs.Limits.{PAGES, VMS, SETS, SET_WORDS}
+use Rattle.numbers.specs.Limits.{PAGES, VMS, SET_WORDS}
 use Rattle.numbers.specs.Packing.{left_of, right_of, page_of}
 use Rattle.table.specs.Table.{Has}
 use Rattle.pages.specs.Rows.{holds, add}
-use Rattle.model.specs.Valid.{KnownGood, PairGood, PairsGood}
+use Rattle.model.specs.Valid.{PairGood, PairsGood}
 use Rattle.model.specs.Views.{owns, shares}
 use Rattle.judge.specs.Parts.{NotEmpty}
 
@@ -44,10 +44,3 @@ pub record Lends (pages : ℕ) (sets pairs lent : List ℕ) : Type 0 where
 pub record PairsJudged (pages known : ℕ) (sets pairs lent : List ℕ) (r : Bool) : Type 0 where
   pub exact : Decides r (PairsGood pages known sets pairs)
   pub lends : r ≡ true → Lends pages sets pairs lent
-
--- what rules 1 to 5 have shown where rule 6 begins
-pub record Ground (pages known : ℕ) (sets pairs lent : List ℕ) : Type 0 where
-  pub size : length sets ≡ SETS * SET_WORDS
-  pub most_pages : pages ≤ PAGES
-  pub known_vms : KnownGood known
-  pub lends : Lends pages sets pairs lent

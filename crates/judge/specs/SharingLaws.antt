@@ -38,6 +38,10 @@ module _ (pages known : ℕ) (sets : List ℕ) (w : ℕ) (known-good : KnownGood
       (λ f. (right_of w, record { vm = r; owned = ⊎_elim (λ t. absurd (true≢false (sym t ∙ f))) (λ t. t) g.owned; borrower = rw f l; ends = inr (rw f, refl) }))
       (cases (owns sets (left_of w) (page_of w)))
 
+-- the borrower of a good pair is a VM
+pub borrower_below : {pages known : ℕ} {sets : List ℕ} {w : ℕ} → KnownGood known → PairGood pages known sets w → borrower_of sets w < VMS
+borrower_below k g = (parted _ _ _ _ k g).1.borrower
+
 module _ (sets : List ℕ) (w owner : ℕ) (part : Parted sets w owner) where
   -- a VM at an end of the pair is one of the two
   pub end_is : (vm : ℕ) → (left_of w ≡ vm) ⊎ (right_of w ≡ vm) → (owner ≡ vm) ⊎ (borrower_of sets w ≡ vm)

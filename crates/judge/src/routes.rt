@@ -1,119 +1,70 @@
 // Rules 6 to 8, written once for a side: its maps, its cache, its ports and its hand.
-ghost use Rattle.std.specs.Prelude.{◌≡◌, ℕ, ◌*◌, ◌≤◌, ◌<◌, length};
+ghost use Rattle.std.specs.Prelude.{◌≡◌, ℕ, ◌<◌, length, IsTrue};
 ghost use Rattle.numbers.specs.Decides.{Decides};
-ghost use Rattle.numbers.specs.Limits.{PAGES, VMS, ENTRIES, SLOTS, SETS, SET_WORDS};
+ghost use Rattle.numbers.specs.Limits.{VMS, PORTS, ENTRIES, SLOTS};
 ghost use Rattle.numbers.specs.Packing.{key_of};
 ghost use Rattle.table.specs.Table.{Has, Distinct};
 ghost use Rattle.model.specs.Header.{route_of};
-ghost use Rattle.model.specs.Valid.{KnownGood, EntryGood, CacheGood, PortsGood, RouteGood};
+ghost use Rattle.model.specs.Valid.{EntryGood, CacheGood, PortsGood, RouteGood};
 ghost use Rattle.model.specs.Views.{may_map};
 ghost use Rattle.judge_keys.specs.Keys.{Packed};
 ghost use Rattle.judge.specs.Parts.{NotEmpty, MapsGood, SlotPacked, PortGood};
-ghost use Rattle.judge.specs.Sharing.{Lends, Ground};
+ghost use Rattle.judge.specs.Sharing.{Lends};
 
-use super::header::is_known;
-use super::words::known_word;
+use super::homes::Homes;
 use model::SideRegisters;
 use numbers::{IDLE, PORTS, PhysPage, SLOTS, Side, VmId};
 
-// ---- 6: maps. `lent` says what `pairs` says, which is here for the contract to name and is not read.
-
-// Whether the VM may map the page: for CPU its own or one lent to it, for DMA its DMA page or the shared span's.
-fn may_map(
-    side: Side,
-    sets: &[u64],
-    pairs: &[u64],
-    lent: &[u64],
-    pages: u64,
-    vm: VmId,
-    page: PhysPage,
-) -> bool
-    requires { (length sets.now ≡ SETS * SET_WORDS) × (Lends pages sets.now pairs.now lent.now) × (pages ≤ PAGES) × (vm.0 < VMS) × (page.0 < pages) }
-    ensures { result ≡ may_map side sets.now pairs.now vm.0 page.0 }
-{
-    if views::claims(side, sets, vm, page) {
-        return true;
-    }
-    match side {
-        Side::Cpu => pages::holds(lent, vm.0, page),
-        Side::Dma => pages::holds(sets, pages::SHARED, page),
-    }
+// What rules 2 to 5 have shown where rule 6 begins. `lent` says what `pairs` says, which contracts name and nothing reads.
+#[derive(Clone, Copy)]
+pub struct Ground<'a> {
+    pub homes: Homes<'a>,
+    pub pairs: &'a [u64],
+    pub lent: &'a [u64],
+    pub ghost lends: { Lends homes.pages homes.sets.now pairs.now lent.now },
 }
 
-// One word of a map: empty, or an entry of a known VM onto a page that it may map.
-fn entry_good(
-    side: Side,
-    w: u64,
-    sets: &[u64],
-    pairs: &[u64],
-    lent: &[u64],
-    pages: u64,
-    known: u64,
-) -> bool
-    requires { Ground pages known sets.now pairs.now lent.now }
-    ensures { Decides result (NotEmpty w → EntryGood side pages known sets.now pairs.now w) }
-{
-    if w == 0 {
-        return true;
-    }
-    if !known_word(w, pages, known) {
-        return false;
-    }
-    may_map(
-        side,
-        sets,
-        pairs,
-        lent,
-        pages,
-        numbers::vm_of(w),
-        numbers::page_of(w),
-    )
-}
+// ---- 6: maps.
 
-// Every word of a map, software or walker.
-fn entries(
-    side: Side,
-    table: &[u64],
-    sets: &[u64],
-    pairs: &[u64],
-    lent: &[u64],
-    pages: u64,
-    known: u64,
-) -> bool
-    requires { Ground pages known sets.now pairs.now lent.now }
-    ensures { Decides result ((w : ℕ) → Has table.now w → EntryGood side pages known sets.now pairs.now w) }
-{
-    let mut i = 0;
-    while i < table.len() {
-        if !entry_good(side, table[i], sets, pairs, lent, pages, known) {
-            return false;
+impl Ground<'_> {
+    // Whether the VM may map the page: for CPU its own or one lent to it, for DMA its DMA page or the shared span's.
+    fn may_map(&self, side: Side, vm: VmId, page: PhysPage) -> bool
+        requires { (vm.0 < VMS) × (page.0 < self.now.homes.pages) }
+        ensures { result ≡ may_map side self.now.homes.sets.now self.now.pairs.now vm.0 page.0 }
+    {
+        let sets = self.homes.sets;
+        if views::claims(side, sets, vm, page) {
+            return true;
         }
-        i += 1;
+        match side {
+            Side::Cpu => pages::holds(self.lent, vm.0, page),
+            Side::Dma => pages::holds(sets, pages::SHARED, page),
+        }
     }
-    true
-}
 
-// Both maps of a side: every word of each, then the keys of the two together.
-fn maps(
-    side: Side,
-    map: &[u64],
-    walker: &[u64],
-    sets: &[u64],
-    pairs: &[u64],
-    lent: &[u64],
-    pages: u64,
-    known: u64,
-) -> bool
-    requires { (length map.now ≡ ENTRIES) × (length walker.now ≡ ENTRIES) × Ground pages known sets.now pairs.now lent.now }
-    ensures { Decides result (MapsGood side pages known sets.now pairs.now map.now walker.now) }
-{
-    if !entries(side, map, sets, pairs, lent, pages, known) {
-        return false;
+    // One word of a map: empty, or an entry of a known VM onto a page that it may map.
+    fn entry_good(&self, side: Side, w: u64) -> bool
+        ensures { Decides result (NotEmpty w → EntryGood side self.now.homes.pages self.now.homes.known self.now.homes.sets.now self.now.pairs.now w) }
+    {
+        w == 0
+            || self.homes.known_word(w)
+                && self.may_map(side, numbers::vm_of(w), numbers::page_of(w))
     }
-    if !entries(side, walker, sets, pairs, lent, pages, known) {
-        return false;
+
+    // Every word of a map, software or walker. The ground comes by value, so that its fields stay in registers over the words.
+    fn entries(self, side: Side, table: &[u64]) -> bool
+        ensures { Decides result ((w : ℕ) → Has table.now w → EntryGood side self.entry.homes.pages self.entry.homes.known self.entry.homes.sets.now self.entry.pairs.now w) }
+    {
+        table.iter().all(|w| self.entry_good(side, *w))
     }
-    judge_keys::same_maps(map, walker)
+
+    // Both maps of a side: every word of each, then the keys of the two together.
+    fn maps(&self, side: Side, map: &[u64], walker: &[u64]) -> bool
+        requires { (length map.now ≡ ENTRIES) × (length walker.now ≡ ENTRIES) }
+        ensures { Decides result (MapsGood side self.now.homes.pages self.now.homes.known self.now.homes.sets.now self.now.pairs.now map.now walker.now) }
+    {
+        self.entries(side, map) && self.entries(side, walker) && judge_keys::same_maps(map, walker)
+    }
 }
 
 // ---- 7: caches.
@@ -128,14 +79,7 @@ fn slot_packed(w: u64) -> bool
 fn slots(cache: &[u64]) -> bool
     ensures { Decides result ((w : ℕ) → Has cache.now w → SlotPacked w) }
 {
-    let mut i = 0;
-    while i < cache.len() {
-        if !slot_packed(cache[i]) {
-            return false;
-        }
-        i += 1;
-    }
-    true
+    cache.iter().all(|w| slot_packed(*w))
 }
 
 // Every slot of a cache, then what it holds against the walker.
@@ -143,59 +87,41 @@ fn caches(walker: &[u64], cache: &[u64]) -> bool
     requires { (length walker.now ≡ ENTRIES) × (length cache.now ≡ SLOTS) × (Packed walker.now) × (Distinct key_of walker.now) }
     ensures { Decides result (CacheGood walker.now cache.now) }
 {
-    if !slots(cache) {
-        return false;
-    }
-    judge_keys::slots_held(walker, cache)
+    slots(cache) && judge_keys::slots_held(walker, cache)
 }
 
 // ---- 8: ports.
 
 // One port: idle, or with a known VM on it.
-fn port_good(known: u64, vm: u64) -> bool
-    requires { KnownGood known }
-    ensures { Decides result (PortGood known vm) }
+fn port_good(homes: &Homes, vm: u64) -> bool
+    ensures { Decides result (PortGood homes.now.known vm) }
 {
-    (vm == IDLE) | is_known(known, VmId(vm))
+    (vm == IDLE) | homes.knows(VmId(vm))
 }
 
-fn ports(known: u64, ports: [u64; PORTS as usize]) -> bool
-    requires { KnownGood known }
-    ensures { Decides result (PortsGood known ports) }
+fn ports(homes: &Homes, ports: &[u64; PORTS as usize]) -> bool
+    ensures exact { Decides result (PortsGood homes.now.known ports.now) }
+    ensures size { length ports.now ≡ PORTS }
 {
-    let mut port = 0;
-    while port < PORTS {
-        if !port_good(known, ports[port as usize]) {
-            return false;
-        }
-        port += 1;
-    }
-    true
+    ports.iter().all(|vm| port_good(homes, *vm))
 }
 
 // ---- A side: 6 to 8.
 
 pub fn route(
     side: Side,
+    ground: &Ground,
+    registers: &SideRegisters,
     map: &[u64],
     walker: &[u64],
     cache: &[u64],
-    sets: &[u64],
-    pairs: &[u64],
-    lent: &[u64],
-    pages: u64,
-    known: u64,
-    registers: SideRegisters,
 ) -> bool
-    requires { (length map.now ≡ ENTRIES) × (length walker.now ≡ ENTRIES) × (length cache.now ≡ SLOTS) × Ground pages known sets.now pairs.now lent.now }
-    ensures { Decides result (RouteGood side pages known sets.now pairs.now (route_of registers map.now walker.now cache.now)) }
+    requires { (length map.now ≡ ENTRIES) × (length walker.now ≡ ENTRIES) × (length cache.now ≡ SLOTS) }
+    ensures exact { Decides result (RouteGood side ground.now.homes.pages ground.now.homes.known ground.now.homes.sets.now ground.now.pairs.now (route_of registers.now map.now walker.now cache.now)) }
+    ensures size { IsTrue result → length registers.now.ports ≡ PORTS }
 {
-    if !maps(side, map, walker, sets, pairs, lent, pages, known) {
-        return false;
-    }
-    if !caches(walker, cache) {
-        return false;
-    }
-    let on_ports = registers.ports;
-    ports(known, on_ports) & (registers.hand < SLOTS)
+    ground.maps(side, map, walker)
+        && caches(walker, cache)
+        && ports(&ground.homes, &registers.ports)
+        && registers.hand < SLOTS
 }

@@ -3,3 +3,4 @@ pub mod Columns
 pub mod WordLaws
 pub mod ColumnLaws
 pub mod PageLaws
+pub mod EachLaws

@@ -57,16 +57,14 @@ fn homes_good(sets: &[u64], known: u64, k: u64, all: u64) -> bool
     }
     let mut held = pool | shared;
     let mut dma_held = 0;
-    let mut vm = 0;
-    while vm < VMS {
+    for vm in 0..VMS {
         let cpu = column_word(sets, pages::cpu_row(VmId(vm)), k);
         let dma = column_word(sets, pages::dma_row(VmId(vm)), k);
         if !vm_good(pages::has_bit(known, vm), pool, held, dma_held, cpu, dma) {
             return false;
         }
-        held = held | cpu;
-        dma_held = dma_held | dma;
-        vm += 1;
+        held |= cpu;
+        dma_held |= dma;
     }
     held == all
 }
@@ -92,12 +90,5 @@ pub fn page_sets(sets: &[u64], pages: u64, shared_base: u64, shared_count: u64, 
     requires { (length sets.now ≡ SETS * SET_WORDS) × (pages ≤ PAGES) × (shared_base + shared_count ≤ pages) × (known < 2 ^ VMS) }
     ensures { Decides result (PagesGood pages shared_base shared_count known sets.now) }
 {
-    let mut k: u64 = 0;
-    while k < SET_WORDS as u64 {
-        if !column_good(sets, pages, shared_base, shared_count, known, k) {
-            return false;
-        }
-        k += 1;
-    }
-    true
+    (0..SET_WORDS as u64).all(|k| column_good(sets, pages, shared_base, shared_count, known, k))
 }

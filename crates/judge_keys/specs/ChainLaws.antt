@@ -1,9 +1,9 @@
 -- Laws of chains and of walks along them.
-use Rattle.std.specs.Prelude.{ℕ, suc, ◌+◌, ◌-◌, ◌≤◌, ◌<◌, List, ◌≡◌, refl, ltb, length, get_or, set, replicate}
+use Rattle.std.specs.Prelude.{ℕ, suc, ◌+◌, ◌≤◌, ◌<◌, List, Some, ◌≡◌, refl, ltb, length, get_or, set, replicate}
 use Rattle.std.proofs.Common.{⊎_elim, sym, ◌∙◌, arith, length-set, get_or-set_same, get_or-set_other, ltb-true, ltb-false}
 use Rattle.std.proofs.lemmas.List.{length-replicate, get_or-replicate}
 use Rattle.numbers.specs.CaseLaws.{cases, equal}
-use Rattle.judge_keys.specs.Keys.{CLASSES, class_of, InClass, Each, Last, Links, Chained}
+use Rattle.judge_keys.specs.Keys.{CLASSES, class_of, InClass, Each, Last, Links, Chained, Chain, WalksOn}
 
 pub class_small : (w : ℕ) → class_of w < CLASSES
 unfolding class_of
@@ -83,15 +83,7 @@ module _ (ws head next : List ℕ) (i : ℕ) (l : Chained ws head next i) (h : i
       there : (j : ℕ) → j < i + 1 → (get_or ws j 0 ≡ 0 → ⊥) → (j ≡ i → ⊥) → Last ws (class_of (get_or ws j 0)) j (get_or (set next i (get_or head own 0)) j 0)
       there j b f n = rw (get_or-set_other next i j (get_or head own 0) 0 n) (l.links.nexts j (omega arith) f)
 
--- ---- the chain of class c begins at `from`
-pub record Chain (ws next : List ℕ) (c from : ℕ) : Type 0 where
-  pub links : Links ws next (length ws)
-  pub head : Last ws c (length ws) from
-
--- where the whole table is chained
-pub chain_of : (ws head next : List ℕ) (c : ℕ) → Chained ws head next (length ws) → c < CLASSES → Chain ws next c (get_or head c 0)
-chain_of ws head next c l h = record { links = l.links; head = l.heads c h }
-
+-- ---- walks
 -- a walk stands at a place of the class, or has come to the end
 pub record Standing (ws : List ℕ) (c at : ℕ) : Type 0 where
   pub below : at ≤ length ws
@@ -101,23 +93,23 @@ module _ (ws next : List ℕ) (c : ℕ) where
   pub walk_start : (from : ℕ) → Chain ws next c from → Standing ws c from
   walk_start from r = record { below = r.head.below; on = r.head.on }
 
-  module _ (at : ℕ) (l : Links ws next (length ws)) (r : Standing ws c at) (n : at ≡ 0 → ⊥) where
-    -- a turn at `at` is at the place before it
-    pub walk_on : InClass ws c (at - 1)
-    walk_on = r.on (at - 1) (omega arith)
+  -- a step at a place
+  module _ (at spot on : ℕ) (l : Links ws next (length ws)) (s : WalksOn next at (Some spot) on) (r : Standing ws c at) where
+    pub walk_on : InClass ws c spot
+    walk_on = r.on spot (omega arith)
 
-    step : Last ws c (at - 1) (get_or next (at - 1) 0)
-    step = rw walk_on.class at (l.nexts (at - 1) walk_on.within walk_on.filled)
+    step : Last ws c spot on
+    step = rw (s.1, sym walk_on.class) (l.nexts spot walk_on.within walk_on.filled)
 
-    pub walk_next : Standing ws c (get_or next (at - 1) 0)
+    pub walk_next : Standing ws c on
     walk_next = record { below = omega (arith, step.below, r.below); on = step.on }
 
-    pub walk_less : get_or next (at - 1) 0 < at
+    pub walk_less : on < at
     walk_less = omega (arith, step.below)
 
-    -- and passes over no place of the class
-    pub walk_seen : (k : ℕ) → get_or next (at - 1) 0 ≤ k → InClass ws c k → (k ≡ at - 1 → ⊥) → at ≤ k
-    walk_seen k a q d = ⊎_elim (λ t. absurd (step.none k a (ltb-true _ _ t) q)) (λ f. omega (arith, ltb-false k (at - 1) f)) (cases (ltb k (at - 1)))
+    -- passes over no place of the class
+    pub walk_seen : (k : ℕ) → on ≤ k → InClass ws c k → (k ≡ spot → ⊥) → at ≤ k
+    walk_seen k a q d = ⊎_elim (λ t. absurd (step.none k a (ltb-true _ _ t) q)) (λ f. omega (arith, ltb-false k spot f)) (cases (ltb k spot))
 
 -- ---- a walk over a class: each place that it has passed meets Q
 pub record Passing (ws : List ℕ) (c : ℕ) (Q : ℕ → Type 0) (at : ℕ) : Type 0 where
@@ -128,11 +120,11 @@ module _ (ws next : List ℕ) (c : ℕ) (Q : ℕ → Type 0) where
   pub pass_start : (from : ℕ) → Chain ws next c from → Passing ws c Q from
   pass_start from r = record { standing = walk_start ws next c from r; passed = λ k a q. absurd (r.head.none k a q.within q) }
 
-  pub pass_next : (at : ℕ) → Links ws next (length ws) → Passing ws c Q at → (at ≡ 0 → ⊥) → Q (at - 1) → Passing ws c Q (get_or next (at - 1) 0)
-  pass_next at l r n h =
+  pub pass_next : (at spot on : ℕ) → Links ws next (length ws) → WalksOn next at (Some spot) on → Passing ws c Q at → Q spot → Passing ws c Q on
+  pass_next at spot on l s r h =
       record {
-        standing = walk_next ws next c at l r.standing n;
-        passed = λ k a q. ⊎_elim (λ e. rw e h) (λ d. r.passed k (walk_seen ws next c at l r.standing n k a q d) q) (equal k (at - 1));
+        standing = walk_next ws next c at spot on l s r.standing;
+        passed = λ k a q. ⊎_elim (λ e. rw e h) (λ d. r.passed k (walk_seen ws next c at spot on l s r.standing k a q d) q) (equal k spot);
       }
 
 module _ (ws : List ℕ) (c : ℕ) (Q : ℕ → Type 0) where

@@ -1,6 +1,6 @@
 -- Keys by class: no key twice in a map, two maps that are the same, and slots that hold what the walker has (docs/MACHINE.md, 4).
 -- A table's filled places are chained by the class of their keys, and within a class a key has a place of its own.
-use Rattle.std.specs.Prelude.{ℕ, suc, ◌*◌, ◌/◌, ◌%◌, ◌≤◌, ◌<◌, Bool, true, false, List, ◌⊎◌, ◌≡◌, length, get_or}
+use Rattle.std.specs.Prelude.{ℕ, suc, ◌+◌, ◌*◌, ◌/◌, ◌%◌, ◌≤◌, ◌<◌, Bool, true, false, List, Option, MatchOption, ◌⊎◌, ◌≡◌, length, get_or}
 use Rattle.numbers.specs.Decides.{Decides}
 use Rattle.numbers.specs.Limits.{VMS}
 use Rattle.numbers.specs.Packing.{GUEST_FIELD, port_of, vm_of, guest_of, entry_of, filled_of, key_of, address_of, map_word}
@@ -113,6 +113,19 @@ pub record Chained (ws head next : List ℕ) (i : ℕ) : Type 0 where
   pub links : Links ws next i
   pub classes : length head ≡ CLASSES
   pub heads : (c : ℕ) → c < CLASSES → Last ws c i (get_or head c 0)
+
+-- the chain of class c begins at `from`
+pub record Chain (ws next : List ℕ) (c from : ℕ) : Type 0 where
+  pub links : Links ws next (length ws)
+  pub head : Last ws c (length ws) from
+
+-- a walk along the links stands at a filled place, or has come to the end
+abbrev pub Stands : List ℕ → ℕ → Type 0
+Stands ws at = (p : ℕ) → at ≡ p + 1 → (p < length ws) × (get_or ws p 0 ≡ 0 → ⊥)
+
+-- a step of it gives the place where it stands, and goes on to what is linked there
+abbrev pub WalksOn : List ℕ → ℕ → Option ℕ → ℕ → Type 0
+WalksOn next at r on = MatchOption r (at ≡ 0) (λ p. (at ≡ p + 1) × (on ≡ get_or next p 0))
 
 -- ---- the table of places
 pub record Blank (place : List ℕ) : Type 0 where

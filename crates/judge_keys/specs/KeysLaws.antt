@@ -13,7 +13,7 @@ use Rattle.numbers.specs.Packing.{PORT_BIT, VM_BIT, VM_FIELD, ADDRESS_FIELD, por
 use Rattle.numbers.specs.PackingLaws.{word_whole, key_filled, address_key}
 use Rattle.table.specs.Table.{Has, Distinct, find, lookup}
 use Rattle.table.specs.TableLaws.{find_at, find_none, lookup_has, has_lookup}
-use Rattle.table.specs.declared.Found.TheVariants.{At, Nothing}
+use Rattle.std.specs.Prelude.{Some, None}
 use Rattle.model.specs.Valid.{SameMap}
 use Rattle.judge_keys.specs.Keys.{CLASSES, PLACES, class_of, low_of, map_word_of, PackedWord, Packed, Filled, Agreement, Held, InClass, Each, ClassOnce, ClassWithin, ClassAgree, ClassHeld, NewKey, Blank, Tested}
 use Rattle.judge_keys.specs.ChainLaws.{class_small}
@@ -168,7 +168,7 @@ slot_class w = address_class (map_word_of w) w (address_kept w)
 
 -- ---- one place after the other, each the first of its key
 module _ (ws : List ℕ) (i : ℕ) (h : i < length ws) where
-  pub new_found : (k : ℕ) → find key_of ws (key_of (get_or ws i 0)) ≡ At k → Decides (eqb k i || eqb (key_of (get_or ws i 0)) 0) (NewKey ws i)
+  pub new_found : (k : ℕ) → find key_of ws (key_of (get_or ws i 0)) ≡ Some k → Decides (eqb k i || eqb (key_of (get_or ws i 0)) 0) (NewKey ws i)
   unfolding NewKey
   new_found k e = ⊎_elim here (λ n. rw (ne_eqb k i n) (decides_as (decides_equal _ 0) (λ z j l q. z) (λ w. w k (earlier n) own))) (equal k i)
     where
@@ -184,7 +184,7 @@ module _ (ws : List ℕ) (i : ℕ) (h : i < length ws) where
       here : k ≡ i → Decides (eqb k i || eqb (key_of (get_or ws i 0)) 0) (NewKey ws i)
       here q = rw (eq-eqb k i q) (says_yes (λ j l s. absurd (before j (omega arith) s)))
 
-  pub new_none : find key_of ws (key_of (get_or ws i 0)) ≡ Nothing → Decides true (NewKey ws i)
+  pub new_none : find key_of ws (key_of (get_or ws i 0)) ≡ None → Decides true (NewKey ws i)
   new_none e = absurd (find_none key_of ws (key_of (get_or ws i 0)) e i h refl)
 
 pub new_once : (ws : List ℕ) → ((j : ℕ) → j < length ws → NewKey ws j) → Distinct key_of ws

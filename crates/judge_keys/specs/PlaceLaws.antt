@@ -1,5 +1,5 @@
 -- Laws of the table of places: a chain entered, cleared, or taken out word by word.
-use Rattle.std.specs.Prelude.{ℕ, suc, ◌-◌, ◌≤◌, ◌<◌, List, ◌⊎◌, ◌≡◌, refl, eqb, ltb, length, set, replicate}
+use Rattle.std.specs.Prelude.{ℕ, suc, ◌+◌, ◌-◌, ◌≤◌, ◌<◌, List, Some, ◌⊎◌, ◌≡◌, refl, eqb, ltb, length, set, replicate}
 use Rattle.std.proofs.Common.{inl, inr, ◌∙◌, arith, length-set, get_or-set_same, get_or-set_other, ltb-true, ltb-false}
 use Rattle.std.proofs.Math.Logic.{⊎_elim}
 use Rattle.std.proofs.Math.Path.{sym, ap}
@@ -9,8 +9,8 @@ use Rattle.numbers.specs.CaseLaws.{cases, equal}
 use Rattle.numbers.specs.Decides.{Decides}
 use Rattle.numbers.specs.DecidesLaws.{decides_as, decides_equal}
 use Rattle.table.specs.Table.{Has}
-use Rattle.judge_keys.specs.Keys.{PLACES, class_of, low_of, InClass, Each, ClassOnce, ClassAgree, Links, Blank, Inside, Shown, Shows, Entered, Unseen, Seen, Matched, NoneLeft}
-use Rattle.judge_keys.specs.ChainLaws.{Chain, Standing, walk_on, walk_less, walk_seen}
+use Rattle.judge_keys.specs.Keys.{PLACES, class_of, low_of, InClass, Each, ClassOnce, ClassAgree, Links, Chain, WalksOn, Blank, Inside, Shown, Shows, Entered, Unseen, Seen, Matched, NoneLeft}
+use Rattle.judge_keys.specs.ChainLaws.{Standing, walk_on, walk_less, walk_seen}
 
 pub low_small : (w : ℕ) → low_of w < PLACES
 unfolding low_of
@@ -26,9 +26,9 @@ class_has ws c i r = record { spot = i; within = r.within; holds = refl; filled 
 pub has_class : (ws : List ℕ) (w c : ℕ) (r : Has ws w) → class_of w ≡ c → InClass ws c r.spot
 has_class ws w c r e = record { within = r.within; filled = λ z. r.filled (sym r.holds ∙ z); class = rw r.holds e }
 
--- the low bits of the word before `at`, where a walk stands
+-- the low bits of the word at a place
 abbrev low_at : List ℕ → ℕ → ℕ
-low_at ws at = low_of (get_or ws (at - 1) 0)
+low_at ws spot = low_of (get_or ws spot 0)
 
 -- ---- the table of places
 pub blank_start : (place : List ℕ) → place ≡ replicate PLACES 0 → Blank place
@@ -62,12 +62,12 @@ module _ (ws : List ℕ) (c : ℕ) (place : List ℕ) where
   clear_end t = shows_blank ws place c _ t (λ p q h e. omega arith)
 
   -- a place that is taken when the walk comes to it is taken by another place of the same key
-  pub enter_twice : (at : ℕ) → Entered ws c at place → InClass ws c (at - 1) → (at ≡ 0 → ⊥) → (get_or place (low_of (get_or ws (at - 1) 0)) 0 ≡ 0 → ⊥) → ClassOnce ws c → ⊥
+  pub enter_twice : (at spot : ℕ) → Entered ws c at place → InClass ws c spot → at ≡ spot + 1 → (get_or place (low_of (get_or ws spot 0)) 0 ≡ 0 → ⊥) → ClassOnce ws c → ⊥
   unfolding ClassOnce
-  enter_twice at t r n f once =
-      let low = low_of (get_or ws (at - 1) 0) in
+  enter_twice at spot t r e f once =
+      let low = low_of (get_or ws spot 0) in
       let s = t.shows.only low (get_or place low 0 - 1) (low_small _) (omega arith) in
-      once (at - 1) (get_or place low 0 - 1) (omega (arith, s.2)) r s.0 (sym s.1)
+      once spot (get_or place low 0 - 1) (omega (arith, s.2)) r s.0 (sym s.1)
 
   pub enter_once : Entered ws c 0 place → ClassOnce ws c
   unfolding ClassOnce
@@ -93,61 +93,61 @@ module _ (ws next : List ℕ) (c : ℕ) (place : List ℕ) where
       before : (p : ℕ) → InClass ws c p → p < from
       before p q = ⊎_elim (ltb-true p from) (λ f. absurd (r.head.none p (omega (arith, ltb-false p from f)) q.within q)) (cases (ltb p from))
 
-  module _ (at : ℕ) (l : Links ws next (length ws)) (r : Standing ws c at) (n : at ≡ 0 → ⊥) where
-    pub enter_next : Entered ws c at place → get_or place (low_of (get_or ws (at - 1) 0)) 0 ≡ 0 → Entered ws c (get_or next (at - 1) 0) (set place (low_of (get_or ws (at - 1) 0)) at)
-    enter_next t z = record { shows = record { size = length-set place (low_at ws at) at ∙ t.shows.size; only = only }; there = there }
+  module _ (at spot on : ℕ) (l : Links ws next (length ws)) (s : WalksOn next at (Some spot) on) (r : Standing ws c at) where
+    pub enter_next : Entered ws c at place → get_or place (low_of (get_or ws spot 0)) 0 ≡ 0 → Entered ws c on (set place (low_of (get_or ws spot 0)) (spot + 1))
+    enter_next t z = record { shows = record { size = length-set place (low_at ws spot) (spot + 1) ∙ t.shows.size; only = only }; there = there }
       where
-        room : low_at ws at < length place
-        room = low_room place (get_or ws (at - 1) 0) t.shows.size
+        room : low_at ws spot < length place
+        room = low_room place (get_or ws spot 0) t.shows.size
 
-        less : get_or next (at - 1) 0 < at
-        less = walk_less ws next c at l r n
+        less : on < at
+        less = walk_less ws next c at spot on l s r
 
-        only : (i p : ℕ) → i < PLACES → get_or (set place (low_at ws at) at) i 0 ≡ suc p → InClass ws c p × (low_of (get_or ws p 0) ≡ i) × (get_or next (at - 1) 0 ≤ p)
-        only i p h e = ⊎_elim new old (equal i (low_at ws at))
+        only : (i p : ℕ) → i < PLACES → get_or (set place (low_at ws spot) (spot + 1)) i 0 ≡ suc p → InClass ws c p × (low_of (get_or ws p 0) ≡ i) × (on ≤ p)
+        only i p h e = ⊎_elim new old (equal i (low_at ws spot))
           where
-            new : i ≡ low_at ws at → InClass ws c p × (low_of (get_or ws p 0) ≡ i) × (get_or next (at - 1) 0 ≤ p)
+            new : i ≡ low_at ws spot → InClass ws c p × (low_of (get_or ws p 0) ≡ i) × (on ≤ p)
             new q =
-                let s : at ≡ suc p = sym (get_or-set_same place (low_at ws at) at 0 room) ∙ rw q at e in
-                let o : p ≡ at - 1 = omega arith in
-                rw o (walk_on ws next c at l r n, sym q, omega (arith, less))
+                let g : spot + 1 ≡ suc p = sym (get_or-set_same place (low_at ws spot) (spot + 1) 0 room) ∙ rw q at e in
+                let o : p ≡ spot = omega arith in
+                rw o (walk_on ws next c at spot on l s r, sym q, omega (arith, less))
 
-            old : (i ≡ low_at ws at → ⊥) → InClass ws c p × (low_of (get_or ws p 0) ≡ i) × (get_or next (at - 1) 0 ≤ p)
-            old d = let s = t.shows.only i p h (sym (get_or-set_other place (low_at ws at) i at 0 d) ∙ e) in (s.0, s.1, omega (arith, less, s.2))
+            old : (i ≡ low_at ws spot → ⊥) → InClass ws c p × (low_of (get_or ws p 0) ≡ i) × (on ≤ p)
+            old d = let g = t.shows.only i p h (sym (get_or-set_other place (low_at ws spot) i (spot + 1) 0 d) ∙ e) in (g.0, g.1, omega (arith, less, g.2))
 
-        there : (k : ℕ) → get_or next (at - 1) 0 ≤ k → InClass ws c k → get_or (set place (low_at ws at) at) (low_of (get_or ws k 0)) 0 ≡ suc k
-        there k a q = ⊎_elim new old (equal k (at - 1))
+        there : (k : ℕ) → on ≤ k → InClass ws c k → get_or (set place (low_at ws spot) (spot + 1)) (low_of (get_or ws k 0)) 0 ≡ suc k
+        there k a q = ⊎_elim new old (equal k spot)
           where
-            new : k ≡ at - 1 → get_or (set place (low_at ws at) at) (low_of (get_or ws k 0)) 0 ≡ suc k
-            new e = rw (e, get_or-set_same place (low_at ws at) at 0 room) (omega arith)
+            new : k ≡ spot → get_or (set place (low_at ws spot) (spot + 1)) (low_of (get_or ws k 0)) 0 ≡ suc k
+            new e = rw (e, get_or-set_same place (low_at ws spot) (spot + 1) 0 room) (omega arith)
 
-            old : (k ≡ at - 1 → ⊥) → get_or (set place (low_at ws at) at) (low_of (get_or ws k 0)) 0 ≡ suc k
+            old : (k ≡ spot → ⊥) → get_or (set place (low_at ws spot) (spot + 1)) (low_of (get_or ws k 0)) 0 ≡ suc k
             old d =
-                let s = t.there k (walk_seen ws next c at l r n k a q d) q in
-                get_or-set_other place (low_at ws at) (low_of (get_or ws k 0)) at 0 (λ e. omega (arith, rw e at s)) ∙ s
+                let g = t.there k (walk_seen ws next c at spot on l s r k a q d) q in
+                get_or-set_other place (low_at ws spot) (low_of (get_or ws k 0)) (spot + 1) 0 (λ e. omega (arith, rw e at g)) ∙ g
 
-    pub clear_next : Shows ws c (λ p. p < at) place → Shows ws c (λ p. p < get_or next (at - 1) 0) (set place (low_of (get_or ws (at - 1) 0)) 0)
-    clear_next t = shows_clear ws place c (get_or ws (at - 1) 0) _ _ t before
+    pub clear_next : Shows ws c (λ p. p < at) place → Shows ws c (λ p. p < on) (set place (low_of (get_or ws spot 0)) 0)
+    clear_next t = shows_clear ws place c (get_or ws spot 0) _ _ t before
       where
-        before : (p : ℕ) → InClass ws c p → (low_of (get_or ws p 0) ≡ low_at ws at → ⊥) → p < at → p < get_or next (at - 1) 0
+        before : (p : ℕ) → InClass ws c p → (low_of (get_or ws p 0) ≡ low_at ws spot → ⊥) → p < at → p < on
         before p q d h =
-            ⊎_elim (ltb-true p (get_or next (at - 1) 0))
-            (λ f. absurd (omega (arith, walk_seen ws next c at l r n p (omega (arith, ltb-false p (get_or next (at - 1) 0) f)) q (λ e. d (rw e refl)))))
-            (cases (ltb p (get_or next (at - 1) 0)))
+            ⊎_elim (ltb-true p on)
+            (λ f. absurd (omega (arith, walk_seen ws next c at spot on l s r p (omega (arith, ltb-false p on f)) q (λ e. d (rw e refl)))))
+            (cases (ltb p on))
 
 -- ---- a word against the table of places
 pub shows_inside : (map place : List ℕ) (c : ℕ) (P : ℕ → Type 0) → Shows map c P place → Inside map place
 shows_inside map place c P t = record { size = t.size; within = λ l p h e. (t.only l p h e).0.within }
 
-module _ (map place : List ℕ) (w there : ℕ) (t : Inside map place) (e : get_or place (low_of w) 0 ≡ there) (n : there ≡ 0 → ⊥) where
-  pub shown_place : there - 1 < length map
-  shown_place = t.within (low_of w) (there - 1) (low_small w) (omega arith)
+module _ (map place : List ℕ) (w spot : ℕ) (t : Inside map place) (e : get_or place (low_of w) 0 ≡ spot + 1) where
+  pub shown_place : spot < length map
+  shown_place = t.within (low_of w) spot (low_small w) (omega arith)
 
-  pub shown_test : Decides (eqb (get_or map (there - 1) 0) w) (Shown map place w)
+  pub shown_test : Decides (eqb (get_or map spot 0) w) (Shown map place w)
   shown_test =
-      decides_as (decides_equal (get_or map (there - 1) 0) w)
-      (λ q. record { spot = there - 1; there = omega arith; holds = q })
-      (λ s. let i : there - 1 ≡ s.spot = omega arith in rw i s.holds)
+      decides_as (decides_equal (get_or map spot 0) w)
+      (λ q. record { spot = spot; there = omega arith; holds = q })
+      (λ s. let i : spot ≡ s.spot = omega arith in rw i s.holds)
 
 pub shown_none : (map place : List ℕ) (w : ℕ) → get_or place (low_of w) 0 ≡ 0 → Shown map place w → ⊥
 shown_none map place w z s = omega arith
@@ -176,49 +176,49 @@ module _ (map walker place : List ℕ) (c : ℕ) where
       none : (j : ℕ) → from ≤ j → InClass walker c j → ⊥
       none j a q = r.head.none j a q.within q
 
-  module _ (at : ℕ) (t : Matched map walker c at place) (own : InClass walker c (at - 1)) (n : at ≡ 0 → ⊥) where
+  module _ (at spot : ℕ) (t : Matched map walker c at place) (own : InClass walker c spot) (e : at ≡ spot + 1) where
     -- a word that is not there is not in the map, or was taken before
-    pub match_fails : (Shown map place (get_or walker (at - 1) 0) → ⊥) → ClassAgree map walker c → ⊥
+    pub match_fails : (Shown map place (get_or walker spot 0) → ⊥) → ClassAgree map walker c → ⊥
     unfolding Each ClassOnce
     match_fails lacks a =
-        let r = a.walker_within (at - 1) own in
-        ⊎_elim (λ e. lacks (record { spot = r.spot; there = rw r.holds at e; holds = r.holds }))
-        (λ (j, h, q, e). a.walker_once (at - 1) j (omega arith) own q (ap low_of (sym (e ∙ r.holds))))
-        (t.there r.spot (has_class map (get_or walker (at - 1) 0) c r own.class))
+        let r = a.walker_within spot own in
+        ⊎_elim (λ z. lacks (record { spot = r.spot; there = rw r.holds at z; holds = r.holds }))
+        (λ (j, h, q, z). a.walker_once spot j (omega arith) own q (ap low_of (sym (z ∙ r.holds))))
+        (t.there r.spot (has_class map (get_or walker spot 0) c r own.class))
 
-    module _ (next : List ℕ) (l : Links walker next (length walker)) (r : Standing walker c at) (s : Shown map place (get_or walker (at - 1) 0)) where
+    module _ (next : List ℕ) (on : ℕ) (l : Links walker next (length walker)) (step : WalksOn next at (Some spot) on) (r : Standing walker c at) (s : Shown map place (get_or walker spot 0)) where
       -- the place that shows the word is of its low bits, and no word before was
-      alone : (j : ℕ) → at ≤ j → InClass walker c j → low_of (get_or walker j 0) ≡ low_at walker at → ⊥
-      alone j a q e =
-          let o = t.shows.only (low_at walker at) s.spot (low_small _) s.there in
-          o.2 j a q (e ∙ sym o.1)
+      alone : (j : ℕ) → at ≤ j → InClass walker c j → low_of (get_or walker j 0) ≡ low_at walker spot → ⊥
+      alone j a q z =
+          let o = t.shows.only (low_at walker spot) s.spot (low_small _) s.there in
+          o.2 j a q (z ∙ sym o.1)
 
-      pub match_next : Matched map walker c (get_or next (at - 1) 0) (set place (low_of (get_or walker (at - 1) 0)) 0)
-      match_next = record { shows = shows_clear map place c (get_or walker (at - 1) 0) _ _ t.shows unseen; there = there; within = within; once = once }
+      pub match_next : Matched map walker c on (set place (low_of (get_or walker spot 0)) 0)
+      match_next = record { shows = shows_clear map place c (get_or walker spot 0) _ _ t.shows unseen; there = there; within = within; once = once }
         where
-          less : get_or next (at - 1) 0 < at
-          less = walk_less walker next c at l r n
+          less : on < at
+          less = walk_less walker next c at spot on l step r
 
-          seen : (j : ℕ) → get_or next (at - 1) 0 ≤ j → InClass walker c j → (j ≡ at - 1 → ⊥) → at ≤ j
-          seen = walk_seen walker next c at l r n
+          seen : (j : ℕ) → on ≤ j → InClass walker c j → (j ≡ spot → ⊥) → at ≤ j
+          seen = walk_seen walker next c at spot on l step r
 
-          unseen : (p : ℕ) → InClass map c p → (low_of (get_or map p 0) ≡ low_at walker at → ⊥) → Unseen map walker c at p → Unseen map walker c (get_or next (at - 1) 0) p
-          unseen p q d u j a b f = ⊎_elim (λ z. d (sym (rw z at f))) (λ z. u j (seen j a b z) b f) (equal j (at - 1))
+          unseen : (p : ℕ) → InClass map c p → (low_of (get_or map p 0) ≡ low_at walker spot → ⊥) → Unseen map walker c at p → Unseen map walker c on p
+          unseen p q d u j a b f = ⊎_elim (λ z. d (sym (rw z at f))) (λ z. u j (seen j a b z) b f) (equal j spot)
 
-          there : (k : ℕ) → InClass map c k → (get_or (set place (low_at walker at) 0) (low_of (get_or map k 0)) 0 ≡ suc k) ⊎ Seen map walker c (get_or next (at - 1) 0) k
-          there k q = ⊎_elim stands (λ (j, a, b, e). inr (j, omega (arith, less), b, e)) (t.there k q)
+          there : (k : ℕ) → InClass map c k → (get_or (set place (low_at walker spot) 0) (low_of (get_or map k 0)) 0 ≡ suc k) ⊎ Seen map walker c on k
+          there k q = ⊎_elim stands (λ (j, a, b, z). inr (j, omega (arith, less), b, z)) (t.there k q)
             where
-              stands : get_or place (low_of (get_or map k 0)) 0 ≡ suc k → (get_or (set place (low_at walker at) 0) (low_of (get_or map k 0)) 0 ≡ suc k) ⊎ Seen map walker c (get_or next (at - 1) 0) k
-              stands e =
-                  ⊎_elim (λ z. let o : s.spot ≡ k = omega (arith, rw z at e, s.there) in inr (at - 1, omega (arith, less), own, sym (rw o at s.holds)))
-                  (λ d. inl (get_or-set_other place (low_at walker at) (low_of (get_or map k 0)) 0 0 d ∙ e))
-                  (equal (low_of (get_or map k 0)) (low_at walker at))
+              stands : get_or place (low_of (get_or map k 0)) 0 ≡ suc k → (get_or (set place (low_at walker spot) 0) (low_of (get_or map k 0)) 0 ≡ suc k) ⊎ Seen map walker c on k
+              stands f =
+                  ⊎_elim (λ z. let o : s.spot ≡ k = omega (arith, rw z at f, s.there) in inr (spot, omega (arith, less), own, sym (rw o at s.holds)))
+                  (λ d. inl (get_or-set_other place (low_at walker spot) (low_of (get_or map k 0)) 0 0 d ∙ f))
+                  (equal (low_of (get_or map k 0)) (low_at walker spot))
 
-          within : (j : ℕ) → get_or next (at - 1) 0 ≤ j → InClass walker c j → Has map (get_or walker j 0)
-          within j a q = ⊎_elim (λ z. rw z (shown_has map place c (get_or walker (at - 1) 0) _ t.shows s)) (λ d. t.within j (seen j a q d) q) (equal j (at - 1))
+          within : (j : ℕ) → on ≤ j → InClass walker c j → Has map (get_or walker j 0)
+          within j a q = ⊎_elim (λ z. rw z (shown_has map place c (get_or walker spot 0) _ t.shows s)) (λ d. t.within j (seen j a q d) q) (equal j spot)
 
-          once : (i j : ℕ) → get_or next (at - 1) 0 ≤ i → i < j → InClass walker c i → InClass walker c j → low_of (get_or walker i 0) ≡ low_of (get_or walker j 0) → ⊥
-          once i j a h q b e = ⊎_elim (λ z. alone j (omega arith) b (sym (rw z at e))) (λ d. t.once i j (seen i a q d) h q b e) (equal i (at - 1))
+          once : (i j : ℕ) → on ≤ i → i < j → InClass walker c i → InClass walker c j → low_of (get_or walker i 0) ≡ low_of (get_or walker j 0) → ⊥
+          once i j a h q b f = ⊎_elim (λ z. alone j (omega arith) b (sym (rw z at f))) (λ d. t.once i j (seen i a q d) h q b f) (equal i spot)
 
   -- ---- what is left
   module _ (t : Matched map walker c 0 place) where

@@ -2,15 +2,15 @@
 // holds what the walker has. Linear in the tables whatever the keys are, since guests choose some of them.
 #![tactic(auto)]
 
-ghost use Rattle.std.specs.Prelude.{◌≡◌, ◌<◌, ◌+◌, length, replicate};
+ghost use Rattle.std.specs.Prelude.{◌≡◌, ◌<◌, ◌+◌, length, replicate, MatchOption};
+ghost use Rattle.std.specs.Iterator.{at_most};
 ghost use Rattle.numbers.specs.Decides.{Decides};
 ghost use Rattle.numbers.specs.Limits.{ENTRIES, SLOTS};
 ghost use Rattle.numbers.specs.Packing.{key_of};
 ghost use Rattle.table.specs.Table.{Distinct};
-ghost use Rattle.judge_keys.specs.Keys.{CLASSES, PLACES, LINKS, class_of, low_of, map_word_of, Packed, Filled, Agreement, SlotsHeld, Held, ClassAgree, SlotsWithin, ClassHeld, NewKey, Chained, Blank, Inside, Shown, Entered, NoneLeft, Entering, Taking, Tested};
+ghost use Rattle.judge_keys.specs.Keys.{CLASSES, PLACES, LINKS, class_of, low_of, map_word_of, Packed, Filled, Agreement, SlotsHeld, Held, ClassAgree, SlotsWithin, ClassHeld, NewKey, Chained, Chain, Stands, WalksOn, Blank, Inside, Shown, Entered, NoneLeft, Entering, Taking, Tested};
 
 use numbers::{ENTRIES, GUEST_FIELD, SLOTS, VMS};
-use table::Found;
 
 // Places of a class: the low bits of a guest page.
 const PLACES: usize = 1024;
@@ -18,19 +18,19 @@ const PLACES: usize = 1024;
 // whole.
 const CLASSES: usize = (VMS * GUEST_FIELD) as usize / PLACES;
 
-// ---- Links: one more than a place, or 0, in 16 bits.
+// ---- Links: one more than a place, or 0, in 16 bits. An array of Option<u16> would take twice the memory, which is fixed.
 
-fn wide(link: u16) -> usize
-    ensures { result ≡ link }
+fn place_of(link: u16) -> Option<usize>
+    ensures { MatchOption result (link ≡ 0) (λ spot. link ≡ spot + 1) }
 {
-    link as usize
+    usize::from(link).checked_sub(1)
 }
 
-fn narrow(link: usize) -> u16
-    requires { link < LINKS }
-    ensures { result ≡ link }
+fn link_to(spot: usize) -> u16
+    requires { spot + 1 < LINKS }
+    ensures { result ≡ spot + 1 }
 {
-    link as u16
+    (spot + 1) as u16
 }
 
 // ---- Words: half an address is VM and guest page.
@@ -62,48 +62,80 @@ fn map_word_of(slot: u64) -> u64
 
 // ---- Chains: the filled places of a table by class, the last first.
 
-// Puts place i in front of the chain of its class.
-fn link(words: &[u64], head: &mut [u16], next: &mut [u16], i: usize)
-    requires { (Chained words.now head.old next.old i) × (i < length words.now) × (length words.now < LINKS) }
-    ensures { Chained words.now head.new next.new (i + 1) }
-{
-    let word = words[i];
-    if word == 0 {
-        return;
-    }
-    let class = class_of(word);
-    next[i] = head[class];
-    head[class] = narrow(i + 1);
+// A table, for each class the link to its last place, and for each filled place the link to the one of its class before it.
+// The arrays are lent: those of a struct that had them would be copied when it is handed on.
+#[derive(Clone, Copy)]
+struct Chains<'a> {
+    words: &'a [u64],
+    head: &'a [u16],
+    next: &'a [u16],
+    ghost short: { length words.now < LINKS },
+    ghost chained: { Chained words.now head.now next.now (length words.now) },
 }
 
-// Chains a whole table, for which head is lent empty.
-fn chain(words: &[u64], head: &mut [u16], next: &mut [u16])
-    requires { (head.old ≡ replicate CLASSES 0) × (length next.old ≡ length words.now) × (length words.now < LINKS) }
-    ensures { Chained words.now head.new next.new (length words.now) }
-{
-    let mut i = 0;
-    while i < words.len() {
-        link(words, head, next, i);
-        i += 1;
+impl<'a> Chains<'a> {
+    // Chains a whole table, for which head is lent empty.
+    fn new(words: &'a [u64], head: &'a mut [u16], next: &'a mut [u16]) -> Self
+        requires { (head.old ≡ replicate CLASSES 0) × (length next.old ≡ length words.now) × (length words.now < LINKS) }
+        ensures { result.words.now ≡ words.now }
+    {
+        for (i, word) in words.iter().enumerate() {
+            if *word != 0 {
+                let class = class_of(*word);
+                next[i] = head[class];
+                head[class] = link_to(i);
+            }
+        }
+        Chains { words, head, next }
+    }
+
+    // The places of a class.
+    fn places(self, class: usize) -> Walk<'a>
+        requires { class < CLASSES }
+        ensures { (result.chains ≡ self.entry) × Chain self.entry.words.now self.entry.next.now class result.at }
+    {
+        Walk {
+            chains: self,
+            at: self.head[class],
+        }
     }
 }
 
-// ---- One class: the chains are those of whole tables, and a key of the class has a place of its own.
+// A walk along the places of a class, with the link to the next.
+#[derive(Drop)]
+struct Walk<'a> {
+    chains: Chains<'a>,
+    at: u16,
+    ghost stands: { Stands chains.words.now at },
+}
+
+impl Iterator for Walk<'_> {
+    type Item = usize;
+
+    ghost next_gives = { λ s r t. (t.chains ≡ s.chains) × WalksOn s.chains.next.now s.at r t.at };
+
+    ghost remaining = { λ s. at_most s.at };
+
+    fn next(&mut self) -> Option<usize> {
+        let spot = place_of(self.at)?;
+        self.at = self.chains.next[spot];
+        Some(spot)
+    }
+}
+
+// ---- One class: a key of it has a place of its own in the table of places.
 
 // Enters the places of a class into the table of places, and answers whether no key is there twice.
-fn enter(words: &[u64], head: &[u16], next: &[u16], class: usize, place: &mut [u16]) -> bool
-    requires { (Chained words.now head.now next.now (length words.now)) × (class < CLASSES) × (length words.now < LINKS) × (Blank place.old) }
-    ensures { Entering words.now class place.new result }
+fn enter(map: Chains<'_>, class: usize, place: &mut [u16]) -> bool
+    requires { (class < CLASSES) × (Blank place.old) }
+    ensures { Entering map.entry.words.now class place.new result }
 {
-    let mut at = wide(head[class]);
-    while at != 0 {
-        let spot = at - 1;
-        let low = low_of(words[spot]);
+    for spot in map.places(class) {
+        let low = low_of(map.words[spot]);
         if place[low] != 0 {
             return false;
         }
-        place[low] = narrow(at);
-        at = wide(next[spot]);
+        place[low] = link_to(spot);
     }
     true
 }
@@ -113,188 +145,113 @@ fn has_word(word: u64, map: &[u64], place: &[u16]) -> bool
     requires { Inside map.now place.now }
     ensures { Decides result (Shown map.now place.now word) }
 {
-    let there = wide(place[low_of(word)]);
-    if there == 0 {
-        return false;
+    match place_of(place[low_of(word)]) {
+        Some(spot) => map[spot] == word,
+        None => false,
     }
-    let spot = there - 1;
-    map[spot] == word
 }
 
 // ---- One class of map and walker.
 
 // Takes the walker's words out of the table of places, and answers whether each was there.
-fn take(
-    walker: &[u64],
-    head: &[u16],
-    next: &[u16],
-    class: usize,
-    map: &[u64],
-    place: &mut [u16],
-) -> bool
-    requires { (Chained walker.now head.now next.now (length walker.now)) × (class < CLASSES) × (Entered map.now class 0 place.old) }
-    ensures { Taking map.now walker.now class place.new result }
+fn take(walker: Chains<'_>, class: usize, map: &[u64], place: &mut [u16]) -> bool
+    requires { (class < CLASSES) × (Entered map.now class 0 place.old) }
+    ensures { Taking map.now walker.entry.words.now class place.new result }
 {
-    let mut at = wide(head[class]);
-    while at != 0 {
-        let spot = at - 1;
-        let word = walker[spot];
+    for spot in walker.places(class) {
+        let word = walker.words[spot];
         if !has_word(word, map, place) {
             return false;
         }
-        let low = low_of(word);
-        place[low] = 0;
-        at = wide(next[spot]);
+        place[low_of(word)] = 0;
     }
     true
 }
 
 // Whether nothing of the class is left in the table of places.
-fn none_left(words: &[u64], head: &[u16], next: &[u16], class: usize, place: &[u16]) -> bool
-    requires { (Chained words.now head.now next.now (length words.now)) × (class < CLASSES) × (length place.now ≡ PLACES) }
-    ensures { Decides result (NoneLeft words.now class place.now) }
+fn none_left(map: Chains<'_>, class: usize, place: &[u16]) -> bool
+    requires { (class < CLASSES) × (length place.now ≡ PLACES) }
+    ensures { Decides result (NoneLeft map.entry.words.now class place.now) }
 {
-    let mut at = wide(head[class]);
-    while at != 0 {
-        let spot = at - 1;
-        if place[low_of(words[spot])] != 0 {
+    for spot in map.places(class) {
+        if place[low_of(map.words[spot])] != 0 {
             return false;
         }
-        at = wide(next[spot]);
     }
     true
 }
 
 // Whether, of this class, no key is twice in map or walker, and the two have the same words.
-fn class_agrees(
-    map: &[u64],
-    map_head: &[u16],
-    map_next: &[u16],
-    walker: &[u64],
-    head: &[u16],
-    next: &[u16],
-    place: &mut [u16],
-    class: usize,
-) -> bool
-    requires { (Chained map.now map_head.now map_next.now (length map.now)) × (Chained walker.now head.now next.now (length walker.now)) × (length map.now < LINKS) × (Blank place.old) × (class < CLASSES) }
-    ensures { Tested (ClassAgree map.now walker.now class) place.new result }
+fn class_agrees(map: Chains<'_>, walker: Chains<'_>, class: usize, place: &mut [u16]) -> bool
+    requires { (class < CLASSES) × (Blank place.old) }
+    ensures { Tested (ClassAgree map.entry.words.now walker.entry.words.now class) place.new result }
 {
-    if !enter(map, map_head, map_next, class, place) {
-        return false;
-    }
-    if !take(walker, head, next, class, map, place) {
-        return false;
-    }
-    none_left(map, map_head, map_next, class, place)
+    enter(map, class, place)
+        && take(walker, class, map.words, place)
+        && none_left(map, class, place)
 }
 
 // ---- One class of a cache and the walker. Slots of several ports may hold one entry, so none is taken out.
 
 // Whether the map has the word that each slot holds.
-fn has_words(
-    slots: &[u64],
-    head: &[u16],
-    next: &[u16],
-    class: usize,
-    map: &[u64],
-    place: &[u16],
-) -> bool
-    requires { (Chained slots.now head.now next.now (length slots.now)) × (class < CLASSES) × (Entered map.now class 0 place.now) }
-    ensures { Decides result (SlotsWithin slots.now map.now class) }
+fn has_words(slots: Chains<'_>, class: usize, map: &[u64], place: &[u16]) -> bool
+    requires { (class < CLASSES) × (Entered map.now class 0 place.now) }
+    ensures { Decides result (SlotsWithin slots.entry.words.now map.now class) }
 {
-    let mut at = wide(head[class]);
-    while at != 0 {
-        let spot = at - 1;
-        if !has_word(map_word_of(slots[spot]), map, place) {
+    for spot in slots.places(class) {
+        if !has_word(map_word_of(slots.words[spot]), map, place) {
             return false;
         }
-        at = wide(next[spot]);
     }
     true
 }
 
 // Empties the table of places of what was entered.
-fn clear(words: &[u64], head: &[u16], next: &[u16], class: usize, place: &mut [u16])
-    requires { (Chained words.now head.now next.now (length words.now)) × (class < CLASSES) × (Entered words.now class 0 place.old) }
+fn clear(map: Chains<'_>, class: usize, place: &mut [u16])
+    requires { (class < CLASSES) × (Entered map.words.now class 0 place.old) }
     ensures { Blank place.new }
 {
-    let mut at = wide(head[class]);
-    while at != 0 {
-        let spot = at - 1;
-        let low = low_of(words[spot]);
-        place[low] = 0;
-        at = wide(next[spot]);
+    for spot in map.places(class) {
+        place[low_of(map.words[spot])] = 0;
     }
 }
 
 // Whether, of this class, no key is twice in the map, and the map has the word that each slot holds.
-fn class_held(
-    slots: &[u64],
-    slot_head: &[u16],
-    slot_next: &[u16],
-    map: &[u64],
-    head: &[u16],
-    next: &[u16],
-    place: &mut [u16],
-    class: usize,
-) -> bool
-    requires { (Chained slots.now slot_head.now slot_next.now (length slots.now)) × (Chained map.now head.now next.now (length map.now)) × (length map.now < LINKS) × (Blank place.old) × (class < CLASSES) }
-    ensures { Tested (ClassHeld slots.now map.now class) place.new result }
+fn class_held(slots: Chains<'_>, map: Chains<'_>, class: usize, place: &mut [u16]) -> bool
+    requires { (class < CLASSES) × (Blank place.old) }
+    ensures { Tested (ClassHeld slots.entry.words.now map.entry.words.now class) place.new result }
 {
-    if !enter(map, head, next, class, place) {
-        return false;
+    let held = enter(map, class, place) && has_words(slots, class, map.words, place);
+    if held {
+        clear(map, class, place);
     }
-    if !has_words(slots, slot_head, slot_next, class, map, place) {
-        return false;
-    }
-    clear(map, head, next, class, place);
-    true
+    held
 }
 
-// ---- All classes.
+// ---- All classes. One function over the test of a class would say of it in clauses what the two below say by calling it.
 
 // Whether no key is twice in map or walker, and the two are the same map.
-fn agreed(
-    map: &[u64],
-    map_head: &[u16],
-    map_next: &[u16],
-    walker: &[u64],
-    head: &[u16],
-    next: &[u16],
-    place: &mut [u16],
-) -> bool
-    requires { (Chained map.now map_head.now map_next.now (length map.now)) × (Chained walker.now head.now next.now (length walker.now)) × (length map.now < LINKS) × (Blank place.old) × (Packed map.now) × (Packed walker.now) }
-    ensures { Decides result (Agreement map.now walker.now) }
+fn agreed(map: Chains<'_>, walker: Chains<'_>, place: &mut [u16]) -> bool
+    requires { (Blank place.old) × (Packed map.words.now) × (Packed walker.words.now) }
+    ensures { Decides result (Agreement map.entry.words.now walker.entry.words.now) }
 {
-    let mut class = 0;
-    while class < CLASSES {
-        if !class_agrees(map, map_head, map_next, walker, head, next, place, class) {
+    for class in 0..CLASSES {
+        if !class_agrees(map, walker, class, place) {
             return false;
         }
-        class += 1;
     }
     true
 }
 
 // Whether no key is twice in the map, and each slot holds the map's entry.
-fn held(
-    slots: &[u64],
-    slot_head: &[u16],
-    slot_next: &[u16],
-    map: &[u64],
-    head: &[u16],
-    next: &[u16],
-    place: &mut [u16],
-) -> bool
-    requires { (Chained slots.now slot_head.now slot_next.now (length slots.now)) × (Chained map.now head.now next.now (length map.now)) × (length map.now < LINKS) × (Blank place.old) × (Packed map.now) × (Filled slots.now) }
-    ensures { Decides result (Held slots.now map.now) }
+fn held(slots: Chains<'_>, map: Chains<'_>, place: &mut [u16]) -> bool
+    requires { (Blank place.old) × (Packed map.words.now) × (Filled slots.words.now) }
+    ensures { Decides result (Held slots.entry.words.now map.entry.words.now) }
 {
-    let mut class = 0;
-    while class < CLASSES {
-        if !class_held(slots, slot_head, slot_next, map, head, next, place, class) {
+    for class in 0..CLASSES {
+        if !class_held(slots, map, class, place) {
             return false;
         }
-        class += 1;
     }
     true
 }
@@ -305,10 +262,9 @@ fn first_of_key(words: &[u64], i: usize) -> bool
     ensures { Decides result (NewKey words.now i) }
 {
     let key = numbers::key_of(words[i]);
-    let there = table::find(words, key);
-    match there {
-        Found::At(k) => (k == i) | (key == 0),
-        Found::Nothing => true,
+    match table::find(words, key) {
+        Some(k) => (k == i) | (key == 0),
+        None => true,
     }
 }
 
@@ -317,12 +273,10 @@ fn first_of_key(words: &[u64], i: usize) -> bool
 fn once(words: &[u64]) -> bool
     ensures { Decides result (Distinct key_of words.now) }
 {
-    let mut i = 0;
-    while i < words.len() {
+    for i in 0..words.len() {
         if !first_of_key(words, i) {
             return false;
         }
-        i += 1;
     }
     true
 }
@@ -334,12 +288,14 @@ pub fn same_maps(map: &[u64], walker: &[u64]) -> bool
 {
     let mut map_head = [0u16; CLASSES];
     let mut map_next = [0u16; ENTRIES];
-    chain(map, &mut map_head, &mut map_next);
     let mut head = [0u16; CLASSES];
     let mut next = [0u16; ENTRIES];
-    chain(walker, &mut head, &mut next);
     let mut place = [0u16; PLACES];
-    agreed(map, &map_head, &map_next, walker, &head, &next, &mut place)
+    agreed(
+        Chains::new(map, &mut map_head, &mut map_next),
+        Chains::new(walker, &mut head, &mut next),
+        &mut place,
+    )
 }
 
 // Rule 7, of the keys: each slot holds what the walker has for the slot's VM and guest page, and no key is twice in the cache.
@@ -352,12 +308,12 @@ pub fn slots_held(walker: &[u64], cache: &[u64]) -> bool
     }
     let mut head = [0u16; CLASSES];
     let mut next = [0u16; ENTRIES];
-    chain(walker, &mut head, &mut next);
     let mut slot_head = [0u16; CLASSES];
     let mut slot_next = [0u16; SLOTS as usize];
-    chain(cache, &mut slot_head, &mut slot_next);
     let mut place = [0u16; PLACES];
     held(
-        cache, &slot_head, &slot_next, walker, &head, &next, &mut place,
+        Chains::new(cache, &mut slot_head, &mut slot_next),
+        Chains::new(walker, &mut head, &mut next),
+        &mut place,
     )
 }

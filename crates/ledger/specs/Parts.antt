@@ -1,15 +1,13 @@
 -- The parts of the contracts, by name. `Answer` is what an answer says, `Ready` what a deed asks of its arguments, `Done` what
 -- it does, `Left` what the operation leaves: its answer, and each list new or as it was.
-use Rattle.std.specs.Prelude.{ℕ, ◌+◌, ◌*◌, ◌≤◌, ◌<◌, List, ◌≡◌, length}
+use Rattle.std.specs.Prelude.{ℕ, ◌+◌, ◌*◌, ◌≤◌, ◌<◌, List, ◌≡◌, length, Option, None, Result, Ok, Err, IfOk}
 use Rattle.std.specs.Prelude.{if◌then◌else◌}
 use Rattle.numbers.specs.Limits.{VMS, PAGES, PAGE_WORDS, SETS, SET_WORDS}
-use Rattle.numbers.specs.declared.Answer.{Answer}
-use Rattle.numbers.specs.declared.Answer.TheVariants.{Accepted}
+use Rattle.numbers.specs.Meaning.{Answer}
+use Rattle.numbers.specs.declared.Refused.{Refused}
 use Rattle.table.specs.Table.{lowest_free}
-use Rattle.table.specs.declared.Found.{Found}
-use Rattle.table.specs.declared.Found.TheVariants.{Nothing}
 use Rattle.model.specs.Views.{paired}
-use Rattle.model.specs.Effect.{kept, quiet, clears, apply}
+use Rattle.model.specs.Effect.{accepted, kept, quiet, clears, apply}
 use Rattle.model.specs.Ledger.{reclaim_sets, reclaim_clears}
 
 -- ---- 1, 2: the known VMs
@@ -61,15 +59,20 @@ pub record PairsLeft (should : Answer) (pairs₀ new : List ℕ) (told : Answer)
   pub pairs : pairs₁ ≡ kept should pairs₀ new
 
 -- the place that a new pair goes to; a pair that is stored needs none
-unfoldable pub share_place : List ℕ → ℕ → ℕ → ℕ → Found
-share_place pairs left right page = if paired pairs left right page then Nothing else lowest_free pairs
+unfoldable pub share_place : List ℕ → ℕ → ℕ → ℕ → Option ℕ
+share_place pairs left right page = if paired pairs left right page then None else lowest_free pairs
 
 -- besides, the place is that of the new pair
-pub record ShareReady (pairs : List ℕ) (left right page : ℕ) (free : Found) : Type 0 where
+pub record ShareReady (pairs : List ℕ) (left right page : ℕ) (free : Option ℕ) : Type 0 where
   pub pair : PairReady left right page
   pub spot : free ≡ share_place pairs left right page
 
+-- the answer that what is told of a share is, where it tells the place as where it refuses
+abbrev pub told_answer : Result (Option ℕ) Refused → Answer
+told_answer (Ok free) = accepted
+told_answer (Err err) = Err err
+
 -- the answer is the one that it should be, and where it accepts the deed is ready
-pub record ShareAnswer (should : Answer) (pairs : List ℕ) (left right page : ℕ) (told : Answer) (free : Found) : Type 0 where
-  pub answer : told ≡ should
-  pub ready : {dropped word : ℕ} → told ≡ Accepted dropped word → ShareReady pairs left right page free
+pub record ShareAnswer (should : Answer) (pairs : List ℕ) (left right page : ℕ) (told : Result (Option ℕ) Refused) : Type 0 where
+  pub answer : told_answer told ≡ should
+  pub ready : IfOk told (ShareReady pairs left right page)

@@ -7,17 +7,13 @@ ghost use Rattle.ledger.specs.Parts.{PageReady, SetsLeft, ReclaimReady, ReclaimD
 
 use super::page_early;
 use numbers::{Answer, PhysPage, Refusal, Side, VmId, accept, refuse};
-use views::Test;
 
 // What assign decides.
 pub fn assign_answer(known: u64, pages: u64, sets: &[u64], vm: VmId, page: PhysPage) -> Answer
     requires { (pages ≤ PAGES) × (length sets.now ≡ SETS * SET_WORDS) }
     ensures { result ≡ assign_answer known pages sets.now vm.0 page.0 }
 {
-    let early = page_early(known, pages, vm, page);
-    if let Answer::Refused { refusal, index } = early {
-        return Answer::Refused { refusal, index };
-    }
+    page_early(known, pages, vm, page)?;
     if !pages::holds(sets, pages::POOL, page) {
         return refuse(Refusal::PageNotHeld, 0);
     }
@@ -41,12 +37,9 @@ pub fn assign_page(known: u64, pages: u64, sets: &mut [u64], vm: VmId, page: Phy
     requires { (pages ≤ PAGES) × (length sets.old ≡ SETS * SET_WORDS) }
     ensures { SetsLeft (assign_answer known pages sets.old vm.0 page.0) sets.old (assign_sets sets.old vm.0 page.0) result sets.new }
 {
-    let answer = assign_answer(known, pages, sets, vm, page);
-    if let Answer::Refused { refusal, index } = answer {
-        return Answer::Refused { refusal, index };
-    }
+    let accepted = assign_answer(known, pages, sets, vm, page)?;
     assign_do(sets, vm, page);
-    answer
+    Ok(accepted)
 }
 
 // Clears a page that the VM gives up, unless it still claims the page for DMA.
@@ -73,14 +66,13 @@ pub fn reclaim_answer(
     requires { (pages ≤ PAGES) × (length sets.now ≡ SETS * SET_WORDS) }
     ensures { result ≡ reclaim_answer known pages sets.now pairs.now cpu_map.now vm.0 page.0 }
 {
-    let early = page_early(known, pages, vm, page);
-    if let Answer::Refused { refusal, index } = early {
-        return Answer::Refused { refusal, index };
-    }
+    page_early(known, pages, vm, page)?;
     if !views::claims(Side::Cpu, sets, vm, page) {
         return refuse(Refusal::PageNotHeld, 0);
     }
-    if views::any(cpu_map, Test::OnPage(page)) | views::any(pairs, Test::OnPage(page)) {
+    if table::any(cpu_map, |w| views::on_page(w, page))
+        | table::any(pairs, |w| views::on_page(w, page))
+    {
         return refuse(Refusal::StillInUse, 0);
     }
     accept(0)
@@ -110,10 +102,7 @@ pub fn reclaim_page(
     requires { (pages ≤ PAGES) × (length sets.old ≡ SETS * SET_WORDS) × (length memory.old ≡ PAGE_WORDS * pages) }
     ensures { ReclaimLeft (reclaim_answer known pages sets.old pairs.now cpu_map.now vm.0 page.0) sets.old memory.old vm.0 page.0 result sets.new memory.new }
 {
-    let answer = reclaim_answer(known, pages, sets, pairs, cpu_map, vm, page);
-    if let Answer::Refused { refusal, index } = answer {
-        return Answer::Refused { refusal, index };
-    }
+    let accepted = reclaim_answer(known, pages, sets, pairs, cpu_map, vm, page)?;
     reclaim_do(sets, memory, vm, page);
-    answer
+    Ok(accepted)
 }

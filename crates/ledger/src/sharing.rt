@@ -7,18 +7,10 @@ ghost use Rattle.model.specs.Ledger.{share_answer, share_pairs, borrower_maps, u
 ghost use Rattle.ledger.specs.Parts.{PairReady, ShareReady, ShareAnswer, PairsLeft};
 
 use super::pair_early;
-use numbers::{Answer, PhysPage, Refusal, Side, VmId, accept, refuse};
-use table::Found;
-use views::Test;
+use numbers::{Answer, PhysPage, Refusal, Refused, Side, VmId, accept, refuse};
 
-// Whether share may be done, and the place for its pair: nothing where the pair is stored already.
-#[derive(Clone, Copy)]
-pub struct SharePlace {
-    pub answer: Answer,
-    pub free: Found,
-}
-
-// What share decides. A pair that is stored already needs no room, in whichever order its ends stand.
+// What share decides, and the place for its pair: none where the pair is stored already, which needs no room, in whichever order
+// its ends stand.
 pub fn share_answer(
     known: u64,
     pages: u64,
@@ -27,44 +19,32 @@ pub fn share_answer(
     left: VmId,
     right: VmId,
     page: PhysPage,
-) -> SharePlace
+) -> Result<Option<usize>, Refused>
     requires { (pages ≤ PAGES) × (length sets.now ≡ SETS * SET_WORDS) }
-    ensures { ShareAnswer (share_answer known pages sets.now pairs.now left.0 right.0 page.0) pairs.now left.0 right.0 page.0 result.answer result.free }
+    ensures { ShareAnswer (share_answer known pages sets.now pairs.now left.0 right.0 page.0) pairs.now left.0 right.0 page.0 result }
 {
-    let free = Found::Nothing;
-    let early = pair_early(known, pages, left, right, page);
-    if let Answer::Refused { refusal, index } = early {
-        let answer = Answer::Refused { refusal, index };
-        return SharePlace { answer, free };
-    }
+    pair_early(known, pages, left, right, page)?;
     if left.0 == right.0 {
-        let answer = refuse(Refusal::PairWrong, 0);
-        return SharePlace { answer, free };
+        return refuse(Refusal::PairWrong, 0);
     }
     if !views::claims(Side::Cpu, sets, left, page) {
-        let answer = refuse(Refusal::PageNotHeld, 0);
-        return SharePlace { answer, free };
+        return refuse(Refusal::PageNotHeld, 0);
     }
-    let stored = views::find_pair(pairs, left, right, page);
-    if let Found::At(_) = stored {
-        let answer = accept(0);
-        return SharePlace { answer, free };
+    if views::find_pair(pairs, left, right, page).is_some() {
+        return Ok(None);
     }
-    let free = table::lowest_free(pairs);
-    if let Found::Nothing = free {
-        let answer = refuse(Refusal::NoRoom, 0);
-        return SharePlace { answer, free };
+    match table::lowest_free(pairs) {
+        Some(free) => Ok(Some(free)),
+        None => refuse(Refusal::NoRoom, 0),
     }
-    let answer = accept(0);
-    SharePlace { answer, free }
 }
 
 // What share does: the pair goes into its place, where it has one.
-pub fn share_do(pairs: &mut [u64], free: Found, left: VmId, right: VmId, page: PhysPage)
+pub fn share_do(pairs: &mut [u64], free: Option<usize>, left: VmId, right: VmId, page: PhysPage)
     requires { ShareReady pairs.old left.0 right.0 page.0 free }
     ensures { pairs.new ≡ share_pairs pairs.old left.0 right.0 page.0 }
 {
-    if let Found::At(spot) = free {
+    if let Some(spot) = free {
         pairs[spot] = numbers::pair_word(left, right, page);
     }
 }
@@ -82,14 +62,9 @@ pub fn share_page(
     requires { (pages ≤ PAGES) × (length sets.now ≡ SETS * SET_WORDS) }
     ensures { PairsLeft (share_answer known pages sets.now pairs.old left.0 right.0 page.0) pairs.old (share_pairs pairs.old left.0 right.0 page.0) result pairs.new }
 {
-    let place = share_answer(known, pages, sets, pairs, left, right, page);
-    let answer = place.answer;
-    if let Answer::Refused { refusal, index } = answer {
-        return Answer::Refused { refusal, index };
-    }
-    let free = place.free;
+    let free = share_answer(known, pages, sets, pairs, left, right, page)?;
     share_do(pairs, free, left, right, page);
-    answer
+    accept(0)
 }
 
 // The VM maps a page that it does not own.
@@ -100,20 +75,14 @@ fn borrower_maps(sets: &[u64], cpu_map: &[u64], vm: VmId, page: PhysPage) -> boo
     if views::claims(Side::Cpu, sets, vm, page) {
         return false;
     }
-    views::any(cpu_map, Test::Maps(vm, page))
+    table::any(cpu_map, |w| views::of_vm(w, vm) & views::on_page(w, page))
 }
 
 // Empties every place that has the pair of this key.
 fn erase_pair(pairs: &mut [u64], key: u64)
     ensures { pairs.new ≡ erase pair_key_of pairs.old key }
 {
-    let mut i = 0;
-    while i < pairs.len() {
-        if numbers::pair_key_of(pairs[i]) == key {
-            pairs[i] = 0;
-        }
-        i += 1;
-    }
+    table::wipe(pairs, |w| numbers::pair_key_of(w) == key);
 }
 
 // What unshare decides, in either order of the ends.
@@ -130,12 +99,8 @@ pub fn unshare_answer(
     requires { (pages ≤ PAGES) × (length sets.now ≡ SETS * SET_WORDS) }
     ensures { result ≡ unshare_answer known pages sets.now pairs.now cpu_map.now left.0 right.0 page.0 }
 {
-    let early = pair_early(known, pages, left, right, page);
-    if let Answer::Refused { refusal, index } = early {
-        return Answer::Refused { refusal, index };
-    }
-    let stored = views::find_pair(pairs, left, right, page);
-    if let Found::Nothing = stored {
+    pair_early(known, pages, left, right, page)?;
+    if views::find_pair(pairs, left, right, page).is_none() {
         return refuse(Refusal::PairWrong, 0);
     }
     if borrower_maps(sets, cpu_map, left, page) | borrower_maps(sets, cpu_map, right, page) {
@@ -166,10 +131,7 @@ pub fn unshare_page(
     requires { (pages ≤ PAGES) × (length sets.now ≡ SETS * SET_WORDS) }
     ensures { PairsLeft (unshare_answer known pages sets.now pairs.old cpu_map.now left.0 right.0 page.0) pairs.old (unshare_pairs pairs.old left.0 right.0 page.0) result pairs.new }
 {
-    let answer = unshare_answer(known, pages, sets, pairs, cpu_map, left, right, page);
-    if let Answer::Refused { refusal, index } = answer {
-        return Answer::Refused { refusal, index };
-    }
+    let accepted = unshare_answer(known, pages, sets, pairs, cpu_map, left, right, page)?;
     unshare_do(pairs, left, right, page);
-    answer
+    Ok(accepted)
 }

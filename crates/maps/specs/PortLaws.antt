@@ -1,12 +1,10 @@
 -- What an unmap or a switch that passed tells, and what the walker's word of a key tells.
-use Rattle.std.specs.Prelude.{ℕ, ◌<◌, true, false, not, ◌&&◌, List, ◌≡◌, refl}
+use Rattle.std.specs.Prelude.{ℕ, ◌<◌, true, false, not, ◌&&◌, List, ◌≡◌, refl, Option, Some, None}
 use Rattle.std.proofs.Common.{ltb-true}
 use Rattle.numbers.specs.Limits.{PORTS}
 use Rattle.numbers.specs.Packing.{key_of}
-use Rattle.numbers.specs.declared.Answer.TheVariants.{Accepted}
-use Rattle.numbers.specs.declared.Target.{Target}
-use Rattle.table.specs.declared.Found.{Found}
-use Rattle.table.specs.declared.Found.TheVariants.{At, Nothing}
+use Rattle.numbers.specs.Meaning.{accept}
+use Rattle.numbers.specs.declared.VmId.{VmId}
 use Rattle.table.specs.Table.{find, lookup, is_found, word_at}
 use Rattle.table.specs.TableLaws.{lookup_nothing}
 use Rattle.model.specs.Views.{is_port}
@@ -16,12 +14,12 @@ use Rattle.model.specs.Ports.{is_target, port_answer}
 use Rattle.maps.specs.Parts.{UnmapReady}
 
 -- a port that was given is one that there is
-pub port_passed : (known port : ℕ) (target : Target) {dropped word : ℕ} → port_answer known port target ≡ Accepted dropped word → port < PORTS
+pub port_passed : (known port : ℕ) (target : Option VmId) {dropped word : ℕ} → port_answer known port target ≡ accept dropped word → port < PORTS
 unfolding port_answer
 port_passed known port target e = ltb-true port PORTS (hold (is_port port) (is_target target) (past (not (is_port port && is_target target)) _ _ _ e).0).0
 
 -- ---- an unmap that may be done has its numbers in range
-pub unmap_ready : (known : ℕ) (map : List ℕ) (vm guest : ℕ) {dropped word : ℕ} → unmap_may known map vm guest ≡ Accepted dropped word → UnmapReady vm guest
+pub unmap_ready : (known : ℕ) (map : List ℕ) (vm guest : ℕ) {dropped word : ℕ} → unmap_may known map vm guest ≡ accept dropped word → UnmapReady vm guest
 unfolding unmap_may
 unmap_ready known map vm guest e =
     let (d, w, early, rest) = then_passed (unmap_early known vm guest) _ e in
@@ -30,9 +28,9 @@ unmap_ready known map vm guest e =
 
 -- ---- the walker has the key exactly where its word is not 0
 module _ (ws : List ℕ) (k : ℕ) where
-  there : (f : Found) → (word_at ws f ≡ 0 → ⊥) → is_found f ≡ true
-  there (At i) n = refl
-  there Nothing n = absurd (n refl)
+  there : (f : Option ℕ) → (word_at ws f ≡ 0 → ⊥) → is_found f ≡ true
+  there (Some i) n = refl
+  there None n = absurd (n refl)
 
   pub walk_some : (lookup key_of ws k ≡ 0 → ⊥) → is_found (find key_of ws k) ≡ true
   unfolding lookup

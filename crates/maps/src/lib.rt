@@ -12,34 +12,35 @@ ghost use Rattle.model.specs.Maps.{map_early, unmap_early, map_may, map_answer, 
 ghost use Rattle.model.specs.Ports.{port_answer, port_ports, fill_answer, fill_place, next_hand, empty_answer, empty_cache};
 
 use numbers::{
-    ACCESSES, Answer, GENERATIONS, GUEST_PAGES, GuestPage, PORTS, PhysPage, Refusal, SLOTS, Side,
-    Target, VMS, VmId, accept, refuse,
+    ACCESSES, Answer, GENERATIONS, GUEST_PAGES, GuestPage, PORTS, PhysPage, Refusal, Refused,
+    SLOTS, Side, VMS, VmId, accept, refuse,
 };
-use table::Found;
 
 // ---- Maps.
 
+// A mapping that is asked for: where it goes, and what its entry says.
+#[derive(Clone, Copy)]
+pub struct Mapping {
+    pub vm: VmId,
+    pub guest: GuestPage,
+    pub page: PhysPage,
+    pub access: u64,
+    pub generation: u64,
+}
+
 // What map decides before it looks at a table.
-pub fn map_early(
-    known: u64,
-    pages: u64,
-    vm: VmId,
-    guest: GuestPage,
-    page: PhysPage,
-    access: u64,
-    generation: u64,
-) -> Answer
-    ensures { result ≡ map_early known pages vm.0 guest.0 page.0 access generation }
+pub fn map_early(known: u64, pages: u64, m: Mapping) -> Answer
+    ensures { result ≡ map_early known pages m.vm.0 m.guest.0 m.page.0 m.access m.generation }
 {
-    if !((vm.0 < VMS)
-        & (guest.0 < GUEST_PAGES)
-        & (page.0 < pages)
-        & (access < ACCESSES)
-        & (generation < GENERATIONS))
+    if !((m.vm.0 < VMS)
+        & (m.guest.0 < GUEST_PAGES)
+        & (m.page.0 < pages)
+        & (m.access < ACCESSES)
+        & (m.generation < GENERATIONS))
     {
         return refuse(Refusal::OutOfRange, 0);
     }
-    if !views::knows(known, vm) {
+    if !views::knows(known, m.vm) {
         return refuse(Refusal::VmUnknown, 0);
     }
     accept(0)
@@ -58,14 +59,8 @@ pub fn unmap_early(known: u64, vm: VmId, guest: GuestPage) -> Answer
     accept(0)
 }
 
-// Whether map may be done, and the place for its entry.
-#[derive(Clone, Copy)]
-pub struct MapPlace {
-    pub answer: Answer,
-    pub at: usize,
-}
-
-// What map decides: the entry's place is the one of its key, else the lowest empty one.
+// What map decides: where its entry goes, over the one of its key, else into the lowest empty place.
+#[tactic(auto, unfolding(model::specs::Maps::map_may))]
 pub fn map_may(
     side: Side,
     known: u64,
@@ -73,58 +68,42 @@ pub fn map_may(
     sets: &[u64],
     pairs: &[u64],
     map: &[u64],
-    vm: VmId,
-    guest: GuestPage,
-    page: PhysPage,
-    access: u64,
-    generation: u64,
-) -> MapPlace
+    m: Mapping,
+) -> Result<usize, Refused>
     requires { (pages ≤ PAGES) × (length sets.now ≡ SETS * SET_WORDS) }
-    ensures { MapMay (map_may side known pages sets.now pairs.now map.now vm.0 guest.0 page.0 access generation)
-        map.now vm.0 guest.0 page.0 access generation result.answer result.at }
+    ensures { MapMay (map_may side known pages sets.now pairs.now map.now m.vm.0 m.guest.0 m.page.0 m.access m.generation)
+        map.now m result }
 {
-    let early = map_early(known, pages, vm, guest, page, access, generation);
-    if let Answer::Refused { refusal, index } = early {
-        let answer = Answer::Refused { refusal, index };
-        return MapPlace { answer, at: 0 };
+    map_early(known, pages, m)?;
+    if !views::may_map(side, sets, pairs, m.vm, m.page) {
+        return refuse(Refusal::PageNotHeld, 0);
     }
-    if !views::may_map(side, sets, pairs, vm, page) {
-        let answer = refuse(Refusal::PageNotHeld, 0);
-        return MapPlace { answer, at: 0 };
+    match table::place(map, numbers::key(m.vm, m.guest)) {
+        Some(at) => Ok(at),
+        None => refuse(Refusal::NoRoom, 0),
     }
-    let spot = table::place(map, numbers::key(vm, guest));
-    let Found::At(at) = spot else {
-        let answer = refuse(Refusal::NoRoom, 0);
-        return MapPlace { answer, at: 0 };
-    };
-    let answer = accept(0);
-    MapPlace { answer, at }
 }
 
 // What map does: the entry goes to its place and to the walker, and the slots of its VM and guest page go. Answers how many
 // they were.
-pub fn map_do(
-    map: &mut [u64],
-    walker: &mut [u64],
-    cache: &mut [u64],
-    at: usize,
-    vm: VmId,
-    guest: GuestPage,
-    page: PhysPage,
-    access: u64,
-    generation: u64,
-) -> u64
-    requires { MapReady map.old vm.0 guest.0 page.0 access generation at }
-    ensures { MapDone map.old walker.old cache.old vm.0 guest.0 page.0 access generation result map.new walker.new cache.new }
+#[tactic(auto, using(table::specs::TableLaws::place_within), unfolding(model::specs::Maps::map_table, model::specs::Maps::matching_slots, model::specs::Maps::without_slots, table::specs::Table::put))]
+pub fn map_do(map: &mut [u64], walker: &mut [u64], cache: &mut [u64], at: usize, m: Mapping) -> u64
+    requires { MapReady map.old m at }
+    ensures { MapDone map.old walker.old cache.old m result map.new walker.new cache.new }
 {
-    let key = numbers::key(vm, guest);
-    let word = numbers::map_word(vm, guest, numbers::entry(page, access, generation));
+    let key = numbers::key(m.vm, m.guest);
+    let word = numbers::map_word(
+        m.vm,
+        m.guest,
+        numbers::entry(m.page, m.access, m.generation),
+    );
     map[at] = word;
     table::put(walker, key, word);
     table::drop_slots(cache, key)
 }
 
 // Operations 7 and 8.
+#[tactic(auto, unfolding(model::specs::Maps::map_answer))]
 pub fn map_page(
     side: Side,
     known: u64,
@@ -134,45 +113,30 @@ pub fn map_page(
     map: &mut [u64],
     walker: &mut [u64],
     cache: &mut [u64],
-    vm: VmId,
-    guest: GuestPage,
-    page: PhysPage,
-    access: u64,
-    generation: u64,
+    m: Mapping,
 ) -> Answer
     requires { (pages ≤ PAGES) × (length sets.now ≡ SETS * SET_WORDS) }
-    ensures { MapLeft (map_answer side known pages sets.now pairs.now map.old cache.old vm.0 guest.0 page.0 access generation)
-        map.old walker.old cache.old vm.0 guest.0 page.0 access generation result map.new walker.new cache.new }
+    ensures { MapLeft (map_answer side known pages sets.now pairs.now map.old cache.old m.vm.0 m.guest.0 m.page.0 m.access m.generation)
+        map.old walker.old cache.old m result map.new walker.new cache.new }
 {
-    let may = map_may(
-        side, known, pages, sets, pairs, map, vm, guest, page, access, generation,
-    );
-    let answer = may.answer;
-    if let Answer::Refused { refusal, index } = answer {
-        return Answer::Refused { refusal, index };
-    }
-    let dropped = map_do(
-        map, walker, cache, may.at, vm, guest, page, access, generation,
-    );
-    accept(dropped)
+    let at = map_may(side, known, pages, sets, pairs, map, m)?;
+    accept(map_do(map, walker, cache, at, m))
 }
 
 // What unmap decides.
+#[tactic(auto, unfolding(model::specs::Maps::unmap_may))]
 pub fn unmap_may(known: u64, map: &[u64], vm: VmId, guest: GuestPage) -> Answer
     ensures { result ≡ unmap_may known map.now vm.0 guest.0 }
 {
-    let early = unmap_early(known, vm, guest);
-    if let Answer::Refused { refusal, index } = early {
-        return Answer::Refused { refusal, index };
-    }
-    let spot = table::find(map, numbers::key(vm, guest));
-    if let Found::Nothing = spot {
+    unmap_early(known, vm, guest)?;
+    if table::find(map, numbers::key(vm, guest)).is_none() {
         return refuse(Refusal::MappingDiffers, 0);
     }
     accept(0)
 }
 
 // What unmap does: the entry of the VM and guest page goes from map and walker, and their slots go. Answers how many they were.
+#[tactic(auto, unfolding(model::specs::Maps::unmap_table, model::specs::Maps::matching_slots, model::specs::Maps::without_slots))]
 pub fn unmap_do(
     map: &mut [u64],
     walker: &mut [u64],
@@ -190,6 +154,7 @@ pub fn unmap_do(
 }
 
 // Operations 9 and 10. No claim ends, so nothing is cleared.
+#[tactic(auto, unfolding(model::specs::Maps::unmap_answer))]
 pub fn unmap_page(
     known: u64,
     map: &mut [u64],
@@ -201,67 +166,56 @@ pub fn unmap_page(
     ensures { UnmapLeft (unmap_answer known map.old cache.old vm.0 guest.0)
         map.old walker.old cache.old vm.0 guest.0 result map.new walker.new cache.new }
 {
-    let may = unmap_may(known, map, vm, guest);
-    if let Answer::Refused { refusal, index } = may {
-        return Answer::Refused { refusal, index };
-    }
+    unmap_may(known, map, vm, guest)?;
     accept(unmap_do(map, walker, cache, vm, guest))
 }
 
 // ---- Ports.
 
-// What a switch leaves: the answer, and who is on each port.
-#[derive(Clone, Copy)]
-pub struct Given {
-    pub answer: Answer,
-    pub ports: [u64; PORTS as usize],
-}
-
 // What a switch decides.
-pub fn port_answer(known: u64, port: u64, target: Target) -> Answer
+#[tactic(auto, unfolding(model::specs::Ports::port_answer))]
+pub fn port_answer(known: u64, port: u64, target: Option<VmId>) -> Answer
     ensures { result ≡ port_answer known port target }
 {
     if !(port < PORTS) {
         return refuse(Refusal::OutOfRange, 0);
     }
-    let Target::Vm(vm) = target else {
-        return accept(0);
-    };
-    if !(vm.0 < VMS) {
-        return refuse(Refusal::OutOfRange, 0);
-    }
-    if !views::knows(known, vm) {
-        return refuse(Refusal::VmUnknown, 0);
+    if let Some(vm) = target {
+        if !(vm.0 < VMS) {
+            return refuse(Refusal::OutOfRange, 0);
+        }
+        if !views::knows(known, vm) {
+            return refuse(Refusal::VmUnknown, 0);
+        }
     }
     accept(0)
 }
 
 // What a switch does: the target is on the port.
-pub fn port_do(ports: [u64; PORTS as usize], port: u64, target: Target) -> [u64; PORTS as usize]
+pub fn port_do(ports: &mut [u64; PORTS as usize], port: u64, target: Option<VmId>)
     requires { port < PORTS }
-    ensures { result ≡ port_ports ports port target }
+    ensures { ports.new ≡ port_ports ports.old port target }
 {
-    let mut given = ports;
-    given[port as usize] = numbers::target_number(target);
-    given
+    ports[port as usize] = numbers::target_number(target);
 }
 
 // Operations 15 and 16. A VM may be on several ports.
-pub fn give_port(known: u64, ports: [u64; PORTS as usize], port: u64, target: Target) -> Given
-    ensures { PortLeft (port_answer known port target) ports port target result.answer result.ports }
+pub fn give_port(
+    known: u64,
+    ports: &mut [u64; PORTS as usize],
+    port: u64,
+    target: Option<VmId>,
+) -> Answer
+    ensures { PortLeft (port_answer known port target) ports.old port target result ports.new }
 {
-    let answer = port_answer(known, port, target);
-    if let Answer::Refused { refusal, index } = answer {
-        let answer = Answer::Refused { refusal, index };
-        return Given { answer, ports };
-    }
-    let ports = port_do(ports, port, target);
-    Given { answer, ports }
+    let accepted = port_answer(known, port, target)?;
+    port_do(ports, port, target);
+    Ok(accepted)
 }
 
 // ---- Slots.
 
-// Sets a slot; one past the end of the cache is none.
+// Sets a slot; one past the end of the cache is none. By its index, since no clause of `get_mut` says what it leaves in a slice.
 fn set_slot(cache: &mut [u64], slot: u64, word: u64)
     ensures { cache.new ≡ set cache.old slot word }
 {
@@ -275,86 +229,57 @@ fn set_slot(cache: &mut [u64], slot: u64, word: u64)
 fn next_hand(hand: u64) -> u64
     ensures { result ≡ next_hand hand }
 {
-    if hand < SLOTS - 1 {
-        return hand + 1;
-    }
-    0
+    if hand < SLOTS - 1 { hand + 1 } else { 0 }
 }
 
-// Stores a word over the slot of its key, else in the lowest empty slot, else in the slot at the hand; answers the hand, which
-// steps only where its slot was taken.
-fn take_slot(cache: &mut [u64], hand: u64, key: u64, word: u64) -> u64
-    ensures { (result ≡ (if is_found (place key_of cache.old key) then hand else next_hand hand))
-        × (cache.new ≡ set_at cache.old (fill_place cache.old hand key) word) }
+// Stores a word over the slot of its key, else in the lowest empty slot, else in the slot at the hand, which steps only where
+// its slot was taken.
+#[tactic(auto, using(table::specs::TableLaws::place_within), unfolding(model::specs::Ports::fill_place))]
+fn take_slot(cache: &mut [u64], hand: &mut u64, key: u64, word: u64)
+    ensures { (hand.new ≡ (if is_found (place key_of cache.old key) then hand.old else next_hand hand.old))
+        × (cache.new ≡ set_at cache.old (fill_place cache.old hand.old key) word) }
 {
-    let spot = table::place(cache, key);
-    if let Found::At(slot) = spot {
-        cache[slot] = word;
-        return hand;
+    match table::place(cache, key) {
+        Some(slot) => cache[slot] = word,
+        None => {
+            set_slot(cache, *hand, word);
+            *hand = next_hand(*hand);
+        }
     }
-    set_slot(cache, hand, word);
-    next_hand(hand)
 }
 
-// Whether a fill may be done, the VM on the port, and the word that the walker has for it.
-#[derive(Clone, Copy)]
-pub struct FillWord {
-    pub answer: Answer,
-    pub vm: VmId,
-    pub found: u64,
-}
-
-// What a fill decides.
+// What a fill decides: the VM on the port, and the word that the walker has for it.
+#[tactic(auto, unfolding(model::specs::Ports::fill_answer))]
 pub fn fill_answer(
     ports: [u64; PORTS as usize],
     walker: &[u64],
     port: u64,
     guest: GuestPage,
-) -> FillWord
-    ensures { FillAnswer (fill_answer ports walker.now port guest.0) ports walker.now port guest.0 result.answer result.vm.0 result.found }
+) -> Result<(VmId, u64), Refused>
+    ensures { FillAnswer (fill_answer ports walker.now port guest.0) ports walker.now port guest.0 result }
 {
-    let vm = VmId(VMS);
-    let found = 0;
     if !((port < PORTS) & (guest.0 < GUEST_PAGES)) {
-        let answer = refuse(Refusal::OutOfRange, 0);
-        return FillWord { answer, vm, found };
+        return refuse(Refusal::OutOfRange, 0);
     }
     let vm = VmId(ports[port as usize]);
     if !(vm.0 < VMS) {
-        let answer = refuse(Refusal::PortIdle, 0);
-        return FillWord { answer, vm, found };
+        return refuse(Refusal::PortIdle, 0);
     }
     let found = table::lookup(walker, numbers::key(vm, guest));
     if found == 0 {
-        let answer = refuse(Refusal::MappingDiffers, 0);
-        return FillWord { answer, vm, found };
+        return refuse(Refusal::MappingDiffers, 0);
     }
-    let answer = accept(0);
-    FillWord { answer, vm, found }
+    Ok((vm, found))
 }
 
-// What a fill does: a slot gets the walker's word. Answers the hand.
-pub fn fill_do(
-    cache: &mut [u64],
-    hand: u64,
-    port: u64,
-    vm: VmId,
-    guest: GuestPage,
-    found: u64,
-) -> u64
+// What a fill does: a slot gets the walker's word.
+pub fn fill_do(cache: &mut [u64], hand: &mut u64, port: u64, vm: VmId, guest: GuestPage, found: u64)
     requires { FillReady port vm.0 guest.0 }
-    ensures { FillDone cache.old hand port vm.0 guest.0 found cache.new result }
+    ensures { FillDone cache.old hand.old port vm.0 guest.0 found cache.new hand.new }
 {
     let key = numbers::slot_key(port, vm, guest);
     let word = numbers::slot_word(port, vm, guest, numbers::entry_of(found));
-    take_slot(cache, hand, key, word)
-}
-
-// What a fill leaves: the answer, and the replacement hand.
-#[derive(Clone, Copy)]
-pub struct Filled {
-    pub answer: Answer,
-    pub hand: u64,
+    take_slot(cache, hand, key, word);
 }
 
 // Operations 17 and 18. The slot gets what the walker has for the port's VM and the guest page.
@@ -362,23 +287,19 @@ pub fn fill_slot(
     ports: [u64; PORTS as usize],
     walker: &[u64],
     cache: &mut [u64],
-    hand: u64,
+    hand: &mut u64,
     port: u64,
     guest: GuestPage,
-) -> Filled
-    ensures { FillLeft (fill_answer ports walker.now port guest.0) ports walker.now port guest.0 cache.old hand result.answer cache.new result.hand }
+) -> Answer
+    ensures { FillLeft (fill_answer ports walker.now port guest.0) ports walker.now port guest.0 cache.old hand.old result cache.new hand.new }
 {
-    let word = fill_answer(ports, walker, port, guest);
-    let answer = word.answer;
-    if let Answer::Refused { refusal, index } = answer {
-        let answer = Answer::Refused { refusal, index };
-        return Filled { answer, hand };
-    }
-    let hand = fill_do(cache, hand, port, word.vm, guest, word.found);
-    Filled { answer, hand }
+    let (vm, found) = fill_answer(ports, walker, port, guest)?;
+    fill_do(cache, hand, port, vm, guest, found);
+    accept(0)
 }
 
 // What emptying a slot decides.
+#[tactic(auto, unfolding(model::specs::Ports::empty_answer))]
 pub fn empty_answer(slot: u64) -> Answer
     ensures { result ≡ empty_answer slot }
 {
@@ -399,10 +320,7 @@ pub fn empty_do(cache: &mut [u64], slot: u64)
 pub fn empty_slot(cache: &mut [u64], slot: u64) -> Answer
     ensures { EmptyLeft (empty_answer slot) cache.old slot result cache.new }
 {
-    let answer = empty_answer(slot);
-    if let Answer::Refused { refusal, index } = answer {
-        return Answer::Refused { refusal, index };
-    }
+    let accepted = empty_answer(slot)?;
     empty_do(cache, slot);
-    answer
+    Ok(accepted)
 }

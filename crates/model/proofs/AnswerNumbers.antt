@@ -4,7 +4,7 @@ use Prim.Native.Nat.{ℕ, ◌+◌, ◌<◌}
 use mathlib.Core.Bool.{Bool, true, false, not, ◌&&◌, true≢false}
 use mathlib.Core.List.{List, [], ◌∷◌}
 use mathlib.Core.Logic.{⊎_elim}
-use mathlib.Core.Option.{Option, none, some}
+use Rattle.std.specs.Prelude.{Option, None, Some, Ok, Err}
 use mathlib.Core.Path.{◌≡◌, refl, sym, ◌∙◌}
 use native.Mathlib.Omega.{arith}
 use lib.Dec.{eqb, ltb}
@@ -12,9 +12,7 @@ use lib.ListN.{length, get_or, get_or-eq_default}
 use borrow.Author.Tests.{ltb-true, ltb-false, eqb-true}
 use Rattle.numbers.specs.CaseLaws.{cases}
 use Rattle.std.specs.Prelude.{if◌then◌else◌}
-use Rattle.numbers.specs.Meaning.{refusal_number, answer_numbers, number_of}
-use Rattle.numbers.specs.declared.Answer.{Answer}
-use Rattle.numbers.specs.declared.Answer.TheVariants.{Accepted, Refused}
+use Rattle.numbers.specs.Meaning.{refusal_number, answer_numbers, number_of, Answer, accept, refuse}
 use Rattle.numbers.specs.declared.Refusal.{Refusal}
 use Rattle.numbers.specs.declared.Refusal.TheVariants.{StateNotValid}
 use Rattle.numbers.specs.declared.Operation.{Operation}
@@ -158,10 +156,10 @@ two_listed n b = ⊎_elim (λ t. t) (λ (f : is_in (listed n) 2 ≡ false). absu
 
 -- ---- the same of an answer before it is written as numbers, and that a refusal is listed
 pub data Fits (operation count : ℕ) : Answer → Type 0 where
-  taken : {d w : ℕ} → (is_in drops operation ≡ false → d ≡ 0) → (is_in gives operation ≡ false → w ≡ 0) → Fits operation count (Accepted d w)
-  plain : {refusal : Refusal} → is_in (listed operation) (refusal_number refusal) ≡ true → Fits operation count (Refused refusal 0)
+  taken : {d w : ℕ} → (is_in drops operation ≡ false → d ≡ 0) → (is_in gives operation ≡ false → w ≡ 0) → Fits operation count (accept d w)
+  plain : {refusal : Refusal} → is_in (listed operation) (refusal_number refusal) ≡ true → Fits operation count (refuse refusal 0)
   found : {refusal : Refusal} {k : ℕ} → is_in (listed operation) (refusal_number refusal) ≡ true → is_in regions operation ≡ true → is_in searches (refusal_number refusal) ≡ true → k < count →
-      Fits operation count (Refused refusal k)
+      Fits operation count (refuse refusal k)
 
 -- an effect that reads is of an operation that gives a word
 abbrev ReadsOnly : ℕ → Effect → Type 0
@@ -186,7 +184,7 @@ module _ {operation count : ℕ} where
       Fits operation count rest → Fits operation count (clash_at k count refusal rest)
   searched region k refusal rest may searching h = which (ltb k count) refl
     where
-      which : (t : Bool) → ltb k count ≡ t → Fits operation count (if t then Refused refusal k else rest)
+      which : (t : Bool) → ltb k count ≡ t → Fits operation count (if t then refuse refusal k else rest)
       which true e = found may region searching (ltb-true k count e)
       which false e = h
 
@@ -194,13 +192,13 @@ module _ {operation count : ℕ} where
   unsearched : (refusal : Refusal) (rest : Answer) → Fits operation count rest → Fits operation count (clash_at (lowest (λ k. false) count) count refusal rest)
   unsearched refusal rest h = which (ltb (lowest (λ k. false) count) count) refl
     where
-      which : (t : Bool) → ltb (lowest (λ k. false) count) count ≡ t → Fits operation count (if t then Refused refusal (lowest (λ k. false) count) else rest)
+      which : (t : Bool) → ltb (lowest (λ k. false) count) count ≡ t → Fits operation count (if t then refuse refusal (lowest (λ k. false) count) else rest)
       which true e = absurd (true≢false (sym (lowest_found (λ k. false) count (ltb-true _ count e)).0))
       which false e = h
 
   early : (first rest : Answer) → Fits operation count first → Fits operation count rest → Fits operation count (and_then first rest)
-  early (Accepted d w) rest h f = f
-  early (Refused refusal k) rest h f = h
+  early (Ok ok) rest h f = f
+  early (Err err) rest h f = h
 
 -- ---- an operation, whatever memory holds; only a read fills in the word
 record Told (operation count : ℕ) (c : Control) : Type 0 where
@@ -210,10 +208,10 @@ module _ {operation count : ℕ} where
   carried : (t : Tables) (answer : Answer) (new : Tables) (effect : Effect) (memory : List ℕ) → ReadsOnly operation effect → Fits operation count answer →
       Fits operation count (carried_out (decided t answer new effect) memory).answer
   unfolding decided
-  carried t (Accepted d w) new (reads vm places) memory may (taken h f) = taken h (λ e. absurd (true≢false (sym may ∙ e)))
-  carried t (Accepted d w) new (writes vm stores) memory may h = h
-  carried t (Accepted d w) new (clears pages) memory may h = h
-  carried t (Refused refusal k) new effect memory may h = h
+  carried t (Ok ok) new (reads vm places) memory may (taken h f) = taken h (λ e. absurd (true≢false (sym may ∙ e)))
+  carried t (Ok ok) new (writes vm stores) memory may h = h
+  carried t (Ok ok) new (clears pages) memory may h = h
+  carried t (Err err) new effect memory may h = h
 
   told : (t : Tables) (answer : Answer) (new : Tables) (effect : Effect) → ReadsOnly operation effect → Fits operation count answer → Told operation count (decided t answer new effect)
   told t answer new effect may h = record { fits = λ memory. carried t answer new effect memory may h }
@@ -226,16 +224,16 @@ record Known (n count : ℕ) (s : State) (o : Option Operation) : Type 0 where
   fits : Fits n count (step_known s o).answer
 
 module _ {n count : ℕ} {s : State} where
-  unknown : is_in bare n ≡ false → Known n count s none
+  unknown : is_in bare n ≡ false → Known n count s None
   unknown b = record { fits = plain (two_listed n b) }
 
   -- the operation of a number, else the operations of those that follow
   numbered : (k : ℕ) (operation : Operation) (rest : Option Operation) → Told k count (control s.tables operation) → (eqb n k ≡ false → Known n count s rest) →
-      Known n count s (if eqb n k then some operation else rest)
+      Known n count s (if eqb n k then Some operation else rest)
   unfolding step
   numbered k operation rest h others = which (eqb n k) refl
     where
-      which : (t : Bool) → eqb n k ≡ t → Known n count s (if t then some operation else rest)
+      which : (t : Bool) → eqb n k ≡ t → Known n count s (if t then Some operation else rest)
       which true e = record { fits = rw (eqb-true n k e) (h.fits s.memory) }
       which false e = others e
 
@@ -260,7 +258,7 @@ plain_good row refusal =
     }
 
 good_of : (row : List ℕ) (answer : Answer) → Fits (operation_at row) (count_at row) answer → AnswerGood row answer
-good_of row (Accepted d w) (taken h f) =
+good_of row (Ok ok) (taken h f) =
     record {
       refused_dropped = λ e. absurd (omega arith);
       refused_word = λ e. absurd (omega arith);
@@ -271,8 +269,8 @@ good_of row (Accepted d w) (taken h f) =
       index_of_search = λ e. refl;
       index_inside = λ e. absurd (omega arith);
     }
-good_of row (Refused refusal k) (plain may) = plain_good row refusal
-good_of row (Refused refusal k) (found may region searching inside) =
+good_of row (Err err) (plain may) = plain_good row err.refusal
+good_of row (Err err) (found may region searching inside) =
     record {
       refused_dropped = λ e. refl;
       refused_word = λ e. refl;

@@ -12,9 +12,8 @@ use borrow.Author.Tests.{leb-true, not-false}
 use Rattle.numbers.specs.CaseLaws.{equal}
 use Rattle.std.specs.Prelude.{if◌then◌else◌}
 use Rattle.numbers.specs.Limits.{ROW_NUMBERS, ANSWER_NUMBERS}
-use Rattle.numbers.specs.Meaning.{answer_numbers, number_of}
-use Rattle.numbers.specs.declared.Answer.{Answer}
-use Rattle.numbers.specs.declared.Answer.TheVariants.{Accepted, Refused}
+use Rattle.numbers.specs.Meaning.{answer_numbers, number_of, Answer, accept}
+use Rattle.std.specs.Prelude.{Ok, Err}
 use Rattle.numbers.specs.declared.Refusal.TheVariants.{OutOfRange}
 use Rattle.model.specs.Effect.{accepted, refused}
 use Rattle.model.specs.EarlyLaws.{past}
@@ -24,7 +23,7 @@ use Rattle.table.specs.RepeatLaws.{repeat_last}
 
 -- ---- the shape
 -- a shape that is accepted has room for every answer, and nothing is dropped or read
-pub roomy : (rows room : List ℕ) {dropped word : ℕ} → shape_answer rows room ≡ Accepted dropped word → (row_count rows * ANSWER_NUMBERS ≤ length room) × (accepted ≡ Accepted dropped word)
+pub roomy : (rows room : List ℕ) {dropped word : ℕ} → shape_answer rows room ≡ accept dropped word → (row_count rows * ANSWER_NUMBERS ≤ length room) × (accepted ≡ accept dropped word)
 unfolding shape_answer
 roomy rows room e =
     let (a, b) = past (not (eqb (length rows % ROW_NUMBERS) 0)) _ _ _ e in
@@ -43,8 +42,8 @@ shape_accepted rows room = go (not (eqb (length rows % ROW_NUMBERS) 0)) (not (le
 
 -- ---- an answer is four numbers
 pub four : (answer : Answer) → length (answer_numbers answer) ≡ ANSWER_NUMBERS
-four (Accepted dropped word) = refl
-four (Refused refusal index) = refl
+four (Ok ok) = refl
+four (Err err) = refl
 
 -- ---- one row more
 pub after_next : (rows : List ℕ) (k : ℕ) (p : Progress) → after rows (suc k) p ≡ turn rows k (after rows k p)

@@ -9,8 +9,8 @@ use lib.ListN.{length, length-set}
 use borrow.Author.Tests.{ltb-true}
 use Rattle.numbers.specs.CaseLaws.{equal}
 use Rattle.numbers.specs.Limits.{PAGE_WORDS, READ, WRITE}
-use Rattle.numbers.specs.declared.Answer.{Answer}
-use Rattle.numbers.specs.declared.Answer.TheVariants.{Accepted, Refused}
+use Rattle.numbers.specs.Meaning.{Answer, accept}
+use Rattle.std.specs.Prelude.{Ok, Err}
 use Rattle.numbers.specs.declared.Side.{Side}
 use Rattle.numbers.specs.declared.Operation.{Operation}
 use Rattle.numbers.specs.declared.Operation.TheVariants as op
@@ -40,19 +40,19 @@ Inside (writes vm stores) = StoresInside stores
 Inside (clears pages) = Unit {0}
 
 -- only an access names a word, and only where it is accepted
-pub accepted_word : (ports cache walker : List ℕ) (bit port guest word : ℕ) {dropped read : ℕ} → access_answer ports cache walker bit port guest word ≡ Accepted dropped read → word < PAGE_WORDS
+pub accepted_word : (ports cache walker : List ℕ) (bit port guest word : ℕ) {dropped read : ℕ} → access_answer ports cache walker bit port guest word ≡ accept dropped read → word < PAGE_WORDS
 unfolding access_answer
 accepted_word ports cache walker bit port guest word e =
     let (a, b) = past (not (is_port port && is_guest guest && is_word word)) _ _ _ e in
     let (r, w) = hold (is_port port && is_guest guest) (is_word word) a in
     ltb-true word PAGE_WORDS w
 
-decided_inside : (t : Tables) (answer : Answer) (new : Tables) (effect : Effect) → ((dropped word : ℕ) → answer ≡ Accepted dropped word → Inside effect) → Inside (decided t answer new effect).effect
+decided_inside : (t : Tables) (answer : Answer) (new : Tables) (effect : Effect) → ((dropped word : ℕ) → answer ≡ accept dropped word → Inside effect) → Inside (decided t answer new effect).effect
 unfolding decided
-decided_inside t (Accepted dropped word) new effect h = h dropped word refl
-decided_inside t (Refused refusal index) new effect h = tt
+decided_inside t (Ok ok) new effect h = h ok.dropped ok.word refl
+decided_inside t (Err err) new effect h = tt
 
-side_inside : (side : Side) (t : Tables) (operation : SideOperation) (dropped word : ℕ) → answer_of t (op.On side operation) ≡ Accepted dropped word → Inside (effect_of t (op.On side operation))
+side_inside : (side : Side) (t : Tables) (operation : SideOperation) (dropped word : ℕ) → answer_of t (op.On side operation) ≡ accept dropped word → Inside (effect_of t (op.On side operation))
 side_inside side t (sided.MapPage vm guest page access generation) dropped word e = tt
 side_inside side t (sided.UnmapPage vm guest) dropped word e = tt
 side_inside side t (sided.InsertRegion region) dropped word e = tt
@@ -63,7 +63,7 @@ side_inside side t (sided.EmptySlot slot) dropped word e = tt
 side_inside side t (sided.ReadWord port guest at) dropped word e = (accepted_word _ _ _ READ port guest.0 at e, tt)
 side_inside side t (sided.WriteWord port guest at value) dropped word e = (accepted_word _ _ _ WRITE port guest.0 at e, tt)
 
-accepted_inside : (t : Tables) (operation : Operation) (dropped word : ℕ) → answer_of t operation ≡ Accepted dropped word → Inside (effect_of t operation)
+accepted_inside : (t : Tables) (operation : Operation) (dropped word : ℕ) → answer_of t operation ≡ accept dropped word → Inside (effect_of t operation)
 accepted_inside t (op.AddVm vm) dropped word e = tt
 accepted_inside t (op.RemoveVm vm) dropped word e = tt
 accepted_inside t (op.AssignPage vm page) dropped word e = tt

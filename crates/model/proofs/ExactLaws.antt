@@ -9,8 +9,8 @@ use Rattle.numbers.specs.CaseLaws.{cases}
 use Rattle.std.specs.Prelude.{if◌then◌else◌}
 use Rattle.numbers.specs.Decides.{Decides}
 use Rattle.numbers.specs.DecidesLaws.{says_no, refutes, decides_as, decides_not, decides_then, decides_and}
-use Rattle.numbers.specs.declared.Answer.{Answer}
-use Rattle.numbers.specs.declared.Answer.TheVariants.{Accepted, Refused}
+use Rattle.numbers.specs.Meaning.{Answer, refuse}
+use Rattle.std.specs.Prelude.{Ok, Err}
 use Rattle.numbers.specs.declared.Refusal.{Refusal}
 use Rattle.table.specs.Scan.{lowest}
 use Rattle.table.specs.ScanLaws.{lowest_found, lowest_none}
@@ -22,24 +22,24 @@ use Rattle.model.specs.Regions.{clash}
 -- ---- chains
 -- a check that refuses where its test says true
 pub unless : (b : Bool) (refusal : Refusal) (index : ℕ) (rest : Answer) {P Q : Type 0} → Decides b P → Decides (accepts rest) Q →
-    Decides (accepts (if b then Refused refusal index else rest)) ((P → ⊥) × Q)
+    Decides (accepts (if b then refuse refusal index else rest)) ((P → ⊥) × Q)
 unless true refusal index rest d e = decides_and (decides_not d) e
 unless false refusal index rest d e = decides_and (decides_not d) e
 
 -- one that refuses where it says false; what follows need be exact only for what it lets through
 pub after_check : (b : Bool) (refusal : Refusal) (index : ℕ) (rest : Answer) {P Q : Type 0} → Decides b P → (P → Decides (accepts rest) Q) →
-    Decides (accepts (if not b then Refused refusal index else rest)) (P × Q)
+    Decides (accepts (if not b then refuse refusal index else rest)) (P × Q)
 after_check true refusal index rest d e = decides_then d e
 after_check false refusal index rest d e = decides_then d e
 
 pub where_so : (b : Bool) (refusal : Refusal) (index : ℕ) (rest : Answer) {P Q : Type 0} → Decides b P → Decides (accepts rest) Q →
-    Decides (accepts (if not b then Refused refusal index else rest)) (P × Q)
+    Decides (accepts (if not b then refuse refusal index else rest)) (P × Q)
 where_so b refusal index rest d e = after_check b refusal index rest d (λ p. e)
 
 -- an early chain and what follows it
 pub after_early : (early next : Answer) {P Q : Type 0} → Decides (accepts early) P → (P → Decides (accepts next) Q) → Decides (accepts (and_then early next)) (P × Q)
-after_early (Accepted dropped word) next d e = decides_then d e
-after_early (Refused refusal index) next d e = decides_then d e
+after_early (Ok ok) next d e = decides_then d e
+after_early (Err err) next d e = decides_then d e
 
 pub and_then_lem : (early next : Answer) {P Q : Type 0} → Decides (accepts early) P → Decides (accepts next) Q →
     Decides (accepts (and_then early next)) (P × Q)
@@ -47,8 +47,8 @@ and_then_lem early next d e = after_early early next d (λ p. e)
 
 -- the slots that are dropped change no acceptance
 pub dropping_exact : (may : Answer) (dropped : ℕ) {P : Type 0} → Decides (accepts may) P → Decides (accepts (and_then may (accepted_dropping dropped))) P
-dropping_exact (Accepted d word) dropped e = e
-dropping_exact (Refused refusal index) dropped e = e
+dropping_exact (Ok ok) dropped e = e
+dropping_exact (Err err) dropped e = e
 
 -- a check of every page of a region
 pub no_clash : (fails : ℕ → Bool) (F : ℕ → Type 0) (region : Region) (refusal : Refusal) (next : Answer) {Q : Type 0} →

@@ -14,11 +14,11 @@ use Rattle.numbers.specs.Decides.{Decides}
 use Rattle.numbers.specs.DecidesLaws.{always, decides_as, decides_itself, decides_less, decides_equal, decides_and}
 use Rattle.numbers.specs.Packing.{access_of, key, key_of, slot_key}
 use Rattle.numbers.specs.PackingLaws.{unported, unported_access, slot_address}
-use Rattle.numbers.specs.declared.Answer.TheVariants.{Accepted, Refused}
+use Rattle.numbers.specs.Meaning.{accept, refuse}
 use Rattle.numbers.specs.declared.Refusal.TheVariants.{MappingDiffers, AccessLacking}
 use Rattle.numbers.specs.declared.Side.{Side}
-use Rattle.numbers.specs.declared.Target.{Target}
-use Rattle.numbers.specs.declared.Target.TheVariants.{Idle, Vm}
+use Rattle.std.specs.Prelude.{Option, None, Some}
+use Rattle.numbers.specs.declared.VmId.{VmId}
 use Rattle.table.specs.Table.{Has, place, is_found, lookup, free_entries}
 use Rattle.table.specs.TableLaws.{lookup_has}
 use Rattle.model.specs.State.{Tables, route}
@@ -47,11 +47,11 @@ unmap_early_lem known vm guest =
     where_so _ _ _ _ (decides_and (decides_less vm VMS) (decides_less guest GUEST_PAGES)) (where_so _ _ _ _ (decides_itself (knows known vm)) always)
 
 -- ---- 15, 16
-target_exact : (t : Tables) (target : Target) → Decides (is_target target && knows_target t.known target) (TargetGood t target)
-target_exact t Idle = always
-target_exact t (Vm vm) = decides_and (decides_less vm.0 VMS) (decides_itself (knows t.known vm.0))
+target_exact : (t : Tables) (target : Option VmId) → Decides (is_target target && knows_target t.known target) (TargetGood t target)
+target_exact t None = always
+target_exact t (Some vm) = decides_and (decides_less vm.0 VMS) (decides_itself (knows t.known vm.0))
 
-pub port_exact : (t : Tables) (port : ℕ) (target : Target) → Decides (accepts (port_answer t.known port target)) (GivesPort t port target)
+pub port_exact : (t : Tables) (port : ℕ) (target : Option VmId) → Decides (accepts (port_answer t.known port target)) (GivesPort t port target)
 unfolding port_answer
 port_exact t port target =
     decides_as
@@ -136,7 +136,7 @@ module _ (side : Side) (t : Tables) (v : ValidTables t) where
     allowed : access / bit % 2 ≡ 1
 
   allowed_exact : (bit port vm guest : ℕ) → vm < VMS → guest < GUEST_PAGES →
-      Decides (accepts (if eqb (translate (route side t).cache (route side t).walker port vm guest) 0 then Refused MappingDiffers 0 else if not (allows bit (translate (route side t).cache (route side t).walker port vm guest)) then Refused AccessLacking 0 else Accepted 0 0)) (Allowed bit vm guest)
+      Decides (accepts (if eqb (translate (route side t).cache (route side t).walker port vm guest) 0 then refuse MappingDiffers 0 else if not (allows bit (translate (route side t).cache (route side t).walker port vm guest)) then refuse AccessLacking 0 else accept 0 0)) (Allowed bit vm guest)
   allowed_exact bit port vm guest a g = decides_as (unless _ _ _ _ (decides_equal w 0) (where_so _ _ _ _ (decides_equal (access_of w / bit % 2) 1) always)) to fro
     where
       w : ℕ

@@ -18,7 +18,7 @@ use Rattle.numbers.specs.declared.Side.TheVariants.{Cpu, Dma}
 use Rattle.table.specs.ScanLaws.{some_below}
 use Rattle.table.specs.Table.{Has, lookup, free_entries}
 use Rattle.table.specs.TableLaws.{lookup_has}
-use Rattle.units.specs.Units.{suits, is_unit, no_unit, assignable}
+use Rattle.units.specs.Units.{suits, same_region, is_unit, no_unit, assignable}
 use Rattle.numbers.specs.declared.Region.{Region}
 use Rattle.units.specs.declared.Unit.{Unit}
 use Rattle.model.specs.State.{Tables, route}
@@ -32,29 +32,30 @@ use Rattle.model.proofs.ExactLaws.{where_so, after_early, after_check, no_clash,
 use Rattle.model.proofs.ExactViews.{claimed_exact, mapped_exact, targets_exact, edge_on_exact, map-key, whole, mapped_lookup, mapping}
 
 -- ---- units
--- a unit's five fields are the region's
-same_region : (unit : Unit) (region : Region) →
-    ((((unit.vm.0 ≡ region.vm.0) × (unit.guest.0 ≡ region.guest.0)) × (unit.page.0 ≡ region.page.0)) × (unit.count ≡ region.count)) × (unit.access ≡ region.access) →
-    unit_region unit ≡ region
-same_region unit region ((((vm, guest), page), count), access) = rw (vm, guest, page, count, access)
+-- two regions of the same five fields are one
+one_region : (r s : Region) → ((((r.vm.0 ≡ s.vm.0) × (r.guest.0 ≡ s.guest.0)) × (r.page.0 ≡ s.page.0)) × (r.count ≡ s.count)) × (r.access ≡ s.access) → r ≡ s
+one_region r s ((((vm, guest), page), count), access) = rw (vm, guest, page, count, access)
+
+region_exact : (r s : Region) → Decides (same_region r s) (r ≡ s)
+region_exact r s =
+    decides_as
+    (decides_and (decides_and (decides_and (decides_and (decides_equal _ _) (decides_equal _ _)) (decides_equal _ _)) (decides_equal _ _)) (decides_equal _ _))
+    (one_region r s)
+    (λ e. ((((ap (λ (x : Region). x.vm.0) e, ap (λ (x : Region). x.guest.0) e), ap (λ (x : Region). x.page.0) e), ap (λ (x : Region). x.count) e), ap (λ (x : Region). x.access) e))
 
 unit_exact : (side : Side) (t : Tables) (region : Region) → Decides (assignable t.setup.units t.setup.unit_count side region) (IsUnit side t region)
 unfolding assignable
 unit_exact side t region =
     decides_as
     (some_below _ (λ k. Fields (get_or t.setup.units k no_unit)) t.setup.unit_count (λ k h. fields (get_or t.setup.units k no_unit)))
-    (λ (k, h, (((((m, vm), guest), page), count), access)).
-    record { place = k; within = h; fields = same_region (get_or t.setup.units k no_unit) region ((((vm, guest), page), count), access); mark = m })
-    (λ u. (u.place, u.within, (((((u.mark, ap (λ (r : Region). r.vm.0) u.fields), ap (λ (r : Region). r.guest.0) u.fields), ap (λ (r : Region). r.page.0) u.fields), ap (λ (r : Region). r.count) u.fields), ap (λ (r : Region). r.access) u.fields)))
+    (λ (k, h, (m, same)). record { place = k; within = h; fields = same; mark = m })
+    (λ u. (u.place, u.within, (u.mark, u.fields)))
   where
     Fields : Unit → Type 0
-    Fields unit =
-        (((((suits unit.mark side ≡ true) × (unit.vm.0 ≡ region.vm.0)) × (unit.guest.0 ≡ region.guest.0)) × (unit.page.0 ≡ region.page.0)) × (unit.count ≡ region.count))
-        × (unit.access ≡ region.access)
+    Fields unit = (suits unit.mark side ≡ true) × (unit.region ≡ region)
 
     fields : (unit : Unit) → Decides (is_unit side region unit) (Fields unit)
-    fields unit =
-        decides_and (decides_and (decides_and (decides_and (decides_and (decides_itself (suits unit.mark side)) (decides_equal _ _)) (decides_equal _ _)) (decides_equal _ _)) (decides_equal _ _)) (decides_equal _ _)
+    fields unit = decides_and (decides_itself (suits unit.mark side)) (region_exact unit.region region)
 
 -- ---- early checks, with the unit
 early_exact : (side : Side) (t : Tables) (region : Region) →

@@ -20,8 +20,7 @@ use Rattle.numbers.specs.declared.Side.TheVariants.{Cpu, Dma}
 use Rattle.table.specs.ScanLaws.{any_at, any_here, some_word, some_below}
 use Rattle.table.specs.Table.{Has, find, place, lookup, is_found, or_else, lowest_free, free_entries}
 use Rattle.table.specs.TableLaws.{find_at, find_none, has_lookup, lookup_has, free_place, place_free}
-use Rattle.table.specs.declared.Found.{Found}
-use Rattle.table.specs.declared.Found.TheVariants.{At, Nothing}
+use Rattle.std.specs.Prelude.{Option, Some, None}
 use Rattle.model.specs.MemoryLaws.{get_or-there}
 use Rattle.model.specs.State.{Tables}
 use Rattle.model.specs.Views.{claims, claimed_elsewhere, has_pages, on_page, of_vm, joins, is_filled, shares, edge_on, edge_of, paired, targeted, has_mappings, may_map, on_port, whichever}
@@ -43,9 +42,9 @@ pages_exact side sets vm = some_below _ (λ page. claims side sets vm page ≡ t
 found_exact : (keys : ℕ → ℕ) (ws : List ℕ) (k : ℕ) → Decides (is_found (find keys ws k)) ((i : ℕ) × (i < length ws) × (keys (get_or ws i 0) ≡ k))
 found_exact keys ws k = go (find keys ws k) refl
   where
-    go : (f : Found) → find keys ws k ≡ f → Decides (is_found f) ((i : ℕ) × (i < length ws) × (keys (get_or ws i 0) ≡ k))
-    go (At i) e = let r = find_at keys ws k i e in says_yes (i, r.within, eqb-true _ _ r.passes)
-    go Nothing e = says_no (λ p. find_none keys ws k e p.0 p.1 p.2)
+    go : (f : Option ℕ) → find keys ws k ≡ f → Decides (is_found f) ((i : ℕ) × (i < length ws) × (keys (get_or ws i 0) ≡ k))
+    go (Some i) e = let r = find_at keys ws k i e in says_yes (i, r.within, eqb-true _ _ r.passes)
+    go None e = says_no (λ p. find_none keys ws k e p.0 p.1 p.2)
 
 -- where no empty word has the key, it is a filled word that has it
 pub key_exact : (keys : ℕ → ℕ) (ws : List ℕ) (k : ℕ) → (keys 0 ≡ k → ⊥) → Decides (is_found (find keys ws k)) ((w : ℕ) × Has ws w × (keys w ≡ k))
@@ -59,13 +58,13 @@ pub place_exact : (keys : ℕ → ℕ) (ws : List ℕ) (k : ℕ) → Decides (is
 unfolding place
 place_exact keys ws k = go (find keys ws k) (lowest_free ws) refl
   where
-    go : (f g : Found) → lowest_free ws ≡ g → Decides (is_found (or_else f g)) ((is_found f ≡ true) ⊎ (0 < free_entries ws))
-    go (At i) g e = says_yes (inl refl)
-    go Nothing (At i) e = says_yes (inr (place_free ws i e))
-    go Nothing Nothing e = says_no (⊎_elim (λ t. true≢false (sym t)) nowhere)
+    go : (f g : Option ℕ) → lowest_free ws ≡ g → Decides (is_found (or_else f g)) ((is_found f ≡ true) ⊎ (0 < free_entries ws))
+    go (Some i) g e = says_yes (inl refl)
+    go None (Some i) e = says_yes (inr (place_free ws i e))
+    go None None e = says_no (⊎_elim (λ t. true≢false (sym t)) nowhere)
       where
         nowhere : 0 < free_entries ws → ⊥
-        nowhere h = let (i, q) = free_place ws h in let z : At i ≡ Nothing = sym q ∙ e in true≢false (ap is_found z)
+        nowhere h = let (i, q) = free_place ws h in let z : Some i ≡ None = sym q ∙ e in true≢false (ap is_found z)
 
 -- ---- words of valid tables are filled as the machine wants them
 pub filled_too : (w : ℕ) {b : Bool} {P : Type 0} → filled_of w ≡ 1 → Decides b P → Decides (is_filled w && b) P

@@ -3,17 +3,15 @@
 use Prim.Native.Nat.{ℕ, ◌+◌, ◌*◌, ◌<◌}
 use mathlib.Core.List.{List}
 use mathlib.Core.Logic.{◌↔◌}
-use mathlib.Core.Option.{Option, none, some}
+use Rattle.std.specs.Prelude.{Option, None, Some, Ok, Err}
 use mathlib.Core.Path.{◌≡◌, refl, sym, ◌∙◌}
 use native.Mathlib.Omega.{arith}
 use lib.ListN.{get_or}
 use Rattle.numbers.specs.Decides.{Decides}
 use Rattle.numbers.specs.DecidesLaws.{always, says_yes, says_no}
 use Rattle.numbers.specs.Limits.{READ, WRITE, ANSWER_NUMBERS}
-use Rattle.numbers.specs.Meaning.{number_of}
+use Rattle.numbers.specs.Meaning.{number_of, Answer}
 use Rattle.numbers.specs.MeaningLaws.{refusal_above}
-use Rattle.numbers.specs.declared.Answer.{Answer}
-use Rattle.numbers.specs.declared.Answer.TheVariants.{Accepted, Refused}
 use Rattle.numbers.specs.declared.Side.{Side}
 use Rattle.numbers.specs.declared.SideOperation.{SideOperation}
 use Rattle.numbers.specs.declared.SideOperation.TheVariants as sided
@@ -64,13 +62,13 @@ exactly t v operation = answer_exactly t v operation
 
 -- ---- 0 is the number of what is accepted, and of no refusal
 zero_accepts : (answer : Answer) → Decides (accepts answer) (number_of answer ≡ 0)
-zero_accepts (Accepted dropped word) = says_yes refl
-zero_accepts (Refused refusal index) = says_no (λ e. omega (arith, refusal_above refusal, e))
+zero_accepts (Ok ok) = says_yes refl
+zero_accepts (Err err) = says_no (λ e. omega (arith, refusal_above err.refusal, e))
 
 -- the word that a read fills in changes no acceptance
 word_accepts : (effect : Effect) (memory : List ℕ) (answer : Answer) → accepts (answer_with effect memory answer) ≡ accepts answer
-word_accepts (reads vm places) memory (Accepted dropped word) = refl
-word_accepts (reads vm places) memory (Refused refusal index) = refl
+word_accepts (reads vm places) memory (Ok ok) = refl
+word_accepts (reads vm places) memory (Err err) = refl
 word_accepts (writes vm stores) memory answer = refl
 word_accepts (clears pages) memory answer = refl
 
@@ -80,8 +78,8 @@ unfolding step_row step
 row_exactly s v row = which (operation_in row) refl
   where
     which : (found : Option Operation) → operation_in row ≡ found → (number_of (step_known s found).answer ≡ 0) ↔ RowConditions s.tables row
-    which none e = (λ z. absurd (omega (arith, z)), λ c. absurd (let z : ◌≡◌ {A = ℕ} 0 1 = cc (e, c.named) in omega arith))
-    which (some operation) e =
+    which None e = (λ z. absurd (omega (arith, z)), λ c. absurd (let z : ◌≡◌ {A = ℕ} 0 1 = cc (e, c.named) in omega arith))
+    which (Some operation) e =
         let c = control s.tables operation in
         let same = word_accepts c.effect s.memory c.answer in
         let number = zero_accepts (carried_out c s.memory).answer in
@@ -106,9 +104,9 @@ answer_row_exactly s rows room result (valid v e) z k h = rw e (carried (shape_a
 
     carried : (shape : Answer) → shape_answer rows room ≡ shape → number_of shape ≡ 0 →
         (get_or (kept shape p (after rows (row_count rows) p)).room (k * ANSWER_NUMBERS) 0 ≡ 0) ↔ RowConditions (after rows k p).state.tables (row_at rows k)
-    carried (Accepted dropped word) e' z' =
+    carried (Ok ok) e' z' =
         let first : k * ANSWER_NUMBERS + 0 ≡ k * ANSWER_NUMBERS = omega arith in
         rw (rw first at (answer_row rows p (row_count rows) k 0 h (omega arith) (roomy rows room e').0))
         (row_exactly (after rows k p).state (after_valid rows k p v) (row_at rows k))
-    carried (Refused refusal index) e' z' = absurd (omega (arith, refusal_above refusal, z'))
+    carried (Err err) e' z' = absurd (omega (arith, refusal_above err.refusal, z'))
 answer_row_exactly s rows room result (not_valid n e) z k h = absurd (let z' = rw e at z in omega (arith, z'))

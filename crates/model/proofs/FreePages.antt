@@ -12,10 +12,8 @@ use Rattle.std.specs.Prelude.{if◌then◌else◌}
 use Rattle.numbers.specs.Decides.{Decides}
 use Rattle.numbers.specs.DecidesLaws.{decides_as}
 use Rattle.numbers.specs.Limits.{VMS}
-use Rattle.numbers.specs.Meaning.{refusal_number, number_of}
-use Rattle.numbers.specs.declared.Answer.{Answer}
-use Rattle.numbers.specs.declared.Answer.TheVariants.{Accepted, Refused}
-use Rattle.numbers.specs.declared.Lowest.TheVariants.{Page, Nothing}
+use Rattle.numbers.specs.Meaning.{refusal_number, number_of, Answer, refuse}
+use Rattle.std.specs.Prelude.{Ok, Err, Some, None}
 use Rattle.numbers.specs.declared.Operation.TheVariants as op
 use Rattle.numbers.specs.declared.PhysPage.{PhysPage}
 use Rattle.numbers.specs.declared.Refusal.{Refusal}
@@ -53,11 +51,11 @@ pub shared_not_free : (t : Tables) → ValidTables t → (page : ℕ) → page <
 shared_not_free t v page h e = not_so _ (λ f. let z = v.pages.one_home _ _ page pool shared h ((free_exact t page).sound f).0 e in omega (arith, z))
 
 -- ---- the query: none is free exactly where the lowest is nothing, and a lowest is free while none below it is
-pub none_free : (t : Tables) → ((free t).count ≡ 0) ↔ ((free t).lowest ≡ Nothing)
+pub none_free : (t : Tables) → ((free t).count ≡ 0) ↔ ((free t).lowest ≡ None)
 unfolding free
 none_free t = (lowest_free-nothing t.sets t.setup.pages, free_count-zero t.sets t.setup.pages)
 
-pub lowest_free_lem : (t : Tables) (page : PhysPage) → (free t).lowest ≡ Page page → LowestFree t.sets t.setup.pages page.0
+pub lowest_free_lem : (t : Tables) (page : PhysPage) → (free t).lowest ≡ Some page → LowestFree t.sets t.setup.pages page.0
 unfolding free
 lowest_free_lem t page e = lowest_free-page t.sets t.setup.pages page e
 
@@ -86,18 +84,18 @@ assignable_free t v vm vm' page apart e e' = (free_exact t page.0).complete (one
         (λ n. one.unclaimed other h n d)
         (equal other vm.0)
 
-pub lowest_assignable : (t : Tables) → ValidTables t → (page : PhysPage) → (free t).lowest ≡ Page page → (vm : VmId) → Knows t vm.0 →
+pub lowest_assignable : (t : Tables) → ValidTables t → (page : PhysPage) → (free t).lowest ≡ Some page → (vm : VmId) → Knows t vm.0 →
     accepts (control t (op.AssignPage vm page)).answer ≡ true
 lowest_assignable t v page e vm known = let low = lowest_free_lem t page e in free_assignable t v vm page known low.within low.free
 
 -- as a row, and at the entries: where the query named a page, the row that assigns it is answered with 0
-pub lowest_row : (t : Tables) → ValidTables t → (page : PhysPage) → (free t).lowest ≡ Page page → (vm : ℕ) → Knows t vm → (rest : List ℕ) → RowConditions t (3 ∷ vm ∷ page.0 ∷ rest)
+pub lowest_row : (t : Tables) → ValidTables t → (page : PhysPage) → (free t).lowest ≡ Some page → (vm : ℕ) → Knows t vm → (rest : List ℕ) → RowConditions t (3 ∷ vm ∷ page.0 ∷ rest)
 unfolding operation_in
 lowest_row t v page e vm known rest =
     let low = lowest_free_lem t page e in
     record { operation = op.AssignPage (vm_id vm) page; named = refl; conditions = free_assigns t v vm page.0 known low.within low.free }
 
-pub lowest_answered : (s : State) (result : Free) → JudgedFree s result → (page : PhysPage) → result.lowest ≡ Page page →
+pub lowest_answered : (s : State) (result : Free) → JudgedFree s result → (page : PhysPage) → result.lowest ≡ Some page →
     (vm : ℕ) → Knows s.tables vm → (rest : List ℕ) (stepped : Stepped) → JudgedRow s (3 ∷ vm ∷ page.0 ∷ rest) stepped → number_of stepped.answer ≡ 0
 lowest_answered s result (valid v same) page e vm known rest stepped judged =
     (entry_exactly s (3 ∷ vm ∷ page.0 ∷ rest) stepped judged).1 (v, lowest_row s.tables v.tables page (rw same at e) vm known rest)
@@ -117,7 +115,7 @@ done : NoPageRefused accepted
 done = record { held = λ e. omega (arith, e); unclaimed = λ e. omega (arith, e) }
 
 check : (t : Bool) (refusal : Refusal) (index : ℕ) (rest : Answer) → eqb (refusal_number refusal) (refusal_number PageNotHeld) ≡ false → eqb (refusal_number refusal) (refusal_number PageClaimed) ≡ false →
-    NoPageRefused rest → NoPageRefused (if t then Refused refusal index else rest)
+    NoPageRefused rest → NoPageRefused (if t then refuse refusal index else rest)
 check true refusal index rest six seven h = record { held = eqb-false _ _ six; unclaimed = eqb-false _ _ seven }
 check false refusal index rest six seven h = h
 
@@ -130,8 +128,8 @@ passes fails count refusal rest none h = rw (not_so (ltb (lowest fails count) co
     found t = let l = ltb-true (lowest fails count) count t in true≢false (sym (lowest_found fails count l).0 ∙ none (lowest fails count) l)
 
 early : (first rest : Answer) → NoPageRefused first → NoPageRefused rest → NoPageRefused (and_then first rest)
-early (Accepted dropped word) rest h f = f
-early (Refused refusal index) rest h f = h
+early (Ok ok) rest h f = f
+early (Err err) rest h f = h
 
 module _ (t : Tables) (region : Region) (each : (k : ℕ) → k < region.count → is_free t.sets (page_in region k) ≡ true) where
   in-pool : (k : ℕ) → k < region.count → not_free Cpu t.sets region k ≡ false

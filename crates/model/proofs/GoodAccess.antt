@@ -12,8 +12,7 @@ use Rattle.numbers.specs.CaseLaws.{cases}
 use Rattle.numbers.specs.Limits.{VMS, GUEST_PAGES, READ, WRITE}
 use Rattle.numbers.specs.Packing.{vm_of, page_of, access_of, key_of, address_of, key, slot_key}
 use Rattle.numbers.specs.PackingLaws.{key_vm, unported, unported_vm, unported_page, unported_access}
-use Rattle.numbers.specs.declared.Answer.{Answer}
-use Rattle.numbers.specs.declared.Answer.TheVariants.{Accepted}
+use Rattle.numbers.specs.Meaning.{Answer, accept}
 use Rattle.numbers.specs.declared.Operation.{Operation}
 use Rattle.numbers.specs.declared.Operation.TheVariants as op
 use Rattle.numbers.specs.declared.SideOperation.TheVariants as sided
@@ -42,7 +41,7 @@ pub record AccessPassed (ports cache walker : List ℕ) (port guest : ℕ) : Typ
   pub vm_ok : vm_on ports port < VMS
   pub translates : translate cache walker port (vm_on ports port) guest ≡ 0 → ⊥
 
-pub access_passed : (ports cache walker : List ℕ) (bit port guest word : ℕ) {dropped read : ℕ} → access_answer ports cache walker bit port guest word ≡ Accepted dropped read → AccessPassed ports cache walker port guest
+pub access_passed : (ports cache walker : List ℕ) (bit port guest word : ℕ) {dropped read : ℕ} → access_answer ports cache walker bit port guest word ≡ accept dropped read → AccessPassed ports cache walker port guest
 unfolding access_answer
 access_passed ports cache walker bit port guest word e =
     let (a, b) = past (not (is_port port && is_guest guest && is_word word)) _ _ _ e in
@@ -55,7 +54,7 @@ access_passed ports cache walker bit port guest word e =
       translates = eqb-false _ 0 f;
     }
 
-pub access_allowed : (ports cache walker : List ℕ) (bit port guest word : ℕ) {dropped read : ℕ} → access_answer ports cache walker bit port guest word ≡ Accepted dropped read →
+pub access_allowed : (ports cache walker : List ℕ) (bit port guest word : ℕ) {dropped read : ℕ} → access_answer ports cache walker bit port guest word ≡ accept dropped read →
     allows bit (translate cache walker port (vm_on ports port) guest) ≡ true
 unfolding access_answer
 access_allowed ports cache walker bit port guest word e =
@@ -133,7 +132,7 @@ module _ (side : Side) (t : Tables) (g : GoodRoute side t (route side t)) (port 
 
 -- an accepted access touches one word
 access_reaches : (side : Side) (t : Tables) → ValidTables t → (needed port guest word : ℕ) {dropped read : ℕ} →
-    access_answer (route side t).ports (route side t).cache (route side t).walker needed port guest word ≡ Accepted dropped read →
+    access_answer (route side t).ports (route side t).cache (route side t).walker needed port guest word ≡ accept dropped read →
     (bit vm page : ℕ) → (bit ≡ needed) × (vm_on (route side t).ports port ≡ vm) × (((access_place (route side t).ports (route side t).cache (route side t).walker port guest word).page ≡ page) ⊎ ⊥) → Reaches bit t vm page
 access_reaches side t v needed port guest word e bit vm page (b, h, o) =
     let r = route side t in
@@ -158,11 +157,11 @@ same_side Cpu t = refl
 same_side Dma t = refl
 
 -- ---- each
-pub read_good : (side : Side) (t : Tables) → ValidTables t → (port : ℕ) (guest : GuestPage) (word : ℕ) {dropped read : ℕ} → answer_of t (op.On side (sided.ReadWord port guest word)) ≡ Accepted dropped read →
+pub read_good : (side : Side) (t : Tables) → ValidTables t → (port : ℕ) (guest : GuestPage) (word : ℕ) {dropped read : ℕ} → answer_of t (op.On side (sided.ReadWord port guest word)) ≡ accept dropped read →
     AcceptedGood t (op.On side (sided.ReadWord port guest word))
 read_good side t v port guest word e = still_good t v _ _ _ _ (same_side side t) (access_reaches side t v READ port guest.0 word e) (λ page h. h)
 
-pub write_good : (side : Side) (t : Tables) → ValidTables t → (port : ℕ) (guest : GuestPage) (word value : ℕ) {dropped read : ℕ} → answer_of t (op.On side (sided.WriteWord port guest word value)) ≡ Accepted dropped read →
+pub write_good : (side : Side) (t : Tables) → ValidTables t → (port : ℕ) (guest : GuestPage) (word value : ℕ) {dropped read : ℕ} → answer_of t (op.On side (sided.WriteWord port guest word value)) ≡ accept dropped read →
     AcceptedGood t (op.On side (sided.WriteWord port guest word value))
 write_good side t v port guest word value e = still_good t v _ _ _ _ (same_side side t) (access_reaches side t v WRITE port guest.0 word e) (λ page h. h)
 

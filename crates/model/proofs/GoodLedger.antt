@@ -12,8 +12,7 @@ use Rattle.numbers.specs.CaseLaws.{cases, equal}
 use Rattle.numbers.specs.Limits.{VMS, PAIRS}
 use Rattle.numbers.specs.Packing.{filled_of, page_of, vm_of, left_of, right_of, pair_word, pair_key, pair_key_of, PairFits, GUEST_FIELD, PAGE_FIELD}
 use Rattle.numbers.specs.PackingLaws.{pair_left, pair_right, pair_page, pair_filled, pair_port, pair_access, pair_generation, pair_key_lem, pair_same}
-use Rattle.numbers.specs.declared.Answer.{Answer}
-use Rattle.numbers.specs.declared.Answer.TheVariants.{Accepted}
+use Rattle.numbers.specs.Meaning.{Answer, accept}
 use Rattle.numbers.specs.declared.Operation.TheVariants as op
 use Rattle.numbers.specs.declared.PhysPage.{PhysPage}
 use Rattle.numbers.specs.declared.Side.{Side}
@@ -62,7 +61,7 @@ known_added : (known vm other : ℕ) → knows known other ≡ true → knows (a
 unfolding knows
 known_added known vm other k = ⊎_elim (λ q. rw q (has_bit-with_same known vm)) (λ d. has_bit-with_other known vm other d ∙ k) (equal other vm)
 
-pub add_vm_good : (t : Tables) → ValidTables t → (vm : VmId) {dropped word : ℕ} → answer_of t (op.AddVm vm) ≡ Accepted dropped word → AcceptedGood t (op.AddVm vm)
+pub add_vm_good : (t : Tables) → ValidTables t → (vm : VmId) {dropped word : ℕ} → answer_of t (op.AddVm vm) ≡ accept dropped word → AcceptedGood t (op.AddVm vm)
 unfolding add_vm_answer
 add_vm_good t v vm e =
     let a = past (not (is_vm vm.0)) _ _ _ e in
@@ -85,7 +84,7 @@ record RemoveVmPassed (t : Tables) (vm : ℕ) : Type 0 where
   no_pair : edge_of t.pairs vm ≡ false
   no_port : (side : Side) → on_port (route side t).ports vm ≡ false
 
-remove_vm_passed : (t : Tables) (vm : ℕ) {dropped word : ℕ} → remove_vm_answer t.known t.sets t.pairs t.cpu.map t.dma.map t.cpu.ports t.dma.ports vm ≡ Accepted dropped word → RemoveVmPassed t vm
+remove_vm_passed : (t : Tables) (vm : ℕ) {dropped word : ℕ} → remove_vm_answer t.known t.sets t.pairs t.cpu.map t.dma.map t.cpu.ports t.dma.ports vm ≡ accept dropped word → RemoveVmPassed t vm
 unfolding remove_vm_answer
 remove_vm_passed t vm e =
     let (d, w, early, rest) = then_passed (vm_early t.known vm) _ e in
@@ -108,7 +107,7 @@ named_nowhere t vm v u (by_entry side w h f e) = no_mappings (route side t).map 
 named_nowhere t vm v u (by_pair w h f e) = no_edge_of t.pairs vm w u.no_pair h f e
 named_nowhere t vm v u (by_port side port h e) = on_no_port (route side t).ports vm port (u.no_port side) (rw (lengths_of side t v).ports h) e
 
-pub remove_vm_good : (t : Tables) → ValidTables t → (vm : VmId) {dropped word : ℕ} → answer_of t (op.RemoveVm vm) ≡ Accepted dropped word → AcceptedGood t (op.RemoveVm vm)
+pub remove_vm_good : (t : Tables) → ValidTables t → (vm : VmId) {dropped word : ℕ} → answer_of t (op.RemoveVm vm) ≡ accept dropped word → AcceptedGood t (op.RemoveVm vm)
 remove_vm_good t v vm e =
     let u = remove_vm_passed t vm.0 e in
     quiet_good t (op.RemoveVm vm) _ _
@@ -122,7 +121,7 @@ record AssignPassed (t : Tables) (vm page : ℕ) : Type 0 where
   free : in_pool t.sets page ≡ true
   alone : claimed_elsewhere Dma t.sets vm page ≡ false
 
-assign_passed : (t : Tables) (vm page : ℕ) {dropped word : ℕ} → assign_answer t.known t.setup.pages t.sets vm page ≡ Accepted dropped word → AssignPassed t vm page
+assign_passed : (t : Tables) (vm page : ℕ) {dropped word : ℕ} → assign_answer t.known t.setup.pages t.sets vm page ≡ accept dropped word → AssignPassed t vm page
 unfolding assign_answer
 assign_passed t vm page e =
     let (d, w, early, rest) = then_passed (page_early t.known t.setup.pages vm page) _ e in
@@ -148,7 +147,7 @@ module _ (t : Tables) (v : ValidTables t) (vm page : ℕ) (p : AssignPassed t vm
         pair = λ w other h g. assign_stays Cpu other (page_of w) g.page;
       })
 
-pub assign_good : (t : Tables) → ValidTables t → (vm : VmId) (page : PhysPage) {dropped word : ℕ} → answer_of t (op.AssignPage vm page) ≡ Accepted dropped word → AcceptedGood t (op.AssignPage vm page)
+pub assign_good : (t : Tables) → ValidTables t → (vm : VmId) (page : PhysPage) {dropped word : ℕ} → answer_of t (op.AssignPage vm page) ≡ accept dropped word → AcceptedGood t (op.AssignPage vm page)
 assign_good t v vm page e =
     let p = assign_passed t vm.0 page.0 e in
     quiet_good t (op.AssignPage vm page) _ _ (assign_valid t v vm.0 page.0 p)
@@ -162,7 +161,7 @@ record ReclaimPassed (t : Tables) (vm page : ℕ) : Type 0 where
   no_entry : targeted whichever t.cpu.map page ≡ false
   no_pair : edge_on t.pairs page ≡ false
 
-reclaim_passed : (t : Tables) (vm page : ℕ) {dropped word : ℕ} → reclaim_answer t.known t.setup.pages t.sets t.pairs t.cpu.map vm page ≡ Accepted dropped word → ReclaimPassed t vm page
+reclaim_passed : (t : Tables) (vm page : ℕ) {dropped word : ℕ} → reclaim_answer t.known t.setup.pages t.sets t.pairs t.cpu.map vm page ≡ accept dropped word → ReclaimPassed t vm page
 unfolding reclaim_answer
 reclaim_passed t vm page e =
     let (d, w, early, rest) = then_passed (page_early t.known t.setup.pages vm page) _ e in
@@ -206,7 +205,7 @@ module _ (t : Tables) (v : ValidTables t) (vm page : ℕ) (p : ReclaimPassed t v
           ended_free Cpu vm page 1 t.sets (reclaim_sets t.sets vm page) taken page' (omega (arith, v.setup.most_pages)) _ _ _ _ v.pages l p.early.vm_ok (rw q at p.owned)
           (record { low = omega arith; high = omega arith; unclaimed = rw q at f }) other o e
 
-pub reclaim_good : (t : Tables) → ValidTables t → (vm : VmId) (page : PhysPage) {dropped word : ℕ} → answer_of t (op.ReclaimPage vm page) ≡ Accepted dropped word → AcceptedGood t (op.ReclaimPage vm page)
+pub reclaim_good : (t : Tables) → ValidTables t → (vm : VmId) (page : PhysPage) {dropped word : ℕ} → answer_of t (op.ReclaimPage vm page) ≡ accept dropped word → AcceptedGood t (op.ReclaimPage vm page)
 reclaim_good t v vm page e =
     let p = reclaim_passed t vm.0 page.0 e in
     record {
@@ -225,7 +224,7 @@ record SharePassed (t : Tables) (left right page : ℕ) (answer : Answer) : Type
   owned : owns t.sets left page ≡ true
   agreed : answer ≡ accepted
 
-share_passed : (t : Tables) (left right page : ℕ) {dropped word : ℕ} → share_answer t.known t.setup.pages t.sets t.pairs left right page ≡ Accepted dropped word → SharePassed t left right page (share_answer t.known t.setup.pages t.sets t.pairs left right page)
+share_passed : (t : Tables) (left right page : ℕ) {dropped word : ℕ} → share_answer t.known t.setup.pages t.sets t.pairs left right page ≡ accept dropped word → SharePassed t left right page (share_answer t.known t.setup.pages t.sets t.pairs left right page)
 unfolding share_answer
 share_passed t left right page e =
     let (d, w, early, rest) = then_passed (pair_early t.known t.setup.pages left right page) _ e in
@@ -294,7 +293,7 @@ module _ (t : Tables) (v : ValidTables t) (left right page : ℕ) (answer : Answ
       share_case t.pairs left right page (λ pairs. Has pairs w → Has t.pairs w ⊎ Made t (op.SharePage (vm_id left) (vm_id right) (phys_page page)) answer w) inl
       (λ new h. ⊎_elim (λ q. inr (rw q share_made)) inl (has_put_inv pair_key_of t.pairs _ _ w h))
 
-pub share_good : (t : Tables) → ValidTables t → (left right : VmId) (page : PhysPage) {dropped word : ℕ} → answer_of t (op.SharePage left right page) ≡ Accepted dropped word → AcceptedGood t (op.SharePage left right page)
+pub share_good : (t : Tables) → ValidTables t → (left right : VmId) (page : PhysPage) {dropped word : ℕ} → answer_of t (op.SharePage left right page) ≡ accept dropped word → AcceptedGood t (op.SharePage left right page)
 share_good t v left right page e =
     let p = share_passed t left.0 right.0 page.0 e in
     let f : PairFits left.0 right.0 page.0 =
@@ -307,7 +306,7 @@ record UnsharePassed (t : Tables) (left right page : ℕ) : Type 0 where
   no_left : borrower_maps t.sets t.cpu.map left page ≡ false
   no_right : borrower_maps t.sets t.cpu.map right page ≡ false
 
-unshare_passed : (t : Tables) (left right page : ℕ) {dropped word : ℕ} → unshare_answer t.known t.setup.pages t.sets t.pairs t.cpu.map left right page ≡ Accepted dropped word → UnsharePassed t left right page
+unshare_passed : (t : Tables) (left right page : ℕ) {dropped word : ℕ} → unshare_answer t.known t.setup.pages t.sets t.pairs t.cpu.map left right page ≡ accept dropped word → UnsharePassed t left right page
 unfolding unshare_answer
 unshare_passed t left right page e =
     let (d, w, early, rest) = then_passed (pair_early t.known t.setup.pages left right page) _ e in
@@ -357,7 +356,7 @@ module _ (t : Tables) (v : ValidTables t) (left right page : ℕ) (p : UnsharePa
       gone : ℕ → Bool
       gone = has_key pair_key_of (pair_key left right page)
 
-pub unshare_good : (t : Tables) → ValidTables t → (left right : VmId) (page : PhysPage) {dropped word : ℕ} → answer_of t (op.UnsharePage left right page) ≡ Accepted dropped word → AcceptedGood t (op.UnsharePage left right page)
+pub unshare_good : (t : Tables) → ValidTables t → (left right : VmId) (page : PhysPage) {dropped word : ℕ} → answer_of t (op.UnsharePage left right page) ≡ accept dropped word → AcceptedGood t (op.UnsharePage left right page)
 unfolding unshare_pairs erase
 unshare_good t v left right page e =
     quiet_good t (op.UnsharePage left right page) _ _ (unshare_valid t v left.0 right.0 page.0 (unshare_passed t left.0 right.0 page.0 e)) (λ other page' o b h. h)

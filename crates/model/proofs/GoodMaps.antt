@@ -7,7 +7,7 @@ use native.Mathlib.Omega.{arith}
 use borrow.Author.Tests.{not-false}
 use Rattle.numbers.specs.Limits.{PAGES}
 use Rattle.numbers.specs.Packing.{key_of, key}
-use Rattle.numbers.specs.declared.Answer.TheVariants.{Accepted}
+use Rattle.numbers.specs.Meaning.{accept}
 use Rattle.numbers.specs.declared.Operation.TheVariants as op
 use Rattle.numbers.specs.declared.SideOperation.TheVariants as sided
 use Rattle.numbers.specs.declared.VmId.{VmId}
@@ -16,7 +16,7 @@ use Rattle.numbers.specs.declared.PhysPage.{PhysPage}
 use Rattle.numbers.specs.declared.Side.{Side}
 use Rattle.table.specs.Table.{has_key, is_found, place, erase}
 use Rattle.table.specs.TableLaws.{found_at}
-use Rattle.table.specs.declared.Found.TheVariants.{At}
+use Rattle.std.specs.Prelude.{Some}
 use Rattle.model.specs.State.{Tables, route}
 use Rattle.model.specs.Views.{may_map}
 use Rattle.model.specs.Maps.{map_early, map_may, map_answer, map_table, unmap_table, without_slots}
@@ -34,10 +34,10 @@ pub record MapAllPassed (side : Side) (known pages : ℕ) (sets pairs map : List
   pub early : MapPassed known pages vm guest page access generation
   pub may : may_map side sets pairs vm page ≡ true
   pub spot : ℕ
-  pub placed : place key_of map (key vm guest) ≡ At spot
+  pub placed : place key_of map (key vm guest) ≡ Some spot
 
 pub map-may_passed : (side : Side) (known pages : ℕ) (sets pairs map : List ℕ) (vm guest page access generation : ℕ) {dropped word : ℕ} →
-    map_may side known pages sets pairs map vm guest page access generation ≡ Accepted dropped word → MapAllPassed side known pages sets pairs map vm guest page access generation
+    map_may side known pages sets pairs map vm guest page access generation ≡ accept dropped word → MapAllPassed side known pages sets pairs map vm guest page access generation
 unfolding map_may
 map-may_passed side known pages sets pairs map vm guest page access generation e =
     let (d, w, early, a) = then_passed (map_early known pages vm guest page access generation) _ e in
@@ -47,7 +47,7 @@ map-may_passed side known pages sets pairs map vm guest page access generation e
     record { early = map-passed known pages vm guest page access generation early; may = not-false _ may; spot = i; placed = p }
 
 pub map-all_passed : (side : Side) (known pages : ℕ) (sets pairs map cache : List ℕ) (vm guest page access generation : ℕ) {dropped word : ℕ} →
-    map_answer side known pages sets pairs map cache vm guest page access generation ≡ Accepted dropped word → MapAllPassed side known pages sets pairs map vm guest page access generation
+    map_answer side known pages sets pairs map cache vm guest page access generation ≡ accept dropped word → MapAllPassed side known pages sets pairs map vm guest page access generation
 unfolding map_answer
 map-all_passed side known pages sets pairs map cache vm guest page access generation e =
     let (d, w, may, a) = then_passed (map_may side known pages sets pairs map vm guest page access generation) _ e in map-may_passed side known pages sets pairs map vm guest page access generation may
@@ -66,7 +66,7 @@ map-kept side t v vm guest page access generation a =
     (cache_replace (route side t).walker (route side t).cache (key vm guest) _ q g.cache)
 
 pub map-good : (side : Side) (t : Tables) → ValidTables t → (vm : VmId) (guest : GuestPage) (page : PhysPage) (access generation : ℕ) {dropped word : ℕ} →
-    answer_of t (op.On side (sided.MapPage vm guest page access generation)) ≡ Accepted dropped word → AcceptedGood t (op.On side (sided.MapPage vm guest page access generation))
+    answer_of t (op.On side (sided.MapPage vm guest page access generation)) ≡ accept dropped word → AcceptedGood t (op.On side (sided.MapPage vm guest page access generation))
 map-good side t v vm guest page access generation e =
     route_good side t v _ _ _ (same_mapped (route side t) vm.0 guest.0 page.0 access generation)
     (map-kept side t v vm.0 guest.0 page.0 access generation

@@ -8,16 +8,15 @@ use native.Mathlib.Omega.{arith}
 use borrow.Author.Tests.{ltb-true, not-false}
 use Rattle.numbers.specs.CaseLaws.{cases}
 use Rattle.numbers.specs.Limits.{VMS, GUEST_PAGES, PORTS, SLOTS, IDLE}
-use Rattle.numbers.specs.Meaning.{target_number}
+use Rattle.numbers.specs.Meaning.{target_number, accept}
 use Rattle.numbers.specs.Packing.{key_of, key, slot_key, entry_of, WordFits}
 use Rattle.numbers.specs.PackingLaws.{word_key, word_filled}
-use Rattle.numbers.specs.declared.Answer.TheVariants.{Accepted}
 use Rattle.numbers.specs.declared.Operation.TheVariants as op
 use Rattle.numbers.specs.declared.SideOperation.TheVariants as sided
 use Rattle.numbers.specs.declared.GuestPage.{GuestPage}
 use Rattle.numbers.specs.declared.Side.{Side}
-use Rattle.numbers.specs.declared.Target.{Target}
-use Rattle.numbers.specs.declared.Target.TheVariants.{Idle, Vm}
+use Rattle.std.specs.Prelude.{Option, None, Some}
+use Rattle.numbers.specs.declared.VmId.{VmId}
 use Rattle.table.specs.ScanLaws.{found_never}
 use Rattle.table.specs.Table.{find, lookup, place, is_found}
 use Rattle.table.specs.TableLaws.{found_at, lookup_nothing}
@@ -33,28 +32,28 @@ use Rattle.model.proofs.RoutesKept.{cache_fill, cache_empty, slot_made, next_han
 use Rattle.model.proofs.OneRoute.{GoodRoute, route_of_lem, lengths_of, cache_route, ports_route, route_good}
 
 -- ---- a port
-target_good : (known : ℕ) (target : Target) → knows_target known target ≡ true → (target_number target ≡ IDLE) ⊎ (knows known (target_number target) ≡ true)
-target_good known Idle e = inl refl
-target_good known (Vm vm) e = inr e
+target_good : (known : ℕ) (target : Option VmId) → knows_target known target ≡ true → (target_number target ≡ IDLE) ⊎ (knows known (target_number target) ≡ true)
+target_good known None e = inl refl
+target_good known (Some vm) e = inr e
 
 -- what an accepted switch or binding tells
-record PortPassed (known port : ℕ) (target : Target) : Type 0 where
+record PortPassed (known port : ℕ) (target : Option VmId) : Type 0 where
   port_ok : port < PORTS
   target_ok : (target_number target ≡ IDLE) ⊎ (knows known (target_number target) ≡ true)
 
-port_passed : (known port : ℕ) (target : Target) {dropped word : ℕ} → port_answer known port target ≡ Accepted dropped word → PortPassed known port target
+port_passed : (known port : ℕ) (target : Option VmId) {dropped word : ℕ} → port_answer known port target ≡ accept dropped word → PortPassed known port target
 unfolding port_answer
 port_passed known port target e =
     let (a, b) = past (not (is_port port && is_target target)) _ _ _ e in
     let (c, d) = past (not (knows_target known target)) _ _ _ b in
     record { port_ok = ltb-true port PORTS (hold (is_port port) (is_target target) a).0; target_ok = target_good known target (not-false _ c) }
 
-port_kept : (side : Side) (t : Tables) → ValidTables t → (port : ℕ) (target : Target) → PortPassed t.known port target → GoodRoute side t (with_ports (route side t) (port_ports (route side t).ports port target))
+port_kept : (side : Side) (t : Tables) → ValidTables t → (port : ℕ) (target : Option VmId) → PortPassed t.known port target → GoodRoute side t (with_ports (route side t) (port_ports (route side t).ports port target))
 port_kept side t v port target a =
     let g = route_of_lem side t v in
     ports_route side t (route side t) _ g (ports_set t.known (route side t).ports port (target_number target) (lengths_of side t v).ports a.port_ok a.target_ok g.ports)
 
-pub port_good : (side : Side) (t : Tables) → ValidTables t → (port : ℕ) (target : Target) {dropped word : ℕ} → answer_of t (op.On side (sided.GivePort port target)) ≡ Accepted dropped word → AcceptedGood t (op.On side (sided.GivePort port target))
+pub port_good : (side : Side) (t : Tables) → ValidTables t → (port : ℕ) (target : Option VmId) {dropped word : ℕ} → answer_of t (op.On side (sided.GivePort port target)) ≡ accept dropped word → AcceptedGood t (op.On side (sided.GivePort port target))
 port_good side t v port target e =
     route_good side t v _ _ _ (same_switched (route side t) port target) (port_kept side t v port target (port_passed t.known port target e))
 
@@ -65,7 +64,7 @@ pub record FillPassed (ports walker : List ℕ) (port guest : ℕ) : Type 0 wher
   pub vm_ok : vm_on ports port < VMS
   pub walks : lookup key_of walker (key (vm_on ports port) guest) ≡ 0 → ⊥
 
-pub fill_passed : (ports walker : List ℕ) (port guest : ℕ) {dropped word : ℕ} → fill_answer ports walker port guest ≡ Accepted dropped word → FillPassed ports walker port guest
+pub fill_passed : (ports walker : List ℕ) (port guest : ℕ) {dropped word : ℕ} → fill_answer ports walker port guest ≡ accept dropped word → FillPassed ports walker port guest
 unfolding fill_answer
 fill_passed ports walker port guest e =
     let (a, b) = past (not (is_port port && is_guest guest)) _ _ _ e in
@@ -98,7 +97,7 @@ fill_kept side t v port guest a =
     let r = route side t in
     cache_route side t r _ _ g (fill_cache_lem r.cache r.hand r.ports r.walker port guest a g.cache) (fill_hand_lem r.cache r.hand r.ports port guest g.hand)
 
-pub fill_good : (side : Side) (t : Tables) → ValidTables t → (port : ℕ) (guest : GuestPage) {dropped word : ℕ} → answer_of t (op.On side (sided.FillSlot port guest)) ≡ Accepted dropped word → AcceptedGood t (op.On side (sided.FillSlot port guest))
+pub fill_good : (side : Side) (t : Tables) → ValidTables t → (port : ℕ) (guest : GuestPage) {dropped word : ℕ} → answer_of t (op.On side (sided.FillSlot port guest)) ≡ accept dropped word → AcceptedGood t (op.On side (sided.FillSlot port guest))
 fill_good side t v port guest e =
     route_good side t v _ _ _ (same_filled (route side t) port guest.0)
     (fill_kept side t v port guest.0 (fill_passed (route side t).ports (route side t).walker port guest.0 e))

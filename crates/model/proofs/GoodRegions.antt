@@ -9,7 +9,7 @@ use borrow.Author.Tests.{not-false}
 use Rattle.numbers.specs.CaseLaws.{cases, equal}
 use Rattle.numbers.specs.Limits.{VMS}
 use Rattle.numbers.specs.Packing.{page_of, vm_of}
-use Rattle.numbers.specs.declared.Answer.TheVariants.{Accepted}
+use Rattle.numbers.specs.Meaning.{accept}
 use Rattle.numbers.specs.declared.Operation.TheVariants as op
 use Rattle.numbers.specs.declared.SideOperation.TheVariants as sided
 use Rattle.numbers.specs.declared.Side.{Side}
@@ -80,7 +80,7 @@ module _ (side : Side) (t : Tables) (v : ValidTables t) (region : Region) (p : I
       rw (same, sets_route side t (insert_route (route side t) region) inserted) at
       (insert_route_lem side (with_sets t inserted) settled region p.early (λ k h. taken.edited.inside (page_in region k) (omega arith) (omega arith)) (rw same p.absent) (rw same p.room))
 
-pub insert_good : (side : Side) (t : Tables) → ValidTables t → (region : Region) {dropped word : ℕ} → answer_of t (op.On side (sided.InsertRegion region)) ≡ Accepted dropped word → AcceptedGood t (op.On side (sided.InsertRegion region))
+pub insert_good : (side : Side) (t : Tables) → ValidTables t → (region : Region) {dropped word : ℕ} → answer_of t (op.On side (sided.InsertRegion region)) ≡ accept dropped word → AcceptedGood t (op.On side (sided.InsertRegion region))
 insert_good side t v region e =
     let p = insert_passed side t.known t.setup.pages _ t.sets (route side t).map region e in
     let r = insert_route (route side t) region in
@@ -181,7 +181,7 @@ module _ (side : Side) (t : Tables) (v : ValidTables t) (region : Region) (p : R
           let e : page_in region k ≡ page = omega (arith, d.low) in
           rw e at held
 
-pub remove_good : (side : Side) (t : Tables) → ValidTables t → (region : Region) {dropped word : ℕ} → answer_of t (op.On side (sided.RemoveRegion region)) ≡ Accepted dropped word → AcceptedGood t (op.On side (sided.RemoveRegion region))
+pub remove_good : (side : Side) (t : Tables) → ValidTables t → (region : Region) {dropped word : ℕ} → answer_of t (op.On side (sided.RemoveRegion region)) ≡ accept dropped word → AcceptedGood t (op.On side (sided.RemoveRegion region))
 remove_good side t v region e =
     let p = remove_passed side t.known t.setup.pages _ t.sets t.pairs (route side t).map (route side t).cache region e in
     let r = remove_route (route side t) region in

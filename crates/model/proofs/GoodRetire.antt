@@ -12,7 +12,7 @@ use Rattle.numbers.specs.CaseLaws.{cases, equal}
 use Rattle.numbers.specs.Limits.{PAGES, VMS}
 use Rattle.numbers.specs.Packing.{filled_of, page_of, vm_of, left_of, right_of, pair_key_of}
 use Rattle.numbers.specs.PackingLaws.{unported, unported_vm, unported_page, unported_filled}
-use Rattle.numbers.specs.declared.Answer.TheVariants.{Accepted}
+use Rattle.numbers.specs.Meaning.{accept}
 use Rattle.numbers.specs.declared.Operation.TheVariants as op
 use Rattle.numbers.specs.declared.Side.{Side}
 use Rattle.numbers.specs.declared.Side.TheVariants.{Cpu, Dma}
@@ -45,7 +45,7 @@ pub record RetirePassed (t : Tables) (vm : ℕ) : Type 0 where
   pub no_cpu : on_port t.cpu.ports vm ≡ false
   pub no_device : on_port t.dma.ports vm ≡ false
 
-pub retire_passed : (t : Tables) (vm : VmId) {dropped word : ℕ} → answer_of t (op.RetireVm vm) ≡ Accepted dropped word → RetirePassed t vm.0
+pub retire_passed : (t : Tables) (vm : VmId) {dropped word : ℕ} → answer_of t (op.RetireVm vm) ≡ accept dropped word → RetirePassed t vm.0
 unfolding retire_answer retire_may
 retire_passed t vm e =
     let (d, w, may, rest) = then_passed (retire_may t.known t.cpu.ports t.dma.ports vm.0) _ e in
@@ -240,7 +240,7 @@ module _ (t : Tables) (val : ValidTables t) (vm : ℕ) (p : RetirePassed t vm) w
       dma_clash (inl m) (n, c) = mixed other vm o p.early.vm_ok n c m
       dma_clash (inr m) (n, c) = n (val.pages.one_dma other vm page o p.early.vm_ok b c m)
 
-pub retire_good : (t : Tables) → ValidTables t → (vm : VmId) {dropped word : ℕ} → answer_of t (op.RetireVm vm) ≡ Accepted dropped word → AcceptedGood t (op.RetireVm vm)
+pub retire_good : (t : Tables) → ValidTables t → (vm : VmId) {dropped word : ℕ} → answer_of t (op.RetireVm vm) ≡ accept dropped word → AcceptedGood t (op.RetireVm vm)
 unfolding retire_pairs
 retire_good t v vm e =
     let p = retire_passed t vm e in

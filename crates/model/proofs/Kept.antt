@@ -1,13 +1,12 @@
 -- Every step owes what `Good` says, and every state on the way of a sequence is valid.
 use Prim.Native.Nat.{ℕ, ◌<◌}
 use mathlib.Core.List.{List}
-use mathlib.Core.Option.{Option, none, some}
+use Rattle.std.specs.Prelude.{Option, None, Some, Ok, Err}
 use mathlib.Core.Path.{◌≡◌, ◌∙◌}
 use native.Mathlib.Omega.{arith}
 use lib.ListN.{length}
 use Rattle.numbers.specs.Limits.{PAGE_WORDS}
-use Rattle.numbers.specs.declared.Answer.{Answer}
-use Rattle.numbers.specs.declared.Answer.TheVariants.{Accepted, Refused}
+use Rattle.numbers.specs.Meaning.{Answer, accept}
 use Rattle.numbers.specs.declared.Operation.{Operation}
 use Rattle.numbers.specs.declared.Operation.TheVariants as op
 use Rattle.numbers.specs.declared.Side.{Side}
@@ -16,7 +15,8 @@ use Rattle.numbers.specs.declared.SideOperation.TheVariants as sided
 use Rattle.model.specs.State.{Tables, State}
 use Rattle.model.specs.Effect.{accepted, kept, memory_index}
 use Rattle.model.specs.Step.{answer_of, control, step}
-use Rattle.model.specs.Start.{Told, Lent, start_answer, start}
+use Rattle.model.specs.Start.{Told, start_answer, start}
+use Rattle.model.specs.Header.{Lists}
 use Rattle.model.specs.Sequence.{operation_in, step_known, step_row, Progress, beginning, turn, after, row_count, shape_answer, sequence, row_at}
 use Rattle.model.proofs.StepShape.{step_sizes}
 use Rattle.model.specs.Valid.{ValidTables, Valid}
@@ -33,7 +33,7 @@ use Rattle.model.proofs.GoodRetire.{retire_good}
 
 -- ---- each operation, where it is accepted
 module _ (t : Tables) (v : ValidTables t) {dropped word : ℕ} where
-  side_good : (side : Side) (operation : SideOperation) → answer_of t (op.On side operation) ≡ Accepted dropped word → AcceptedGood t (op.On side operation)
+  side_good : (side : Side) (operation : SideOperation) → answer_of t (op.On side operation) ≡ accept dropped word → AcceptedGood t (op.On side operation)
   side_good side (sided.MapPage vm guest page access generation) e = map-good side t v vm guest page access generation e
   side_good side (sided.UnmapPage vm guest) e = unmap_good side t v vm guest
   side_good side (sided.InsertRegion region) e = insert_good side t v region e
@@ -44,7 +44,7 @@ module _ (t : Tables) (v : ValidTables t) {dropped word : ℕ} where
   side_good side (sided.ReadWord port guest at) e = read_good side t v port guest at e
   side_good side (sided.WriteWord port guest at value) e = write_good side t v port guest at value e
 
-  accepted_good : (operation : Operation) → answer_of t operation ≡ Accepted dropped word → AcceptedGood t operation
+  accepted_good : (operation : Operation) → answer_of t operation ≡ accept dropped word → AcceptedGood t operation
   accepted_good (op.AddVm vm) e = add_vm_good t v vm e
   accepted_good (op.RemoveVm vm) e = remove_vm_good t v vm e
   accepted_good (op.AssignPage vm page) e = assign_good t v vm page e
@@ -71,8 +71,8 @@ unfolding step_row
 row_valid s v row = go (operation_in row)
   where
     go : (found : Option Operation) → Valid (step_known s found).state
-    go none = v
-    go (some operation) = step_valid s v operation
+    go None = v
+    go (Some operation) = step_valid s v operation
 
 -- ---- every word of a page that an operation reads or writes is one of the memory's
 pub touched_inside : (s : State) → Valid s → (operation : Operation) (bit vm page word : ℕ) → Touches bit (control s.tables operation).effect vm page → word < PAGE_WORDS →
@@ -92,9 +92,9 @@ unfolding sequence
 sequence_valid s v rows room = go (shape_answer rows room)
   where
     go : (answer : Answer) → Valid (kept answer (beginning s room) (after rows (row_count rows) (beginning s room))).state
-    go (Accepted dropped word) = after_valid rows (row_count rows) (beginning s room) v
-    go (Refused refusal index) = v
+    go (Ok ok) = after_valid rows (row_count rows) (beginning s room) v
+    go (Err err) = v
 
 -- ---- so the machine never leaves the valid states: after a start that was accepted, however many rows follow
-pub started_valid : (told : Told) (lent : Lent) → start_answer told lent ≡ accepted → (rows room : List ℕ) (k : ℕ) → Valid (after rows k (beginning (start told lent).state room)).state
+pub started_valid : (told : Told) (lent : Lists) → start_answer told lent ≡ accepted → (rows room : List ℕ) (k : ℕ) → Valid (after rows k (beginning (start told lent).state room)).state
 started_valid told lent e rows room k = after_valid rows k (beginning (start told lent).state room) (start_valid told lent e)

@@ -9,9 +9,8 @@ use mathlib.Core.Path.{◌≡◌, refl, sym, ◌∙◌}
 use native.Mathlib.Omega.{arith}
 use lib.ListN.{length}
 use Rattle.numbers.specs.CaseLaws.{equal}
-use Rattle.numbers.specs.Meaning.{number_of}
-use Rattle.numbers.specs.declared.Answer.{Answer}
-use Rattle.numbers.specs.declared.Answer.TheVariants.{Accepted, Refused}
+use Rattle.numbers.specs.Meaning.{number_of, Answer}
+use Rattle.std.specs.Prelude.{Ok, Err}
 use Rattle.table.specs.Scan.{any_below}
 use Rattle.model.specs.State.{State}
 use Rattle.model.specs.Step.{Stepped}
@@ -22,9 +21,9 @@ use Rattle.model.proofs.AnswerNumbers.{is_in, refusal_lists, listed, operation_a
 
 -- ---- one row
 listed_of : {operation count : ℕ} (answer : Answer) → Fits operation count answer → 0 < number_of answer → is_in (listed operation) (number_of answer) ≡ true
-listed_of (Accepted dropped word) (taken d w) l = absurd (omega arith)
-listed_of (Refused refusal index) (plain may) l = may
-listed_of (Refused refusal index) (found may region searching inside) l = may
+listed_of (Ok ok) (taken d w) l = absurd (omega arith)
+listed_of (Err err) (plain may) l = may
+listed_of (Err err) (found may region searching inside) l = may
 
 pub refusals_listed : (s : State) (row : List ℕ) → 0 < number_of (step_row s row).answer → is_in (listed (operation_at row)) (number_of (step_row s row).answer) ≡ true
 refusals_listed s row = listed_of (step_row s row).answer (answer_fits s row)

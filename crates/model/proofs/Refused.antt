@@ -4,8 +4,8 @@ use mathlib.Core.Bool.{true, true≢false}
 use mathlib.Core.Logic.{◌⊎◌, inl}
 use mathlib.Core.Path.{◌≡◌, refl, sym, ◌∙◌}
 use Rattle.numbers.specs.Limits.{VMS}
-use Rattle.numbers.specs.declared.Answer.{Answer}
-use Rattle.numbers.specs.declared.Answer.TheVariants.{Accepted, Refused}
+use Rattle.numbers.specs.Meaning.{Answer, accept}
+use Rattle.std.specs.Prelude.{Ok, Err}
 use Rattle.numbers.specs.declared.Operation.{Operation}
 use Rattle.table.specs.Table.{Has}
 use Rattle.model.specs.State.{Tables}
@@ -34,12 +34,12 @@ abbrev pub AcceptedGood : Tables → Operation → Type 0
 AcceptedGood t operation = Good t operation (record { answer = answer_of t operation; tables = next_of t operation; effect = effect_of t operation })
 
 decided_good : (t : Tables) → ValidTables t → (operation : Operation) (answer : Answer) (new : Tables) (effect : Effect) →
-    ((dropped word : ℕ) → answer ≡ Accepted dropped word → Good t operation (record { answer = answer; tables = new; effect = effect })) →
+    ((dropped word : ℕ) → answer ≡ accept dropped word → Good t operation (record { answer = answer; tables = new; effect = effect })) →
     Good t operation (decided t answer new effect)
 unfolding decided
-decided_good t v operation (Accepted dropped word) new effect good = good dropped word refl
-decided_good t v operation (Refused refusal index) new effect good = quiet_good t operation (Refused refusal index) t v (λ vm page l b h. h) (λ w h. inl h)
+decided_good t v operation (Ok ok) new effect good = good ok.dropped ok.word refl
+decided_good t v operation (Err err) new effect good = quiet_good t operation (Err err) t v (λ vm page l b h. h) (λ w h. inl h)
 
-pub good_where_accepted : (t : Tables) → ValidTables t → (operation : Operation) → ((dropped word : ℕ) → answer_of t operation ≡ Accepted dropped word → AcceptedGood t operation) → Good t operation (control t operation)
+pub good_where_accepted : (t : Tables) → ValidTables t → (operation : Operation) → ((dropped word : ℕ) → answer_of t operation ≡ accept dropped word → AcceptedGood t operation) → Good t operation (control t operation)
 unfolding control
 good_where_accepted t v operation = decided_good t v operation (answer_of t operation) (next_of t operation) (effect_of t operation)

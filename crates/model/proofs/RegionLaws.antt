@@ -5,8 +5,7 @@ use mathlib.Core.List.{List}
 use mathlib.Core.Path.{◌≡◌}
 use borrow.Author.Tests.{ltb-false, leb-true, not-false}
 use lib.Dec.{ltb}
-use Rattle.numbers.specs.declared.Answer.{Answer}
-use Rattle.numbers.specs.declared.Answer.TheVariants.{Accepted}
+use Rattle.numbers.specs.Meaning.{Answer, accept}
 use Rattle.numbers.specs.declared.Refusal.{Refusal}
 use Rattle.numbers.specs.declared.Refusal.TheVariants.{PageNotHeld, PageClaimed, MappingDiffers, MappingPresent, StillInUse}
 use Rattle.numbers.specs.declared.Side.{Side}
@@ -21,7 +20,7 @@ use Rattle.model.specs.Regions.{clash, region_early, not_free, present, claimed,
 abbrev pub NoneFails : (ℕ → Bool) → Region → Type 0
 NoneFails fails region = (k : ℕ) → k < region.count → fails k ≡ false
 
-clash_passed : (fails : ℕ → Bool) (region : Region) (refusal : Refusal) (next : Answer) {dropped word : ℕ} → clash fails region refusal next ≡ Accepted dropped word → NoneFails fails region × (next ≡ Accepted dropped word)
+clash_passed : (fails : ℕ → Bool) (region : Region) (refusal : Refusal) (next : Answer) {dropped word : ℕ} → clash fails region refusal next ≡ accept dropped word → NoneFails fails region × (next ≡ accept dropped word)
 clash_passed fails region refusal next e =
     let (f, rest) = past (ltb (lowest fails region.count) region.count) refusal _ next e in
     (λ k h. lowest_none fails region.count (ltb-false _ _ f) k h, rest)
@@ -34,7 +33,7 @@ pub record InsertPassed (side : Side) (known pages : ℕ) (sets map : List ℕ) 
   pub room : region.count ≤ free_entries map
 
 pub insert_passed : (side : Side) (known pages : ℕ) (unit : Bool) (sets map : List ℕ) (region : Region) {dropped word : ℕ} →
-    insert_answer side known pages unit sets map region ≡ Accepted dropped word → InsertPassed side known pages sets map region
+    insert_answer side known pages unit sets map region ≡ accept dropped word → InsertPassed side known pages sets map region
 unfolding insert_answer
 insert_passed side known pages unit sets map region e =
     let (d, w, early, a) = then_passed (region_early known pages region) _ e in
@@ -52,7 +51,7 @@ pub record RemovePassed (side : Side) (known pages : ℕ) (sets pairs map : List
   pub unused : NoneFails (in_use side pairs map region) region
 
 pub remove_passed : (side : Side) (known pages : ℕ) (unit : Bool) (sets pairs map cache : List ℕ) (region : Region) {dropped word : ℕ} →
-    remove_answer side known pages unit sets pairs map cache region ≡ Accepted dropped word → RemovePassed side known pages sets pairs map region
+    remove_answer side known pages unit sets pairs map cache region ≡ accept dropped word → RemovePassed side known pages sets pairs map region
 unfolding remove_answer remove_may
 remove_passed side known pages unit sets pairs map cache region e =
     let (n, r, may, _) = then_passed (remove_may side known pages unit sets pairs map region) _ e in

@@ -14,8 +14,7 @@ use Rattle.numbers.specs.declared.Side.{Side}
 use Rattle.table.specs.ScanLaws.{has_wipe_inv}
 use Rattle.table.specs.Table.{Has, is_found, word_at, free_entries, find, lookup, put}
 use Rattle.table.specs.TableLaws.{lookup_nothing, lookup_put_other, place_room, free_put_new}
-use Rattle.table.specs.declared.Found.{Found}
-use Rattle.table.specs.declared.Found.TheVariants.{At, Nothing}
+use Rattle.std.specs.Prelude.{Option, Some, None}
 use Rattle.numbers.specs.declared.Region.{Region}
 use Rattle.model.specs.State.{Tables, route, with_route}
 use Rattle.model.specs.Views.{claims, targeted, but_key}
@@ -35,9 +34,9 @@ missing : (ws : List ℕ) (k : ℕ) → is_found (find key_of ws k) ≡ false �
 unfolding lookup
 missing ws k e = go (find key_of ws k) e
   where
-    go : (f : Found) → is_found f ≡ false → word_at ws f ≡ 0
-    go (At i) e = absurd (true≢false e)
-    go Nothing e = refl
+    go : (f : Option ℕ) → is_found f ≡ false → word_at ws f ≡ 0
+    go (Some i) e = absurd (true≢false e)
+    go None e = refl
 
 -- ---- insert: the first k entries are in, and the places for the others are kept
 record Filling (side : Side) (t : Tables) (region : Region) (k : ℕ) (map walker : List ℕ) : Type 0 where

@@ -11,7 +11,7 @@ use Rattle.numbers.specs.CaseLaws.{cases, equal}
 use Rattle.numbers.specs.Limits.{VMS, PAGES, PORTS, GUEST_PAGES}
 use Rattle.numbers.specs.Packing.{filled_of, page_of, vm_of, key_of, key, slot_key}
 use Rattle.numbers.specs.PackingLaws.{unported}
-use Rattle.numbers.specs.declared.Answer.TheVariants.{Accepted}
+use Rattle.numbers.specs.Meaning.{accept}
 use Rattle.numbers.specs.declared.Operation.TheVariants as op
 use Rattle.numbers.specs.declared.Side.{Side}
 use Rattle.numbers.specs.declared.Side.TheVariants.{Cpu, Dma}
@@ -126,7 +126,7 @@ module _ (t : Tables) (v : ValidTables t) (vm : VmId) where
         cache = table_left Dma t.sets vm.0 t.dma.cache v.dma.cache.once (slot_in Dma);
       }
 
-  pub retire_leaves : {dropped word : ℕ} → answer_of t (op.RetireVm vm) ≡ Accepted dropped word → Leaves t vm.0
+  pub retire_leaves : {dropped word : ℕ} → answer_of t (op.RetireVm vm) ≡ accept dropped word → Leaves t vm.0
   unfolding retire_pairs knows
   retire_leaves e =
       let p = retire_passed t vm e in

@@ -19,8 +19,7 @@ use Rattle.table.specs.ScanLaws.{length-wipe, has_wipe_inv}
 use Rattle.table.specs.Table.{free_entries, Has, has_key, Distinct, lookup, place, put, erase, set_at, or_else}
 use Rattle.table.specs.TableLaws.{Alone, lookup_has, has_set_inv, distinct_set, distinct_empty, find_none, place_is, place_none, has_put_inv, distinct_put, distinct_wipe, length-put, lookup_put_other}
 use Rattle.table.specs.AgreeLaws.{Keyed, agree_free, agree_place, agree_put, agree_wipe, lookup_wipe}
-use Rattle.table.specs.declared.Found.{Found}
-use Rattle.table.specs.declared.Found.TheVariants.{At, Nothing}
+use Rattle.std.specs.Prelude.{Option, Some, None}
 use Rattle.numbers.specs.declared.Region.{Region}
 use Rattle.model.specs.Views.{knows, may_map}
 use Rattle.model.specs.Regions.{in_region}
@@ -80,7 +79,7 @@ module _ (side : Side) (pages known : ℕ) (sets pairs : List ℕ) where
     maps_free = agree_free key_of map walker g.as_long (map-keyed walker g.walker) g.walker.once g.same
 
     -- one entry into both, where the map has a place for it
-    pub maps_put : (k w i : ℕ) → EntryGood side pages known sets pairs w → key_of w ≡ k → place key_of map k ≡ At i → MapsGood (put key_of map k w) (put key_of walker k w)
+    pub maps_put : (k w i : ℕ) → EntryGood side pages known sets pairs w → key_of w ≡ k → place key_of map k ≡ Some i → MapsGood (put key_of map k w) (put key_of walker k w)
     unfolding SameMap
     maps_put k w i e q p =
         let (j, p') = agree_place key_of refl map walker k i (rw q at (key_filled w e.filled)) g.as_long (map-keyed walker g.walker) g.walker.once g.same p in
@@ -141,9 +140,9 @@ module _ (walker cache : List ℕ) (g : CacheGood walker cache) where
   unfolding fill_place
   cache_fill hand k w s e = go (place key_of cache k) refl
     where
-      go : (f : Found) → place key_of cache k ≡ f → CacheGood walker (set_at cache (or_else f (At hand)) w)
-      go (At i) p = cache_store k i w s e (place_is key_of cache k i g.once (rw e at (key_filled w s.filled)) p).alone
-      go Nothing p = cache_store k hand w s e (λ j h n. find_none key_of cache k (place_none key_of cache k p) j h)
+      go : (f : Option ℕ) → place key_of cache k ≡ f → CacheGood walker (set_at cache (or_else f (Some hand)) w)
+      go (Some i) p = cache_store k i w s e (place_is key_of cache k i g.once (rw e at (key_filled w s.filled)) p).alone
+      go None p = cache_store k hand w s e (λ j h n. find_none key_of cache k (place_none key_of cache k p) j h)
 
   -- an entry into the walker at an address that no slot has
   pub cache_put : (k w : ℕ) → key_of w ≡ k → ((u : ℕ) → Has cache u → k ≡ address_of u → ⊥) → CacheGood (put key_of walker k w) cache

@@ -1,13 +1,12 @@
 -- A row of an operation's number and arguments is decoded to that operation.
 use mathlib.Core.Bool.{false}
 use mathlib.Core.List.{◌∷◌}
-use mathlib.Core.Option.{some}
+use Rattle.std.specs.Prelude.{Some, Option, None}
 use mathlib.Core.Path.{◌≡◌, refl}
 use lib.Dec.{eqb}
 use Rattle.numbers.specs.Limits.{IDLE}
 use Rattle.numbers.specs.Meaning.{target_number, side_number, operation_number, side_arguments, operation_arguments}
-use Rattle.numbers.specs.declared.Target.{Target}
-use Rattle.numbers.specs.declared.Target.TheVariants.{Idle, Vm}
+use Rattle.numbers.specs.declared.VmId.{VmId}
 use Rattle.numbers.specs.declared.Operation.{Operation}
 use Rattle.numbers.specs.declared.Operation.TheVariants as op
 use Rattle.numbers.specs.declared.Side.{Side}
@@ -17,9 +16,9 @@ use Rattle.numbers.specs.declared.SideOperation.TheVariants as sided
 use Rattle.model.specs.Sequence.{operation_in, target_of}
 
 -- rows write every target but a VM of idle's number, which is no VM's
-abbrev pub Writable : Target → Type 0
-Writable Idle = Unit {0}
-Writable (Vm vm) = eqb vm.0 IDLE ≡ false
+abbrev pub Writable : Option VmId → Type 0
+Writable None = Unit {0}
+Writable (Some vm) = eqb vm.0 IDLE ≡ false
 
 abbrev pub SideWritable : SideOperation → Type 0
 SideWritable (sided.MapPage vm guest page access generation) = Unit {0}
@@ -44,11 +43,11 @@ RowWritable op.DataBarrier = Unit {0}
 RowWritable op.InstructionBarrier = Unit {0}
 RowWritable (op.RetireVm vm) = Unit {0}
 
-target_back : (target : Target) → Writable target → target_of (target_number target) ≡ target
-target_back Idle w = refl
-target_back (Vm vm) w = rw w
+target_back : (target : Option VmId) → Writable target → target_of (target_number target) ≡ target
+target_back None w = refl
+target_back (Some vm) w = rw w
 
-side_back : (side : Side) (operation : SideOperation) → SideWritable operation → operation_in (side_number side operation ∷ side_arguments operation) ≡ some (op.On side operation)
+side_back : (side : Side) (operation : SideOperation) → SideWritable operation → operation_in (side_number side operation ∷ side_arguments operation) ≡ Some (op.On side operation)
 unfolding operation_in
 side_back Cpu (sided.MapPage vm guest page access generation) w = refl
 side_back Cpu (sided.UnmapPage vm guest) w = refl
@@ -69,7 +68,7 @@ side_back Dma (sided.EmptySlot slot) w = refl
 side_back Dma (sided.ReadWord port guest word) w = refl
 side_back Dma (sided.WriteWord port guest word value) w = refl
 
-pub row_back : (operation : Operation) → RowWritable operation → operation_in (operation_number operation ∷ operation_arguments operation) ≡ some operation
+pub row_back : (operation : Operation) → RowWritable operation → operation_in (operation_number operation ∷ operation_arguments operation) ≡ Some operation
 unfolding operation_in
 row_back (op.AddVm vm) w = refl
 row_back (op.RemoveVm vm) w = refl

@@ -3,7 +3,7 @@ use Prim.Native.Nat.{ℕ, zero, suc, ◌≤◌, ◌<◌}
 use mathlib.Core.Bool.{Bool, true, false}
 use mathlib.Core.List.{List, [], ◌∷◌}
 use mathlib.Core.Logic.{◌⊎◌, inl, inr, ⊎_elim}
-use mathlib.Core.Option.{Option, none, some}
+use Rattle.std.specs.Prelude.{Option, None, Some, Ok, Err}
 use mathlib.Core.Path.{◌≡◌, refl, sym, ap, subst, ◌∙◌}
 use native.Mathlib.Omega.{arith}
 use lib.Dec.{eqb}
@@ -12,8 +12,7 @@ use borrow.Author.Tests.{eqb-true, eq-eqb, ne_eqb}
 use Rattle.numbers.specs.CaseLaws.{none_some}
 use Rattle.numbers.specs.Limits.{PAGE_WORDS}
 use Rattle.numbers.specs.Packing.{left_of, right_of}
-use Rattle.numbers.specs.declared.Answer.{Answer}
-use Rattle.numbers.specs.declared.Answer.TheVariants.{Accepted, Refused}
+use Rattle.numbers.specs.Meaning.{Answer}
 use Rattle.numbers.specs.declared.Side.{Side}
 use Rattle.numbers.specs.declared.SideOperation.{SideOperation}
 use Rattle.numbers.specs.declared.SideOperation.TheVariants as sided
@@ -75,8 +74,8 @@ module _ (t : Tables) where
 
 -- ---- answers but for the word
 unread : (effect : Effect) (memory : List ℕ) (x : Answer) → without_word (answer_with effect memory x) ≡ without_word x
-unread (reads vm places) memory (Accepted dropped word) = refl
-unread (reads vm places) memory (Refused refusal index) = refl
+unread (reads vm places) memory (Ok ok) = refl
+unread (reads vm places) memory (Err err) = refl
 unread (writes vm xs) memory x = refl
 unread (clears pages) memory x = refl
 
@@ -92,8 +91,8 @@ Unchanged s s' page word = word_in s'.memory page word ≡ word_in s.memory page
 -- ---- what the statements say of effects they say of memory: a row leaves what its effect leaves
 known_effect : (s : State) (found : Option Operation) → (step_known s found).state.memory ≡ apply (effect_in s.tables found) s.memory
 unfolding step apply cleared_pages
-known_effect s none = refl
-known_effect s (some x) = refl
+known_effect s None = refl
+known_effect s (Some x) = refl
 
 pub row_effect : (s : State) (row : List ℕ) → (step_row s row).state.memory ≡ apply (effect_in s.tables (operation_in row)) s.memory
 unfolding step_row
@@ -109,8 +108,8 @@ over (writes w xs) vm page word h wrote a b l = stored_over page word h xs wrote
 known_over : (t : Tables) (found : Option Operation) (vm page word : ℕ) → word < PAGE_WORDS → Wrote (effect_in t found) vm page word → (a b : List ℕ) → length a ≡ length b →
     word_in (step_known (record { tables = t; memory = a }) found).state.memory page word ≡ word_in (step_known (record { tables = t; memory = b }) found).state.memory page word
 unfolding step
-known_over t none vm page word h wrote a b l = absurd wrote
-known_over t (some x) vm page word h wrote a b l = over (control t x).effect vm page word h wrote a b l
+known_over t None vm page word h wrote a b l = absurd wrote
+known_over t (Some x) vm page word h wrote a b l = over (control t x).effect vm page word h wrote a b l
 
 pub written_over : (t : Tables) (row : List ℕ) (vm page word : ℕ) → word < PAGE_WORDS → Wrote (effect_in t (operation_in row)) vm page word → (a b : List ℕ) → length a ≡ length b →
     word_in (step_row (record { tables = t; memory = a }) row).state.memory page word ≡ word_in (step_row (record { tables = t; memory = b }) row).state.memory page word
@@ -159,8 +158,8 @@ module _ (members : ℕ → Bool) where
   BothAlike = StepAlike members (Private members)
 
   module _ (t : Tables) (v : ValidTables t) (a b : List ℕ) (like : Alike members (Private members) (record { tables = t; memory = a }) (record { tables = t; memory = b })) where
-    operation_alike : (x y : Operation) → without_value x ≡ without_value y → Near members (Private members) t (control t x).effect (control t y).effect → SharesEqual members t (some x) a b →
-        BothAlike t (some x) (step (record { tables = t; memory = a }) x) (step (record { tables = t; memory = b }) y)
+    operation_alike : (x y : Operation) → without_value x ≡ without_value y → Near members (Private members) t (control t x).effect (control t y).effect → SharesEqual members t (Some x) a b →
+        BothAlike t (Some x) (step (record { tables = t; memory = a }) x) (step (record { tables = t; memory = b }) y)
     unfolding step
     operation_alike x y shape near shares =
         let c = control t x in
@@ -185,10 +184,10 @@ module _ (members : ℕ → Bool) where
     -- a row of no operation is refused in both
     known_alike : (x y : Option Operation) → without_value_in x ≡ without_value_in y → Near members (Private members) t (effect_in t x) (effect_in t y) → SharesEqual members t x a b →
         BothAlike t x (step_known (record { tables = t; memory = a }) x) (step_known (record { tables = t; memory = b }) y)
-    known_alike none none shape near shares = record { states = like; answers = record { but_word = refl; whole = λ n. refl } }
-    known_alike (some x) (some y) shape near shares = operation_alike x y (cc shape) near shares
-    known_alike none (some y) shape near shares = absurd (none_some shape)
-    known_alike (some x) none shape near shares = absurd (none_some (sym shape))
+    known_alike None None shape near shares = record { states = like; answers = record { but_word = refl; whole = λ n. refl } }
+    known_alike (Some x) (Some y) shape near shares = operation_alike x y (cc shape) near shares
+    known_alike None (Some y) shape near shares = absurd (none_some shape)
+    known_alike (Some x) None shape near shares = absurd (none_some (sym shape))
 
   pub secret_step : (s s' : State) (row row' : List ℕ) → Valid s → Alike members (Private members) s s' → Asked members (Private members) s s' row row' →
       BothAlike s.tables (operation_in row) (step_row s row) (step_row s' row')
@@ -202,8 +201,8 @@ module _ (members : ℕ → Bool) where
   secret_read s s' row v like = go (operation_in row)
     where
       go : (found : Option Operation) → SameRead members (Private members) s.tables (effect_in s.tables found) s.memory s'.memory
-      go none k n = refl
-      go (some x) k n =
+      go None k n = refl
+      go (Some x) k n =
           let c = control s.tables x in
           same_read members s.tables v.tables x c.answer c.tables s.memory s'.memory like.words c.effect (sound s.tables v.tables x) k n
 
@@ -225,8 +224,8 @@ module _ (members : ℕ → Bool) where
     known_own_write : (found : Option Operation) (page word : ℕ) → word < PAGE_WORDS → Private members s.tables page → Private members (step_known s found).state.tables page →
         Unchanged s (step_known s found).state page word ⊎ ((vm : ℕ) × (members vm ≡ true) × Wrote (effect_in s.tables found) vm page word)
     unfolding step
-    known_own_write none page word h p p' = inl refl
-    known_own_write (some x) page word h p p' =
+    known_own_write None page word h p p' = inl refl
+    known_own_write (Some x) page word h p p' =
         let c = control s.tables x in
         only_own members s.tables v.tables x c.answer c.tables c.effect (sound s.tables v.tables x) s.memory page word h p p'
 
@@ -237,8 +236,8 @@ module _ (members : ℕ → Bool) where
 
     -- no row writes a private page for a VM outside
     known_no_outsider : (found : Option Operation) (vm page word : ℕ) → Private members s.tables page → members vm ≡ false → Wrote (effect_in s.tables found) vm page word → ⊥
-    known_no_outsider none vm page word p outside z = z
-    known_no_outsider (some x) vm page word p outside z =
+    known_no_outsider None vm page word p outside z = z
+    known_no_outsider (Some x) vm page word p outside z =
         let c = control s.tables x in
         no_outsider members s.tables v.tables x c.answer c.tables c.effect (sound s.tables v.tables x) vm page word p outside z
 

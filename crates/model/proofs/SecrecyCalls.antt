@@ -8,9 +8,8 @@ use native.Mathlib.Omega.{arith}
 use lib.Dec.{eqb}
 use lib.ListN.{length, get_or}
 use Rattle.numbers.specs.Limits.{ANSWER_NUMBERS}
-use Rattle.numbers.specs.Meaning.{answer_numbers}
-use Rattle.numbers.specs.declared.Answer.{Answer}
-use Rattle.numbers.specs.declared.Answer.TheVariants.{Accepted, Refused}
+use Rattle.numbers.specs.Meaning.{answer_numbers, Answer}
+use Rattle.std.specs.Prelude.{Ok, Err}
 use Rattle.model.specs.State.{Tables, State}
 use Rattle.model.specs.Effect.{accepted, kept}
 use Rattle.model.specs.EarlyLaws.{never_both}
@@ -34,11 +33,11 @@ pub numbers_alike : (x y : Answer) (i : ℕ) → without_word x ≡ without_word
 numbers_alike x y i e h = front x i h ∙ ap (λ (z : Answer). get_or (answer_numbers z) i 0) e ∙ sym (front y i h)
   where
     front : (z : Answer) (j : ℕ) → j < 3 → get_or (answer_numbers z) j 0 ≡ get_or (answer_numbers (without_word z)) j 0
-    front (Accepted dropped word) zero l = refl
-    front (Accepted dropped word) (suc zero) l = refl
-    front (Accepted dropped word) (suc (suc zero)) l = refl
-    front (Accepted dropped word) (suc (suc (suc j))) l = absurd (omega arith)
-    front (Refused refusal index) j l = refl
+    front (Ok ok) zero l = refl
+    front (Ok ok) (suc zero) l = refl
+    front (Ok ok) (suc (suc zero)) l = refl
+    front (Ok ok) (suc (suc (suc j))) l = absurd (omega arith)
+    front (Err err) j l = refl
 
 -- ---- two calls, over a set of VMs and a reading of "private"
 module _ (members : ℕ → Bool) (Secret : Tables → ℕ → Type 0) where
@@ -79,15 +78,15 @@ module _ (members : ℕ → Bool) (Secret : Tables → ℕ → Type 0) where
     -- carried out, or refused for its shape
     either : (x : Answer) → shape_answer rows room ≡ x → (x ≡ accepted → Alike members Secret (after rows (row_count rows) p).state (after rows' (row_count rows') p').state) →
         Alike members Secret (kept x p (after rows (row_count rows) p)).state (kept x p' (after rows' (row_count rows') p')).state
-    either (Accepted dropped word) e last = last (sym (roomy rows room e).1)
-    either (Refused refusal index) e last = like
+    either (Ok ok) e last = last (sym (roomy rows room e).1)
+    either (Err err) e last = like
 
     rest_of : (x : Answer) → shape_answer rows room ≡ x → (j : ℕ) → (x ≡ accepted → row_count rows * ANSWER_NUMBERS ≤ j) → get_or room j 0 ≡ get_or room' j 0 →
         get_or (kept x p (after rows (row_count rows) p)).room j 0 ≡ get_or (kept x p' (after rows' (row_count rows') p')).room j 0
-    rest_of (Accepted dropped word) e j h was =
+    rest_of (Ok ok) e j h was =
         let past-answers : row_count rows * ANSWER_NUMBERS ≤ j = h (sym (roomy rows room e).1) in
         room_kept rows p (row_count rows) j past-answers ∙ was ∙ sym (room_kept rows' p' (row_count rows') j (rw same at past-answers))
-    rest_of (Refused refusal index) e j h was = was
+    rest_of (Err err) e j h was = was
 
     two_runs : (shape_answer rows room ≡ accepted → StayAlike members Secret p p' rows rows' (row_count rows)) → CallsAlike s rows room room' (sequence s rows room) (sequence s' rows' room')
     unfolding sequence

@@ -5,14 +5,13 @@ use Prim.Native.Nat.{ℕ, zero, suc, ◌<◌}
 use mathlib.Core.Bool.{Bool, true, false, true≢false}
 use mathlib.Core.List.{List, [], ◌∷◌}
 use mathlib.Core.Logic.{◌⊎◌, inl, inr, ⊎_elim}
-use mathlib.Core.Option.{some}
+use Rattle.std.specs.Prelude.{Some, Ok, Err}
 use mathlib.Core.Path.{◌≡◌, refl, sym, ◌∙◌}
 use lib.ListN.{length, length-set}
 use Rattle.numbers.specs.CaseLaws.{cases, equal}
 use Rattle.numbers.specs.Limits.{VMS, PAGE_WORDS, READ, WRITE}
 use Rattle.numbers.specs.Packing.{left_of, right_of, page_of}
-use Rattle.numbers.specs.declared.Answer.{Answer}
-use Rattle.numbers.specs.declared.Answer.TheVariants.{Accepted, Refused}
+use Rattle.numbers.specs.Meaning.{Answer}
 use Rattle.numbers.specs.declared.Operation.{Operation}
 use Rattle.table.specs.Table.{Has}
 use Rattle.model.specs.State.{Tables}
@@ -99,13 +98,13 @@ module _ (members : ℕ → Bool) (t : Tables) (v : ValidTables t) where
       same_read (clears pages) s k n = refl
 
       pub same_answer : (effect : Effect) → SoundWith effect → (Seen members (Private members) t effect 0 → ⊥) → (x : Answer) → answer_with effect a x ≡ answer_with effect b x
-      same_answer (reads vm places) s n (Accepted dropped word) = rw (same_read (reads vm places) s 0 n)
-      same_answer (reads vm places) s n (Refused refusal index) = refl
+      same_answer (reads vm places) s n (Ok ok) = rw (same_read (reads vm places) s 0 n)
+      same_answer (reads vm places) s n (Err err) = refl
       same_answer (writes vm xs) s n x = refl
       same_answer (clears pages) s n x = refl
 
       -- a page that was not cleared stays private, unless a member shares it with a VM outside
-      module _ (shown : (left right page word : ℕ) → sharing operation ≡ some (record { left = left; right = right; page = page }) → answer ≡ accepted → members left ≡ true → members right ≡ false → word < PAGE_WORDS → word_in a page word ≡ word_in b page word) where
+      module _ (shown : (left right page word : ℕ) → sharing operation ≡ Some (record { left = left; right = right; page = page }) → answer ≡ accepted → members left ≡ true → members right ≡ false → word < PAGE_WORDS → word_in a page word ≡ word_in b page word) where
         stays_private : (pages : List ℕ) → SoundWith (clears pages) → (page word : ℕ) → word < PAGE_WORDS → (word_in a page word ≡ word_in b page word → ⊥) → (PageIn page pages → ⊥) → Private members t page → Private members new page
         stays_private pages s page word h differ uncleared p =
             record {

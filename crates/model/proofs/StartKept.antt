@@ -26,7 +26,8 @@ use Rattle.model.specs.State.{State}
 use Rattle.model.specs.Views.{is_vm, is_access, in_shared}
 use Rattle.model.specs.Effect.{accepted}
 use Rattle.model.specs.EarlyLaws.{both, hold}
-use Rattle.model.specs.Start.{Told, Lent, count_told, number_told, unit_told, units_told, bad_field, bad_span, start_answer, in_span, first_home, fresh_sets, fresh_route, setup_told, fresh_state, empty_state, start}
+use Rattle.model.specs.Start.{Told, count_told, number_told, unit_told, units_told, bad_field, bad_span, start_answer, in_span, first_home, fresh_sets, fresh_route, setup_told, fresh_state, empty_state, start}
+use Rattle.model.specs.Header.{Lists}
 use Rattle.model.specs.ToldLaws.{StartPassed, start_passed, length-units, unit_at}
 use Rattle.model.specs.Valid.{RouteLengths, UnitGood, SetupGood, Home, pool, shared, PagesGood, MapGood, SameMap, RouteGood, Valid}
 use Rattle.table.specs.RepeatLaws.{repeat_keeps}
@@ -60,7 +61,7 @@ told_good numbers pages k f s =
     let b = both (is_vm (number_told numbers k 0)) (is_access (number_told numbers k 4)) a.0 in
     record { vm = ltb-true _ _ b.0; access = ltb-true _ _ b.1; span = not-false _ s }
 
-setup_good : (told : Told) (lent : Lent) → StartPassed told lent → SetupGood (setup_told told)
+setup_good : (told : Told) (lent : Lists) → StartPassed told lent → SetupGood (setup_told told)
 setup_good told lent p =
     record {
       some_pages = p.some_pages;
@@ -160,7 +161,7 @@ fresh_route_lem side pages sets pairs =
 fresh_lengths : RouteLengths fresh_route
 fresh_lengths = record { map = length-replicate {A = ℕ} _ 0; walker = length-replicate {A = ℕ} _ 0; cache = length-replicate {A = ℕ} _ 0; ports = length-replicate {A = ℕ} _ IDLE }
 
-fresh_valid : (told : Told) (lent : Lent) → StartPassed told lent → Valid (fresh_state told)
+fresh_valid : (told : Told) (lent : Lists) → StartPassed told lent → Valid (fresh_state told)
 unfolding fresh_state
 fresh_valid told lent p =
     let sets = homed told.shared_base told.shared_count told.pages p.pages_ok in
@@ -178,12 +179,12 @@ fresh_valid told lent p =
       memory = length-replicate {A = ℕ} _ 0;
     }
 
-pub start_valid : (told : Told) (lent : Lent) → start_answer told lent ≡ accepted → Valid (start told lent).state
+pub start_valid : (told : Told) (lent : Lists) → start_answer told lent ≡ accepted → Valid (start told lent).state
 unfolding start
 start_valid told lent e = rw e (fresh_valid told lent (start_passed told lent e))
 
 -- a valid machine has a page
-pub empty_not_valid : (lent : Lent) → Valid (empty_state lent) → ⊥
+pub empty_not_valid : (lent : Lists) → Valid (empty_state lent) → ⊥
 unfolding empty_state
 empty_not_valid lent v = omega (arith, v.tables.setup.some_pages)
 
@@ -191,7 +192,7 @@ empty_not_valid lent v = omega (arith, v.tables.setup.some_pages)
 abbrev plain : ℕ → Told
 plain n = record { pages = n; shared_base = 0; shared_count = 0; units = [] }
 
-abbrev room : ℕ → Lent
+abbrev room : ℕ → Lists
 room n =
     record {
       sets = zeros (SETS * SET_WORDS);

@@ -1,6 +1,6 @@
 -- No operation changes what start fixed, nor the length of any list: what control installs has the shape of what was there.
-use Rattle.numbers.specs.declared.Answer.{Answer}
-use Rattle.numbers.specs.declared.Answer.TheVariants.{Accepted, Refused}
+use Rattle.numbers.specs.Meaning.{Answer}
+use Rattle.std.specs.Prelude.{Ok, Err}
 use Rattle.numbers.specs.declared.Operation.{Operation}
 use Rattle.model.specs.State.{Tables, State}
 use Rattle.model.specs.Effect.{Effect, decided}
@@ -10,8 +10,8 @@ use Rattle.model.specs.Step.{answer_of, next_of, effect_of, control, step}
 
 decided_shape : (t : Tables) (answer : Answer) (new : Tables) (effect : Effect) → SameShape t new → SameShape t (decided t answer new effect).tables
 unfolding decided
-decided_shape t (Accepted dropped word) new effect s = s
-decided_shape t (Refused refusal index) new effect s = same_shape t
+decided_shape t (Ok ok) new effect s = s
+decided_shape t (Err err) new effect s = same_shape t
 
 pub control_shape : (t : Tables) (operation : Operation) → SameShape t (control t operation).tables
 unfolding control

@@ -4,7 +4,7 @@ use mathlib.Core.Path.{◌≡◌}
 use native.Mathlib.Omega.{arith}
 use lib.ListN.{length, set}
 use Rattle.numbers.specs.Limits.{READ, WRITE}
-use Rattle.numbers.specs.declared.Answer.TheVariants.{Accepted}
+use Rattle.numbers.specs.Meaning.{accept}
 use Rattle.numbers.specs.declared.GuestPage.{GuestPage}
 use Rattle.numbers.specs.declared.Operation.TheVariants as op
 use Rattle.numbers.specs.declared.Side.{Side}
@@ -27,7 +27,7 @@ use Rattle.model.proofs.UpstreamRoutes.{with_own}
 module _ (s : State) (valid : Valid s) where
   -- the word lies in memory
   backed : (side : Side) (bit port guest word : ℕ) {dropped read : ℕ} →
-      access_answer (route side s.tables).ports (route side s.tables).cache (route side s.tables).walker bit port guest word ≡ Accepted dropped read →
+      access_answer (route side s.tables).ports (route side s.tables).cache (route side s.tables).walker bit port guest word ≡ accept dropped read →
       address_in (route side s.tables) port guest word < length s.memory
   backed side bit port guest word e =
       let r = route side s.tables in
@@ -43,14 +43,14 @@ module _ (s : State) (valid : Valid s) where
   write_step address value h = memory_only s.tables s.memory (set s.memory address value) _ (write_seen s.memory address value h)
 
   pub read_follows : (side : Side) (port : ℕ) (guest : GuestPage) (word : ℕ) {dropped read : ℕ} →
-      answer_of s.tables (op.On side (sided.ReadWord port guest word)) ≡ Accepted dropped read → AcceptedFollows s (op.On side (sided.ReadWord port guest word))
+      answer_of s.tables (op.On side (sided.ReadWord port guest word)) ≡ accept dropped read → AcceptedFollows s (op.On side (sided.ReadWord port guest word))
   unfolding apply
   read_follows side port guest word e =
       rw (with_own side s.tables)
       (record { software = stop (same_software _); hardware = hardware_once (read_step _ (backed side READ port guest.0 word e)) })
 
   pub write_follows : (side : Side) (port : ℕ) (guest : GuestPage) (word value : ℕ) {dropped read : ℕ} →
-      answer_of s.tables (op.On side (sided.WriteWord port guest word value)) ≡ Accepted dropped read →
+      answer_of s.tables (op.On side (sided.WriteWord port guest word value)) ≡ accept dropped read →
       AcceptedFollows s (op.On side (sided.WriteWord port guest word value))
   unfolding apply stored
   write_follows side port guest word value e =

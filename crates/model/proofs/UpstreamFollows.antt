@@ -1,10 +1,9 @@
 -- A view is equal to itself; a refused operation takes no step; and which edits of our tables a view does not see.
 use Prim.Native.Nat.{ℕ}
 use mathlib.Core.List.{List, [], ◌∷◌}
-use mathlib.Core.Option.{Option}
+use Rattle.std.specs.Prelude.{Option, Ok, Err}
 use mathlib.Core.Path.{◌≡◌, refl}
-use Rattle.numbers.specs.declared.Answer.{Answer}
-use Rattle.numbers.specs.declared.Answer.TheVariants.{Accepted, Refused}
+use Rattle.numbers.specs.Meaning.{Answer, accept}
 use Rattle.numbers.specs.declared.Operation.{Operation}
 use Rattle.model.specs.State.{Tables, Setup, State}
 use Rattle.model.specs.Effect.{Effect, decided, apply, cleared_pages}
@@ -60,9 +59,9 @@ AcceptedFollows s operation =
 
 -- and that is all that is asked for: a refused one takes no step
 pub decided_follows : (s : State) (answer : Answer) (new : Tables) (effect : Effect) (software : List SoftwareCall) (hardware : List HardwareCall) →
-    ((dropped word : ℕ) → answer ≡ Accepted dropped word → Follows s (record { tables = new; memory = apply effect s.memory }) software hardware) →
+    ((dropped word : ℕ) → answer ≡ accept dropped word → Follows s (record { tables = new; memory = apply effect s.memory }) software hardware) →
     FollowsControl s (decided s.tables answer new effect) software hardware
 unfolding decided apply cleared_pages
-decided_follows s (Accepted dropped word) new effect software hardware follows = follows dropped word refl
-decided_follows s (Refused refusal index) new effect software hardware follows =
+decided_follows s (Ok ok) new effect software hardware follows = follows ok.dropped ok.word refl
+decided_follows s (Err err) new effect software hardware follows =
     record { software = stop (same_software _); hardware = stop (same_hardware _) }

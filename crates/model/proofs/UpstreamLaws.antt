@@ -3,7 +3,7 @@ use Prim.Native.Nat.{ℕ, ◌+◌, ◌*◌, ◌/◌, ◌<◌, ◌%◌}
 use mathlib.Core.Bool.{Bool, true, false, not, ◌&&◌, ◌||◌, true≢false, or-true}
 use mathlib.Core.List.{List}
 use mathlib.Core.Logic.{◌⊎◌, inl, inr, ⊎_elim}
-use mathlib.Core.Option.{Option, none, some}
+use Rattle.std.specs.Prelude.{Option, None, Some}
 use mathlib.Core.Path.{◌≡◌, refl, sym, ap, ◌∙◌}
 use native.Mathlib.Omega.{arith}
 use lib.Dec.{eqb}
@@ -19,22 +19,20 @@ use Rattle.table.specs.ScanLaws.{found_never, cleared_empty}
 use Rattle.table.specs.Table.{find, lookup, place, put, erase, is_found, word_at, Has, Distinct}
 use Rattle.table.specs.TableLaws.{find_none, lookup_has, lookup_nothing, lookup_put_same, lookup_put_other, lookup_erase_same, lookup_erase_other}
 use Rattle.table.specs.AgreeLaws.{lookup_wipe}
-use Rattle.table.specs.declared.Found.{Found}
-use Rattle.table.specs.declared.Found.TheVariants.{At, Nothing}
 use Rattle.model.specs.EarlyLaws.{both}
 use Rattle.model.specs.Upstream.{AccessPerms, S2Entry, perms_of, entry_in, seen, map_seen, is_some}
 use Rattle.model.specs.UpstreamStep.{is_edge}
 use Rattle.model.proofs.ViewLaws.{either, not_so}
 
 -- ---- words
-pub seen_some : (w : ℕ) (e : S2Entry) → seen w ≡ some e → (w ≡ 0 → ⊥) × (entry_in w ≡ e)
+pub seen_some : (w : ℕ) (e : S2Entry) → seen w ≡ Some e → (w ≡ 0 → ⊥) × (entry_in w ≡ e)
 unfolding seen
 seen_some w e q =
-    ⊎_elim (λ t. absurd (let z : none ≡ some e = rw t at q in let u : ◌≡◌ {A = ℕ} 0 1 = cc in omega arith))
-    (λ f. (eqb-false w 0 f, let z : some (entry_in w) ≡ some e = rw f at q in cc))
+    ⊎_elim (λ t. absurd (let z : None ≡ Some e = rw t at q in let u : ◌≡◌ {A = ℕ} 0 1 = cc in omega arith))
+    (λ f. (eqb-false w 0 f, let z : Some (entry_in w) ≡ Some e = rw f at q in cc))
     (cases (eqb w 0))
 
-pub seen_is : (w : ℕ) → (w ≡ 0 → ⊥) → seen w ≡ some (entry_in w)
+pub seen_is : (w : ℕ) → (w ≡ 0 → ⊥) → seen w ≡ Some (entry_in w)
 unfolding seen
 seen_is w n = rw (ne_eqb w 0 n)
 
@@ -49,12 +47,12 @@ module _ (key_of : ℕ → ℕ) (empty : key_of 0 ≡ 0) where
   unfolding lookup
   found_looked ws k o = go (find key_of ws k) refl
     where
-      go : (f : Found) → find key_of ws k ≡ f → is_found f ≡ not (eqb (word_at ws f) 0)
-      go (At i) q = ⊎_elim (λ t. absurd (found_never i (sym q ∙ lookup_nothing key_of empty ws k o (rw q (eqb-true _ _ t))))) (λ f. rw f) (cases (eqb (get_or ws i 0) 0))
-      go Nothing q = refl
+      go : (f : Option ℕ) → find key_of ws k ≡ f → is_found f ≡ not (eqb (word_at ws f) 0)
+      go (Some i) q = ⊎_elim (λ t. absurd (found_never i (sym q ∙ lookup_nothing key_of empty ws k o (rw q (eqb-true _ _ t))))) (λ f. rw f) (cases (eqb (get_or ws i 0) 0))
+      go None q = refl
 
   -- and so after a word is put, or a key erased
-  pub found_put_same : (ws : List ℕ) (k w i : ℕ) → 0 < k → key_of w ≡ k → place key_of ws k ≡ At i → is_found (find key_of (put key_of ws k w) k) ≡ true
+  pub found_put_same : (ws : List ℕ) (k w i : ℕ) → 0 < k → key_of w ≡ k → place key_of ws k ≡ Some i → is_found (find key_of (put key_of ws k w) k) ≡ true
   found_put_same ws k w i o e p =
       let n : w ≡ 0 → ⊥ = λ z. let q : 0 ≡ k = sym empty ∙ rw z at e in omega arith in
       found_looked (put key_of ws k w) k o ∙ rw (lookup_put_same key_of ws k w i e p, ne_eqb w 0 n)
@@ -75,26 +73,26 @@ module _ (key_of : ℕ → ℕ) (empty : key_of 0 ≡ 0) where
   pub has_found : (ws : List ℕ) (w : ℕ) → Has ws w → is_found (find key_of ws (key_of w)) ≡ true
   has_found ws w r = go (find key_of ws (key_of w)) refl
     where
-      go : (f : Found) → find key_of ws (key_of w) ≡ f → is_found f ≡ true
-      go (At i) q = refl
-      go Nothing q = absurd (find_none key_of ws (key_of w) q r.spot r.within (rw r.holds))
+      go : (f : Option ℕ) → find key_of ws (key_of w) ≡ f → is_found f ≡ true
+      go (Some i) q = refl
+      go None q = absurd (find_none key_of ws (key_of w) q r.spot r.within (rw r.holds))
 
 -- ---- wipes
-wiped_word : (p : ℕ → Bool) (w : ℕ) (gone : Bool) → ((w ≡ 0 → ⊥) → p w ≡ gone) → seen (cleared p w) ≡ (if gone then none else seen w)
+wiped_word : (p : ℕ → Bool) (w : ℕ) (gone : Bool) → ((w ≡ 0 → ⊥) → p w ≡ gone) → seen (cleared p w) ≡ (if gone then None else seen w)
 unfolding seen
 wiped_word p w gone same = ⊎_elim empty (λ n. rw (same n) (⊎_elim (λ t. rw t) (λ f. rw f) (cases gone))) (equal w 0)
   where
-    empty : w ≡ 0 → seen (cleared p w) ≡ (if gone then none else seen w)
+    empty : w ≡ 0 → seen (cleared p w) ≡ (if gone then None else seen w)
     empty z = rw z (ap seen (cleared_empty p) ∙ ⊎_elim (λ t. rw t) (λ f. rw f) (cases gone))
 
 -- what a key shows is gone where its word goes
 pub wiped_seen : (p : ℕ → Bool) (table : List ℕ) (k : ℕ) (gone : Bool) → 0 < k → Distinct key_of table →
     (Has table (lookup key_of table k) → key_of (lookup key_of table k) ≡ k → p (lookup key_of table k) ≡ gone) →
-    seen (lookup key_of (wipe p table) k) ≡ (if gone then none else seen (lookup key_of table k))
+    seen (lookup key_of (wipe p table) k) ≡ (if gone then None else seen (lookup key_of table k))
 wiped_seen p table k gone o once same =
     ap seen (lookup_wipe key_of refl p table k o once) ∙ wiped_word p (lookup key_of table k) gone (λ n. let (h, e) = lookup_has key_of table k n in same h e)
 
-pub none_either : {A : Type 0} (a b : Bool) (x : Option A) → (if a || b then none else x) ≡ (if a then none else if b then none else x)
+pub none_either : {A : Type 0} (a b : Bool) (x : Option A) → (if a || b then None else x) ≡ (if a then None else if b then None else x)
 none_either true b x = refl
 none_either false b x = refl
 
@@ -254,6 +252,6 @@ slot_key_test port vm gpa p v g l l' h h' = ⊎_elim same other (equal (slot_key
 pub map_found : (table : List ℕ) (vm gpa : ℕ) → is_some (map_seen table vm gpa) ≡ is_found (find key_of table (key vm gpa))
 map_found table vm gpa = seen_filled _ ∙ sym (found_looked key_of refl table (key vm gpa) (omega arith))
 
-pub not_some : (o : Option S2Entry) → is_some o ≡ false → o ≡ none
-not_some none e = refl
-not_some (some x) e = absurd (true≢false e)
+pub not_some : (o : Option S2Entry) → is_some o ≡ false → o ≡ None
+not_some None e = refl
+not_some (Some x) e = absurd (true≢false e)

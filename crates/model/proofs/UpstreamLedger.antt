@@ -11,7 +11,7 @@ use Rattle.numbers.specs.CaseLaws.{cases, equal}
 use Rattle.numbers.specs.Limits.{VMS, GUEST_PAGES, PAGES}
 use Rattle.numbers.specs.Packing.{pair_key, pair_key_of, pair_word}
 use Rattle.numbers.specs.PackingLaws.{pair_key_lem}
-use Rattle.numbers.specs.declared.Answer.TheVariants.{Accepted}
+use Rattle.numbers.specs.Meaning.{accept}
 use Rattle.numbers.specs.declared.Operation.TheVariants as op
 use Rattle.numbers.specs.declared.PhysPage.{PhysPage}
 use Rattle.numbers.specs.declared.Side.{Side}
@@ -169,7 +169,7 @@ module _ (s : State) (valid : ValidTables s.tables) where
       not_so _ (λ e. true≢false (sym (valid.pages.dma_known vm page v (held_below s.tables valid (dma_row vm) page (omega arith) h e) e) ∙ n))
 
   -- ---- 1
-  pub add_vm_follows : (vm : VmId) {dropped word : ℕ} → answer_of s.tables (op.AddVm vm) ≡ Accepted dropped word → AcceptedFollows s (op.AddVm vm)
+  pub add_vm_follows : (vm : VmId) {dropped word : ℕ} → answer_of s.tables (op.AddVm vm) ≡ accept dropped word → AcceptedFollows s (op.AddVm vm)
   unfolding add_vm_answer apply cleared_pages
   add_vm_follows vm e =
       let (small, a) = past (not (is_vm vm.0)) _ _ _ e in
@@ -198,7 +198,7 @@ module _ (s : State) (valid : ValidTables s.tables) where
 
   removable : (vm : ℕ) {dropped word : ℕ} →
       remove_vm_answer s.tables.known s.tables.sets s.tables.pairs s.tables.cpu.map s.tables.dma.map s.tables.cpu.ports
-      s.tables.dma.ports vm ≡ Accepted dropped word → RemoveVmEnabled vm (software_view s.tables)
+      s.tables.dma.ports vm ≡ accept dropped word → RemoveVmEnabled vm (software_view s.tables)
   unfolding remove_vm_answer
   removable vm e =
       let (d, w, early, a) = then_passed (vm_early s.tables.known vm) _ e in
@@ -220,7 +220,7 @@ module _ (s : State) (valid : ValidTables s.tables) where
             ⊎_elim (λ x. (λ z. none (inl (x.0 ∙ z)), λ z. none (inr (x.1 ∙ z)))) (λ x. (λ z. none (inr (x.1 ∙ z)), λ z. none (inl (x.0 ∙ z)))) same;
       }
 
-  pub remove_vm_follows : (vm : VmId) {dropped word : ℕ} → answer_of s.tables (op.RemoveVm vm) ≡ Accepted dropped word → AcceptedFollows s (op.RemoveVm vm)
+  pub remove_vm_follows : (vm : VmId) {dropped word : ℕ} → answer_of s.tables (op.RemoveVm vm) ≡ accept dropped word → AcceptedFollows s (op.RemoveVm vm)
   unfolding apply cleared_pages
   remove_vm_follows vm e = record { software = software_once (dropped_vm vm.0 (removable vm.0 e)); hardware = stop (same_hardware _) }
     where
@@ -236,7 +236,7 @@ module _ (s : State) (valid : ValidTables s.tables) where
           }
 
   -- ---- 3
-  pub assign_follows : (vm : VmId) (page : PhysPage) {dropped word : ℕ} → answer_of s.tables (op.AssignPage vm page) ≡ Accepted dropped word →
+  pub assign_follows : (vm : VmId) (page : PhysPage) {dropped word : ℕ} → answer_of s.tables (op.AssignPage vm page) ≡ accept dropped word →
       AcceptedFollows s (op.AssignPage vm page)
   unfolding assign_answer apply cleared_pages
   assign_follows vm page e =
@@ -261,7 +261,7 @@ module _ (s : State) (valid : ValidTables s.tables) where
           }
 
   -- ---- 4: the guards on mappings and edges come on top of upstream's, and the page is cleared where its last claim ends
-  pub reclaim_follows : (vm : VmId) (page : PhysPage) {dropped word : ℕ} → answer_of s.tables (op.ReclaimPage vm page) ≡ Accepted dropped word →
+  pub reclaim_follows : (vm : VmId) (page : PhysPage) {dropped word : ℕ} → answer_of s.tables (op.ReclaimPage vm page) ≡ accept dropped word →
       AcceptedFollows s (op.ReclaimPage vm page)
   unfolding reclaim_answer apply
   reclaim_follows vm page e =
@@ -304,7 +304,7 @@ module _ (s : State) (valid : ValidTables s.tables) where
   below_pages page h = omega (arith, valid.setup.most_pages)
 
   shared_step : (left right page : ℕ) {dropped word : ℕ} →
-      share_answer s.tables.known s.tables.setup.pages s.tables.sets s.tables.pairs left right page ≡ Accepted dropped word →
+      share_answer s.tables.known s.tables.setup.pages s.tables.sets s.tables.pairs left right page ≡ accept dropped word →
       SharePageStep left right page (software_view s.tables) (software_view (with_pairs s.tables (share_pairs s.tables.pairs left right page)))
   unfolding share_answer
   shared_step left right page e =
@@ -322,13 +322,13 @@ module _ (s : State) (valid : ValidTables s.tables) where
         next = edges_edited _ _ (share_seen s.tables.pairs left right page r.left_ok r.right_ok (below_pages page r.page_ok) place);
       }
 
-  pub share_follows : (left right : VmId) (page : PhysPage) {dropped word : ℕ} → answer_of s.tables (op.SharePage left right page) ≡ Accepted dropped word →
+  pub share_follows : (left right : VmId) (page : PhysPage) {dropped word : ℕ} → answer_of s.tables (op.SharePage left right page) ≡ accept dropped word →
       AcceptedFollows s (op.SharePage left right page)
   unfolding apply cleared_pages
   share_follows left right page e = record { software = software_once (shared_step left.0 right.0 page.0 e); hardware = stop (same_hardware _) }
 
   unshared_step : (left right page : ℕ) {dropped word : ℕ} →
-      unshare_answer s.tables.known s.tables.setup.pages s.tables.sets s.tables.pairs s.tables.cpu.map left right page ≡ Accepted dropped word →
+      unshare_answer s.tables.known s.tables.setup.pages s.tables.sets s.tables.pairs s.tables.cpu.map left right page ≡ accept dropped word →
       UnsharePageStep left right page (software_view s.tables) (software_view (with_pairs s.tables (unshare_pairs s.tables.pairs left right page)))
   unfolding unshare_answer
   unshared_step left right page e =
@@ -341,7 +341,7 @@ module _ (s : State) (valid : ValidTables s.tables) where
         next = edges_edited _ _ (unshare_seen s.tables.pairs left right page r.left_ok r.right_ok (below_pages page r.page_ok));
       }
 
-  pub unshare_follows : (left right : VmId) (page : PhysPage) {dropped word : ℕ} → answer_of s.tables (op.UnsharePage left right page) ≡ Accepted dropped word →
+  pub unshare_follows : (left right : VmId) (page : PhysPage) {dropped word : ℕ} → answer_of s.tables (op.UnsharePage left right page) ≡ accept dropped word →
       AcceptedFollows s (op.UnsharePage left right page)
   unfolding apply cleared_pages
   unshare_follows left right page e = record { software = software_once (unshared_step left.0 right.0 page.0 e); hardware = stop (same_hardware _) }

@@ -3,7 +3,7 @@ use Prim.Native.Nat.{ℕ, ◌<◌}
 use mathlib.Core.Bool.{true, false, not, ◌&&◌, true≢false}
 use mathlib.Core.List.{List}
 use mathlib.Core.Logic.{⊎_elim}
-use mathlib.Core.Option.{Option, none, some}
+use Rattle.std.specs.Prelude.{Option, None, Some}
 use mathlib.Core.Path.{◌≡◌, refl, sym, ap, ◌∙◌}
 use native.Mathlib.Omega.{arith}
 use lib.Dec.{eqb}
@@ -13,7 +13,7 @@ use Rattle.std.specs.Prelude.{if◌then◌else◌}
 use Rattle.numbers.specs.Limits.{VMS, GUEST_PAGES, PAGES, ACCESSES, GENERATIONS}
 use Rattle.numbers.specs.Packing.{key, key_of, slot_key, address_of, map_word, entry}
 use Rattle.numbers.specs.PackingLaws.{key_filled, entry_page, entry_access, entry_generation, word_page, word_access, word_generation}
-use Rattle.numbers.specs.declared.Answer.TheVariants.{Accepted}
+use Rattle.numbers.specs.Meaning.{accept}
 use Rattle.numbers.specs.declared.GuestPage.{GuestPage}
 use Rattle.numbers.specs.declared.Operation.TheVariants as op
 use Rattle.numbers.specs.declared.PhysPage.{PhysPage}
@@ -23,7 +23,6 @@ use Rattle.numbers.specs.declared.VmId.{VmId}
 use Rattle.table.specs.Table.{has_key, find, lookup, place, erase, is_found}
 use Rattle.table.specs.TableLaws.{lookup_put_same, lookup_put_other, lookup_erase_same, lookup_erase_other, lookup_wipe_same, lookup_wipe_other}
 use Rattle.table.specs.AgreeLaws.{agree_place}
-use Rattle.table.specs.declared.Found.TheVariants.{At}
 use Rattle.model.specs.State.{Tables, Route, State, route, with_side}
 use Rattle.model.specs.Valid.{SameMap, CacheGood, ValidTables}
 use Rattle.model.specs.EarlyLaws.{past, both, then_passed, unmap_passed}
@@ -45,7 +44,7 @@ use Rattle.model.proofs.UpstreamRoutes.{shown, with_own, map_of_lem, walk_of_lem
 -- ---- what the views show after an edit
 -- the entry of a word just made
 pub entry_shown : (vm gpa page access generation : ℕ) → vm < VMS → gpa < GUEST_PAGES → page < PAGES → access < ACCESSES → generation < GENERATIONS →
-    seen (map_word vm gpa (entry page access generation)) ≡ some (entry_of page access generation)
+    seen (map_word vm gpa (entry page access generation)) ≡ Some (entry_of page access generation)
 entry_shown vm gpa page access generation v g p a n =
     let e = entry_ok vm gpa page access generation v g p a n in
     let f = word_ok vm gpa page access generation v g p a n in
@@ -64,20 +63,20 @@ at_key table table' vm gpa answer h here there v g l h' =
     (equal (key vm gpa) (key v g)))
 
 pub put_seen : (table : List ℕ) (vm gpa page access generation i : ℕ) → vm < VMS → gpa < GUEST_PAGES → page < PAGES → access < ACCESSES → generation < GENERATIONS →
-    place key_of table (key vm gpa) ≡ At i →
-    SameS2Map (map_seen (map_table table vm gpa page access generation)) (map_at (map_seen table) vm gpa (some (entry_of page access generation)))
+    place key_of table (key vm gpa) ≡ Some i →
+    SameS2Map (map_seen (map_table table vm gpa page access generation)) (map_at (map_seen table) vm gpa (Some (entry_of page access generation)))
 unfolding map_table
 put_seen table vm gpa page access generation i v g p a n at =
     let w = map_word vm gpa (entry page access generation) in
     let k = entry_key vm gpa page access generation v g p a n in
-    at_key table (map_table table vm gpa page access generation) vm gpa (some (entry_of page access generation)) g
+    at_key table (map_table table vm gpa page access generation) vm gpa (Some (entry_of page access generation)) g
     (rw (lookup_put_same key_of table (key vm gpa) w i k at) (entry_shown vm gpa page access generation v g p a n))
     (λ other o d. lookup_put_other key_of refl table (key vm gpa) w other k o d)
 
-pub erase_seen : (table : List ℕ) (vm gpa : ℕ) → gpa < GUEST_PAGES → SameS2Map (map_seen (unmap_table table vm gpa)) (map_at (map_seen table) vm gpa none)
+pub erase_seen : (table : List ℕ) (vm gpa : ℕ) → gpa < GUEST_PAGES → SameS2Map (map_seen (unmap_table table vm gpa)) (map_at (map_seen table) vm gpa None)
 unfolding unmap_table seen
 erase_seen table vm gpa g =
-    at_key table (unmap_table table vm gpa) vm gpa none g
+    at_key table (unmap_table table vm gpa) vm gpa None g
     (rw (lookup_erase_same key_of refl table (key vm gpa) (omega arith)))
     (λ other o d. lookup_erase_other key_of refl table (key vm gpa) other o d)
 
@@ -87,7 +86,7 @@ unfolding without_slots erase seen
 slots_seen cache vm gpa h c v g l l' h' = rw (key_test vm gpa v g h h') (⊎_elim dropped kept (equal (key vm gpa) (key v g)))
   where
     goal : Type 0
-    goal = tlb_seen (without_slots cache vm gpa) c v g ≡ (if eqb (key vm gpa) (key v g) then none else tlb_seen cache c v g)
+    goal = tlb_seen (without_slots cache vm gpa) c v g ≡ (if eqb (key vm gpa) (key v g) then None else tlb_seen cache c v g)
 
     address : (w : ℕ) → key_of w ≡ slot_key c v g → address_of w ≡ key v g
     address w e = (of_slot_key w c v g l' h' e).address_is
@@ -121,11 +120,11 @@ module _ (side : Side) (t : Tables) (memory : List ℕ) (r : Route) where
       absent : (eqb v vm && eqb g gpa) ≡ true → is_some (map_seen r.walker v g) ≡ false
       absent e = let q = both (eqb v vm) (eqb g gpa) e in rw (eqb-true v vm q.0, eqb-true g gpa q.1) (map_found r.walker vm gpa ∙ f)
 
-      none_there : (eqb v vm && eqb g gpa) ≡ true → tlb_seen r.cache c v g ≡ none
+      none_there : (eqb v vm && eqb g gpa) ≡ true → tlb_seen r.cache c v g ≡ None
       none_there e = not_some _ (not_so _ (λ s. true≢false (sym s ∙ ap is_some (slot_seen r.walker r.cache good c v g v' g' s) ∙ absent e)))
 
   module _ (vm gpa page access generation i : ℕ) (v : vm < VMS) (g : gpa < GUEST_PAGES) (p : page < PAGES) (a : access < ACCESSES) (n : generation < GENERATIONS)
-      (at : place key_of r.walker (key vm gpa) ≡ At i) where
+      (at : place key_of r.walker (key vm gpa) ≡ Some i) where
     -- onto an absent key; and onto one that has just been unmapped and invalidated
     reach_new : CacheGood r.walker r.cache → is_found (find key_of r.walker (key vm gpa)) ≡ false →
         HardwareMapStep side vm gpa (entry_of page access generation) (shown side t memory r) (shown side t memory (map_route r vm gpa page access generation))
@@ -165,7 +164,7 @@ module _ (side : Side) (t : Tables) (memory : List ℕ) (r : Route) where
 -- ---- the operations
 module _ (side : Side) (s : State) (valid : ValidTables s.tables) where
   -- the walker has a place where the software map has one
-  walker_place : (k i : ℕ) → 0 < k → place key_of (route side s.tables).map k ≡ At i → (j : ℕ) × (place key_of (route side s.tables).walker k ≡ At j)
+  walker_place : (k i : ℕ) → 0 < k → place key_of (route side s.tables).map k ≡ Some i → (j : ℕ) × (place key_of (route side s.tables).walker k ≡ Some j)
   unfolding SameMap
   walker_place k i o p =
       let m = maps_of side s.tables valid in
@@ -192,7 +191,7 @@ module _ (side : Side) (s : State) (valid : ValidTables s.tables) where
       }
 
   pub map-follows : (vm : VmId) (guest : GuestPage) (page : PhysPage) (access generation : ℕ) {dropped word : ℕ} →
-      answer_of s.tables (op.On side (sided.MapPage vm guest page access generation)) ≡ Accepted dropped word →
+      answer_of s.tables (op.On side (sided.MapPage vm guest page access generation)) ≡ accept dropped word →
       AcceptedFollows s (op.On side (sided.MapPage vm guest page access generation))
   unfolding apply cleared_pages
   map-follows vm guest page access generation e =
@@ -218,7 +217,7 @@ module _ (side : Side) (s : State) (valid : ValidTables s.tables) where
         next = rw (map_of_lem side s.tables) (route_software side s.tables (unmap_route r vm gpa) _ (erase_seen r.map vm gpa g));
       }
 
-  pub unmap_follows : (vm : VmId) (guest : GuestPage) {dropped word : ℕ} → answer_of s.tables (op.On side (sided.UnmapPage vm guest)) ≡ Accepted dropped word →
+  pub unmap_follows : (vm : VmId) (guest : GuestPage) {dropped word : ℕ} → answer_of s.tables (op.On side (sided.UnmapPage vm guest)) ≡ accept dropped word →
       AcceptedFollows s (op.On side (sided.UnmapPage vm guest))
   unfolding unmap_answer unmap_may apply cleared_pages
   unmap_follows vm guest e =

@@ -3,7 +3,7 @@ use Prim.Native.Nat.{ℕ, ◌/◌, ◌<◌}
 use mathlib.Core.Bool.{true, false}
 use mathlib.Core.List.{List, [], ◌∷◌}
 use mathlib.Core.Logic.{⊎_elim}
-use mathlib.Core.Option.{Option, none, some}
+use Rattle.std.specs.Prelude.{Option, None, Some}
 use mathlib.Core.Path.{◌≡◌, refl}
 use native.Mathlib.Omega.{arith}
 use lib.Dec.{eqb, ltb}
@@ -45,7 +45,7 @@ unfolding word_seen
 clear_seen memory page address = rw (length-clear memory page) (⊎_elim cleared kept (cases (eqb (address / PAGE_WORDS) page)))
   where
     goal : Type 0
-    goal = (if ltb address (length memory) then some (get_or (clear_page memory page) address 0) else none) ≡ cleared_at (word_seen memory) page address
+    goal = (if ltb address (length memory) then Some (get_or (clear_page memory page) address 0) else None) ≡ cleared_at (word_seen memory) page address
 
     cleared : eqb (address / PAGE_WORDS) page ≡ true → goal
     cleared t = rw (t, word_cleared memory page address t) (⊎_elim (λ y. rw y) (λ n. rw n) (cases (ltb address (length memory))))
@@ -71,7 +71,7 @@ unfolding word_seen
 word_backed memory address h = rw (lt-ltb address (length memory) h)
 
 pub write_seen : (memory : List ℕ) (at value : ℕ) → at < length memory → (address : ℕ) →
-    word_seen (set memory at value) address ≡ answer_at (word_seen memory) at (some value) address
+    word_seen (set memory at value) address ≡ answer_at (word_seen memory) at (Some value) address
 unfolding word_seen
 write_seen memory at value h address =
     rw (length-set memory at value)

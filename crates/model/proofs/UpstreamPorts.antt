@@ -3,7 +3,7 @@ use Prim.Native.Nat.{ℕ, ◌<◌}
 use mathlib.Core.Bool.{true, not, ◌&&◌}
 use mathlib.Core.List.{List, [], ◌∷◌}
 use mathlib.Core.Logic.{◌⊎◌, inl, inr, ⊎_elim}
-use mathlib.Core.Option.{Option, none, some}
+use Rattle.std.specs.Prelude.{Option, None, Some}
 use mathlib.Core.Path.{◌≡◌, refl, sym, ap, ◌∙◌}
 use native.Mathlib.Omega.{arith}
 use lib.ListN.{length, get_or, set, length-set}
@@ -14,19 +14,16 @@ use Rattle.std.specs.Prelude.{if◌then◌else◌}
 use Rattle.numbers.specs.Limits.{VMS, GUEST_PAGES, PORTS, SLOTS, IDLE}
 use Rattle.numbers.specs.Packing.{key, key_of, slot_key, slot_word, entry_of, port_of, vm_of, guest_of, filled_of, WordFits, VM_FIELD}
 use Rattle.numbers.specs.PackingLaws.{word_entry, word_filled, word_key, key_filled}
-use Rattle.numbers.specs.declared.Answer.TheVariants.{Accepted}
+use Rattle.numbers.specs.Meaning.{accept}
 use Rattle.numbers.specs.declared.GuestPage.{GuestPage}
 use Rattle.numbers.specs.declared.Operation.TheVariants as op
-use Rattle.numbers.specs.declared.Target.{Target}
-use Rattle.numbers.specs.declared.Target.TheVariants.{Idle, Vm}
+use Rattle.numbers.specs.declared.VmId.{VmId}
 use Rattle.numbers.specs.declared.Side.{Side}
 use Rattle.numbers.specs.declared.Side.TheVariants.{Cpu, Dma}
 use Rattle.numbers.specs.declared.SideOperation.TheVariants as sided
 use Rattle.table.specs.ScanLaws.{found_never, found_count}
 use Rattle.table.specs.Table.{is_empty, free_entries, lookup, place, Has, Distinct}
 use Rattle.table.specs.TableLaws.{IsPlace, find_none, place_is, place_none, place_room, distinct_alone, lookup_has, lookup_none, has_lookup, has_set_inv, has_set_keep, lookup_set_same, lookup_set_other}
-use Rattle.table.specs.declared.Found.{Found}
-use Rattle.table.specs.declared.Found.TheVariants.{At, Nothing}
 use Rattle.model.specs.State.{Tables, Route, State, route, with_side, with_cache, with_ports}
 use Rattle.model.specs.Ports.{is_target, port_answer, port_ports, vm_on, fill_place, fill_cache, empty_answer, empty_cache}
 use Rattle.model.specs.Views.{is_port, is_slot, is_idle}
@@ -88,14 +85,14 @@ at_slot cache cache' port vm gpa answer v g here there c u q c' u' q' =
 module _ (walker cache : List ℕ) (good : CacheGood walker cache) where
   -- emptied
   forget_seen : (i : ℕ) → i < length cache → (get_or cache i 0 ≡ 0 → ⊥) →
-      SameTlb (tlb_seen (set cache i 0)) (tlb_at (tlb_seen cache) (port_of (get_or cache i 0)) (vm_of (get_or cache i 0)) (guest_of (get_or cache i 0)) none)
+      SameTlb (tlb_seen (set cache i 0)) (tlb_at (tlb_seen cache) (port_of (get_or cache i 0)) (vm_of (get_or cache i 0)) (guest_of (get_or cache i 0)) None)
   unfolding seen
   forget_seen i h n =
       let w = get_or cache i 0 in
       let f : filled_of w ≡ 1 = (good.each w (record { spot = i; within = h; holds = refl; filled = n })).filled in
       let k : key_of w ≡ slot_key (port_of w) (vm_of w) (guest_of w) = key_parts w f in
       let o = key_filled w f in
-      at_slot cache (set cache i 0) (port_of w) (vm_of w) (guest_of w) none (omega arith) (omega arith)
+      at_slot cache (set cache i 0) (port_of w) (vm_of w) (guest_of w) None (omega arith) (omega arith)
       (rw (← k, emptied_same cache i good.once h o))
       (λ other p d. emptied_other cache i good.once h o other p (λ q. d (sym k ∙ q)))
 
@@ -114,13 +111,13 @@ fill_seen walker cache port vm gpa i c v g walks made at =
 
 -- ---- steps of a side's cache
 module _ (side : Side) (t : Tables) (memory : List ℕ) (r : Route) where
-  forget_step : (cache : List ℕ) (hand w : ℕ) → SameTlb (tlb_seen cache) (tlb_at (tlb_seen r.cache) (port_of w) (vm_of w) (guest_of w) none) →
+  forget_step : (cache : List ℕ) (hand w : ℕ) → SameTlb (tlb_seen cache) (tlb_at (tlb_seen r.cache) (port_of w) (vm_of w) (guest_of w) None) →
       HardwareStep (forget_call side w) (shown side t memory r) (shown side t memory (with_cache r cache hand))
   forget_step cache hand w e =
       rw (walk_of_lem side t memory r, tlb_of_lem side t memory r)
       (route_hardware side t memory r (with_cache r cache hand) _ _ refl (λ vm gpa v g. refl) e)
 
-active_is : (ports : List ℕ) (port : ℕ) → vm_on ports port < VMS → active_seen ports port ≡ some (vm_on ports port)
+active_is : (ports : List ℕ) (port : ℕ) → vm_on ports port < VMS → active_seen ports port ≡ Some (vm_on ports port)
 unfolding active_seen
 active_is ports port v = rw (lt-ltb (vm_on ports port) VMS v)
 
@@ -141,14 +138,14 @@ fill_step Dma t memory r cache hand port gpa v n e =
     }
 
 -- ---- a fill: the key's slot, an empty one, or the one at the hand, which is given up first
-full_slot : (ws : List ℕ) (k i : ℕ) → place key_of ws k ≡ Nothing → i < length ws → get_or ws i 0 ≡ 0 → ⊥
+full_slot : (ws : List ℕ) (k i : ℕ) → place key_of ws k ≡ None → i < length ws → get_or ws i 0 ≡ 0 → ⊥
 unfolding free_entries
 full_slot ws k i e h z =
     let (j, at) = place_room key_of ws k (λ q. found_count is_empty ws i h (eq-eqb (get_or ws i 0) 0 z)) in
     found_never j (sym at ∙ e)
 
 -- once given up it is a place for the key
-given_up_lem : (ws : List ℕ) (k i : ℕ) → place key_of ws k ≡ Nothing → i < length ws → IsPlace key_of (set ws i 0) k i
+given_up_lem : (ws : List ℕ) (k i : ℕ) → place key_of ws k ≡ None → i < length ws → IsPlace key_of (set ws i 0) k i
 given_up_lem ws k i e h =
     record {
       within = rw length-set h;
@@ -174,9 +171,9 @@ module _ (side : Side) (t : Tables) (memory : List ℕ) (r : Route) (good : Cach
       goal : Type 0
       goal = HardwareRun (fill_calls side r port gpa) (shown side t memory r) (shown side t memory (fill_route r port gpa))
 
-      by_place : (f : Found) → place key_of r.cache (slot_key port (vm_on r.ports port) gpa) ≡ f → goal
-      by_place (At i) e = rw e (hardware_once (filled_at r.cache i _ (place_is key_of r.cache _ i good.once (omega arith) e)))
-      by_place Nothing e =
+      by_place : (f : Option ℕ) → place key_of r.cache (slot_key port (vm_on r.ports port) gpa) ≡ f → goal
+      by_place (Some i) e = rw e (hardware_once (filled_at r.cache i _ (place_is key_of r.cache _ i good.once (omega arith) e)))
+      by_place None e =
           let h : r.hand < length r.cache = omega arith in
           let n = full_slot r.cache _ r.hand e h in
           rw (e, ← set-set r.cache r.hand 0 _)
@@ -186,24 +183,24 @@ module _ (side : Side) (t : Tables) (memory : List ℕ) (r : Route) (good : Cach
 -- ---- an emptied slot
 empty_run : (side : Side) (t : Tables) (memory : List ℕ) (r : Route) (slot : ℕ) → CacheGood r.walker r.cache → slot < length r.cache →
     HardwareRun (empty_calls side r slot) (shown side t memory r) (shown side t memory (with_cache r (empty_cache r.cache slot) r.hand))
-empty_run side t memory r slot good h = ⊎_elim none some (equal (get_or r.cache slot 0) 0)
+empty_run side t memory r slot good h = ⊎_elim None Some (equal (get_or r.cache slot 0) 0)
   where
     goal : Type 0
     goal = HardwareRun (empty_calls side r slot) (shown side t memory r) (shown side t memory (with_cache r (empty_cache r.cache slot) r.hand))
 
-    none : get_or r.cache slot 0 ≡ 0 → goal
-    none z =
+    None : get_or r.cache slot 0 ≡ 0 → goal
+    None z =
         let same : set r.cache slot 0 ≡ r.cache = rw z at (set-get_or r.cache slot 0) in
         rw (eq-eqb (get_or r.cache slot 0) 0 z, same) (stop (same_hardware _))
 
-    some : (get_or r.cache slot 0 ≡ 0 → ⊥) → goal
-    some n =
+    Some : (get_or r.cache slot 0 ≡ 0 → ⊥) → goal
+    Some n =
         rw (ne_eqb (get_or r.cache slot 0) 0 n)
         (hardware_once (forget_step side t memory r (set r.cache slot 0) r.hand _ (forget_seen r.walker r.cache good slot h n)))
 
 -- ---- a CPU switched
 active_set : (ports : List ℕ) (port n : ℕ) → port < length ports → (cpu : ℕ) →
-    active_seen (set ports port n) cpu ≡ answer_at (active_seen ports) port (if is_idle n then none else some n) cpu
+    active_seen (set ports port n) cpu ≡ answer_at (active_seen ports) port (if is_idle n then None else Some n) cpu
 unfolding active_seen
 active_set ports port n h cpu =
     ⊎_elim (λ q. rw (eq-eqb cpu port q) (rw (q, get_or-set_same ports port n IDLE h))) (λ d. rw (ne_eqb cpu port d, get_or-set_other ports port cpu n IDLE d)) (equal cpu port)
@@ -213,16 +210,16 @@ ports_hardware : (s : State) (ports : List ℕ) (active : ℕ → Option ℕ) �
 ports_hardware s ports active e =
     same_with (hardware_view (record { tables = with_side Cpu s.tables (with_ports s.tables.cpu ports) s.tables.sets; memory = s.memory })) _ active (λ address. refl) e
 
-switch_run : (s : State) (port : ℕ) (target : Target) → port < length s.tables.cpu.ports → is_target target ≡ true →
+switch_run : (s : State) (port : ℕ) (target : Option VmId) → port < length s.tables.cpu.ports → is_target target ≡ true →
     HardwareRun (port_calls Cpu port target) (hardware_view s)
     (hardware_view (record { tables = with_side Cpu s.tables (with_ports s.tables.cpu (port_ports s.tables.cpu.ports port target)) s.tables.sets; memory = s.memory }))
-switch_run s port Idle h e = hardware_once (ports_hardware s (set s.tables.cpu.ports port IDLE) _ (active_set s.tables.cpu.ports port IDLE h))
-switch_run s port (Vm vm) h e =
+switch_run s port None h e = hardware_once (ports_hardware s (set s.tables.cpu.ports port IDLE) _ (active_set s.tables.cpu.ports port IDLE h))
+switch_run s port (Some vm) h e =
     hardware_once (ports_hardware s (set s.tables.cpu.ports port vm.0) _ (λ cpu. active_set s.tables.cpu.ports port vm.0 h cpu ∙ rw e))
 
 -- ---- the operations
 -- what a device is bound to is in neither view
-port_run : (side : Side) (s : State) (port : ℕ) (target : Target) → port < length (route side s.tables).ports → is_target target ≡ true →
+port_run : (side : Side) (s : State) (port : ℕ) (target : Option VmId) → port < length (route side s.tables).ports → is_target target ≡ true →
     Follows s (record {
       tables = with_side side s.tables
           (with_ports (route side s.tables) (port_ports (route side s.tables).ports port target)) s.tables.sets;
@@ -231,7 +228,7 @@ port_run : (side : Side) (s : State) (port : ℕ) (target : Target) → port < l
 port_run Cpu s port target h e = record { software = stop (same_software _); hardware = switch_run s port target h e }
 port_run Dma s port target h e = record { software = stop (same_software _); hardware = stop (same_hardware _) }
 
-slot_below : (slot : ℕ) {dropped word : ℕ} → empty_answer slot ≡ Accepted dropped word → slot < SLOTS
+slot_below : (slot : ℕ) {dropped word : ℕ} → empty_answer slot ≡ accept dropped word → slot < SLOTS
 unfolding empty_answer
 slot_below slot e = ltb-true slot SLOTS (not-false _ (past (not (is_slot slot)) _ _ _ e).0)
 
@@ -243,7 +240,7 @@ cache_only Cpu s cache hand calls run = record { software = stop (same_software 
 cache_only Dma s cache hand calls run = record { software = stop (same_software _); hardware = run }
 
 module _ (side : Side) (s : State) (valid : ValidTables s.tables) where
-  pub port_follows : (port : ℕ) (target : Target) {dropped word : ℕ} → answer_of s.tables (op.On side (sided.GivePort port target)) ≡ Accepted dropped word →
+  pub port_follows : (port : ℕ) (target : Option VmId) {dropped word : ℕ} → answer_of s.tables (op.On side (sided.GivePort port target)) ≡ accept dropped word →
       AcceptedFollows s (op.On side (sided.GivePort port target))
   unfolding port_answer apply cleared_pages
   port_follows port target e =
@@ -251,7 +248,7 @@ module _ (side : Side) (s : State) (valid : ValidTables s.tables) where
       let (p, r) = hold (is_port port) (is_target target) a in
       port_run side s port target (rw (lengths_of side s.tables valid).ports (ltb-true port PORTS p)) r
 
-  pub fill_follows : (port : ℕ) (guest : GuestPage) {dropped word : ℕ} → answer_of s.tables (op.On side (sided.FillSlot port guest)) ≡ Accepted dropped word →
+  pub fill_follows : (port : ℕ) (guest : GuestPage) {dropped word : ℕ} → answer_of s.tables (op.On side (sided.FillSlot port guest)) ≡ accept dropped word →
       AcceptedFollows s (op.On side (sided.FillSlot port guest))
   unfolding apply cleared_pages
   fill_follows port guest e =
@@ -260,7 +257,7 @@ module _ (side : Side) (s : State) (valid : ValidTables s.tables) where
       cache_only side s _ _ _ (fill_run side s.tables s.memory r g.cache (lengths_of side s.tables valid).cache g.hand port guest.0
       (fill_passed r.ports r.walker port guest.0 e))
 
-  pub empty_follows : (slot : ℕ) {dropped word : ℕ} → answer_of s.tables (op.On side (sided.EmptySlot slot)) ≡ Accepted dropped word →
+  pub empty_follows : (slot : ℕ) {dropped word : ℕ} → answer_of s.tables (op.On side (sided.EmptySlot slot)) ≡ accept dropped word →
       AcceptedFollows s (op.On side (sided.EmptySlot slot))
   unfolding apply cleared_pages
   empty_follows slot e =

@@ -3,7 +3,7 @@ use Prim.Native.Nat.{ℕ, suc, ◌+◌, ◌-◌, ◌≤◌, ◌<◌}
 use mathlib.Core.Bool.{Bool, true, false, ◌&&◌, ◌||◌, true≢false, and_assoc, and-or_distrib_left}
 use mathlib.Core.List.{List}
 use mathlib.Core.Logic.{⊎_elim}
-use mathlib.Core.Option.{none}
+use Rattle.std.specs.Prelude.{None}
 use mathlib.Core.Path.{◌≡◌, refl, sym, ap, ◌∙◌}
 use native.Mathlib.Omega.{arith}
 use lib.Dec.{eqb, leb, ltb}
@@ -59,13 +59,13 @@ goes region w port vm gpa o f =
     rw (eq-eqb (filled_of w) 1 f, o.vm_is, o.guest_is) (and_assoc (eqb vm region.vm.0) (leb region.guest.0 gpa) (ltb gpa (region.guest.0 + region.count)))
 
 pub map-wiped : (region : Region) (table : List ℕ) (vm gpa : ℕ) → Distinct key_of table → vm < VMS → gpa < GUEST_PAGES →
-    map_seen (remove_table table region) vm gpa ≡ (if has_entry region vm gpa then none else map_seen table vm gpa)
+    map_seen (remove_table table region) vm gpa ≡ (if has_entry region vm gpa then None else map_seen table vm gpa)
 unfolding remove_table
 map-wiped region table vm gpa once v g =
     wiped_seen (in_region region) table (key vm gpa) (has_entry region vm gpa) (omega arith) once (λ h e. goes region _ 0 vm gpa (of_key _ vm gpa v g e) (omega arith))
 
 pub tlb_wiped : (region : Region) (cache : List ℕ) (port vm gpa : ℕ) → Distinct key_of cache → vm < VMS → gpa < GUEST_PAGES →
-    tlb_seen (remove_table cache region) port vm gpa ≡ (if has_entry region vm gpa then none else tlb_seen cache port vm gpa)
+    tlb_seen (remove_table cache region) port vm gpa ≡ (if has_entry region vm gpa then None else tlb_seen cache port vm gpa)
 unfolding remove_table
 tlb_wiped region cache port vm gpa once v g =
     wiped_seen (in_region region) cache (slot_key port vm gpa) (has_entry region vm gpa) (omega arith) once
@@ -180,7 +180,7 @@ entry_more region k vm gpa = rw (span_more region.guest.0 k gpa) (and-or_distrib
 -- one page more is one key unmapped, in a walker and in a cache
 module _ (region : Region) (k vm gpa : ℕ) (v : vm < VMS) (g : gpa < GUEST_PAGES) where
   pub map-wiped_more : (table : List ℕ) → Distinct key_of table →
-      map_seen (remove_table table (up_to region (suc k))) vm gpa ≡ map_at (map_seen (remove_table table (up_to region k))) region.vm.0 (guest_in region k) none vm gpa
+      map_seen (remove_table table (up_to region (suc k))) vm gpa ≡ map_at (map_seen (remove_table table (up_to region k))) region.vm.0 (guest_in region k) None vm gpa
   map-wiped_more table once =
       map-wiped (up_to region (suc k)) table vm gpa once v g
       ∙ rw (entry_more region k vm gpa, map-wiped (up_to region k) table vm gpa once v g) (none_either (eqb vm region.vm.0 && eqb gpa (guest_in region k)) _ _)

@@ -3,14 +3,14 @@ use Prim.Native.Nat.{ℕ, zero, suc, ◌+◌, ◌≤◌, ◌<◌}
 use mathlib.Core.Bool.{Bool, true, false, not, ◌||◌, true≢false}
 use mathlib.Core.List.{List, ◌++◌}
 use mathlib.Core.Logic.{⊎_elim}
-use mathlib.Core.Option.{some}
+use Rattle.std.specs.Prelude.{Some}
 use mathlib.Core.Path.{◌≡◌, refl, sym, ap, ◌∙◌}
 use native.Mathlib.Omega.{arith}
 use borrow.Author.Tests.{not-false, eqb-true, eq-eqb, ne_eqb}
 use Rattle.numbers.specs.Limits.{VMS, GUEST_PAGES, PAGES}
 use Rattle.numbers.specs.Packing.{key, key_of, page_of}
 use Rattle.numbers.specs.PackingLaws.{key_same}
-use Rattle.numbers.specs.declared.Answer.TheVariants.{Accepted}
+use Rattle.numbers.specs.Meaning.{accept}
 use Rattle.numbers.specs.declared.Operation.TheVariants as op
 use Rattle.numbers.specs.declared.Side.{Side}
 use Rattle.numbers.specs.declared.Side.TheVariants.{Cpu, Dma}
@@ -47,7 +47,7 @@ use Rattle.model.proofs.UpstreamRegionSets.{claims_given, claims_taken, pool_giv
 
 -- ---- the unit
 insert_unit : (side : Side) (known pages : ℕ) (unit : Bool) (sets map : List ℕ) (region : Region) {dropped word : ℕ} →
-    insert_answer side known pages unit sets map region ≡ Accepted dropped word → unit ≡ true
+    insert_answer side known pages unit sets map region ≡ accept dropped word → unit ≡ true
 unfolding insert_answer
 insert_unit side known pages unit sets map region e =
     let (d, w, early, a) = then_passed (region_early known pages region) _ e in
@@ -193,7 +193,7 @@ module _ (side : Side) (t : Tables) (memory : List ℕ) (r : Route) (known pages
 
 -- ---- remove: what upstream asks for
 remove_unit : (side : Side) (known pages : ℕ) (unit : Bool) (sets pairs map cache : List ℕ) (region : Region) {dropped word : ℕ} →
-    remove_answer side known pages unit sets pairs map cache region ≡ Accepted dropped word → unit ≡ true
+    remove_answer side known pages unit sets pairs map cache region ≡ accept dropped word → unit ≡ true
 unfolding remove_answer remove_may
 remove_unit side known pages unit sets pairs map cache region e =
     let (k, r, may, _) = then_passed (remove_may side known pages unit sets pairs map region) _ e in
@@ -214,7 +214,7 @@ module _ (t : Tables) (valid : ValidTables t) (region : Region) (early : RegionP
   -- no other key targets one of its pages
   no_others : (side : Side) (table : List ℕ) → MapGood side t.setup.pages t.known t.sets t.pairs table →
       ((k : ℕ) → k < region.count → targeted (but_key (key_in region k)) table (page_in region k) ≡ false) →
-      (vm gpa : ℕ) (e : S2Entry) → vm < VMS → gpa < GUEST_PAGES → map_seen table vm gpa ≡ some e → is_some (entries_of region vm gpa) ≡ false → pages_of region e.page ≡ false
+      (vm gpa : ℕ) (e : S2Entry) → vm < VMS → gpa < GUEST_PAGES → map_seen table vm gpa ≡ Some e → is_some (entries_of region vm gpa) ≡ false → pages_of region e.page ≡ false
   no_others side table good unused vm gpa e v g q f = not_so _ (λ x. let (k, h, i) = page_place region e.page x in clash k h i)
     where
       w : ℕ
@@ -321,7 +321,7 @@ module _ (side : Side) (t : Tables) (memory : List ℕ) (r : Route) (region : Re
 
 -- ---- the operations
 module _ (side : Side) (s : State) (valid : ValidTables s.tables) (region : Region) where
-  pub insert_follows : {dropped word : ℕ} → answer_of s.tables (op.On side (sided.InsertRegion region)) ≡ Accepted dropped word →
+  pub insert_follows : {dropped word : ℕ} → answer_of s.tables (op.On side (sided.InsertRegion region)) ≡ accept dropped word →
       AcceptedFollows s (op.On side (sided.InsertRegion region))
   unfolding SameMap apply cleared_pages
   insert_follows e =
@@ -344,7 +344,7 @@ module _ (side : Side) (s : State) (valid : ValidTables s.tables) (region : Regi
             (rw (with_own side t) at (insert_run side t s.memory (route side t) t.known t.setup.pages region p.early valid.setup.most_pages room absent));
       }
 
-  pub remove_follows : {dropped word : ℕ} → answer_of s.tables (op.On side (sided.RemoveRegion region)) ≡ Accepted dropped word →
+  pub remove_follows : {dropped word : ℕ} → answer_of s.tables (op.On side (sided.RemoveRegion region)) ≡ accept dropped word →
       AcceptedFollows s (op.On side (sided.RemoveRegion region))
   unfolding apply
   remove_follows e =

@@ -4,7 +4,7 @@ use Prim.Native.Nat.{ℕ, ◌<◌}
 use mathlib.Core.Bool.{Bool, true, false, not, ◌&&◌, ◌||◌, true≢false, and-false, or_comm}
 use mathlib.Core.List.{List, [], ◌∷◌, ◌++◌, append_assoc}
 use mathlib.Core.Logic.{⊎_elim}
-use mathlib.Core.Option.{none}
+use Rattle.std.specs.Prelude.{None}
 use mathlib.Core.Path.{◌≡◌, refl, sym, ap, ◌∙◌}
 use native.Mathlib.Omega.{arith}
 use lib.Dec.{eqb}
@@ -14,7 +14,7 @@ use Rattle.std.specs.Prelude.{if◌then◌else◌}
 use Rattle.numbers.specs.Limits.{VMS, GUEST_PAGES, PAGES}
 use Rattle.numbers.specs.Packing.{key, key_of, address_of, pair_key, pair_key_of, vm_of, guest_of, page_of, filled_of, left_of, right_of}
 use Rattle.numbers.specs.PackingLaws.{unported, key_filled}
-use Rattle.numbers.specs.declared.Answer.TheVariants.{Accepted}
+use Rattle.numbers.specs.Meaning.{accept}
 use Rattle.numbers.specs.declared.Operation.TheVariants as op
 use Rattle.numbers.specs.declared.Side.{Side}
 use Rattle.numbers.specs.declared.Side.TheVariants.{Cpu, Dma}
@@ -58,11 +58,11 @@ module _ (t : Tables) (valid : ValidTables t) (vm : ℕ) where
 
   -- so what a key shows stays unless it is onto one, and where there is no word there is no entry
   onto_word : (side : Side) (w : ℕ) → ((w ≡ 0 → ⊥) → page_of w < PAGES) →
-      (if onto_its side t.sets vm w then none else seen w) ≡ unless_onto side (software_view t) vm (seen w)
+      (if onto_its side t.sets vm w then None else seen w) ≡ unless_onto side (software_view t) vm (seen w)
   unfolding seen
   onto_word side w below = ⊎_elim empty (λ n. rw (seen_is w n, onto_seen side w (below n))) (equal w 0)
     where
-      empty : w ≡ 0 → (if onto_its side t.sets vm w then none else seen w) ≡ unless_onto side (software_view t) vm (seen w)
+      empty : w ≡ 0 → (if onto_its side t.sets vm w then None else seen w) ≡ unless_onto side (software_view t) vm (seen w)
       empty z = rw z (⊎_elim (λ y. rw y) (λ n. rw n) (cases (onto_its side t.sets vm 0)))
 
   map-left : (side : Side) (v gpa : ℕ) → v < VMS → gpa < GUEST_PAGES →
@@ -258,7 +258,7 @@ module _ (side : Side) (t : Tables) (valid : ValidTables t) (vm : ℕ) where
       ) rest)
 
 -- ---- the operation
-pub retire_follows : (s : State) → ValidTables s.tables → (vm : VmId) {dropped word : ℕ} → answer_of s.tables (op.RetireVm vm) ≡ Accepted dropped word →
+pub retire_follows : (s : State) → ValidTables s.tables → (vm : VmId) {dropped word : ℕ} → answer_of s.tables (op.RetireVm vm) ≡ accept dropped word →
     AcceptedFollows s (op.RetireVm vm)
 unfolding apply
 retire_follows s valid vm e =

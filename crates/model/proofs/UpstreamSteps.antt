@@ -3,7 +3,7 @@
 use Prim.Native.Nat.{ℕ}
 use mathlib.Core.List.{List}
 use mathlib.Core.Path.{◌≡◌}
-use Rattle.numbers.specs.declared.Answer.TheVariants.{Accepted}
+use Rattle.numbers.specs.Meaning.{accept}
 use Rattle.numbers.specs.declared.Operation.{Operation}
 use Rattle.numbers.specs.declared.Operation.TheVariants as op
 use Rattle.numbers.specs.declared.Side.{Side}
@@ -13,7 +13,8 @@ use Rattle.model.specs.State.{State}
 use Rattle.model.specs.Step.{answer_of, next_of, effect_of, control, step}
 use Rattle.model.specs.Valid.{Valid}
 use Rattle.model.specs.Effect.{accepted}
-use Rattle.model.specs.Start.{Told, Lent, start_answer, start}
+use Rattle.model.specs.Start.{Told, start_answer, start}
+use Rattle.model.specs.Header.{Lists}
 use Rattle.model.specs.Sequence.{beginning, after}
 use Rattle.model.specs.Upstream.{WellFormed}
 use Rattle.model.specs.UpstreamRun.{dsb, isb, software_calls, hardware_calls, FollowsUpstream}
@@ -29,7 +30,7 @@ use Rattle.model.proofs.UpstreamRetire.{retire_follows}
 
 -- ---- an accepted operation of a side, and any accepted operation
 module _ (s : State) (v : Valid s) where
-  side_follows : (side : Side) (operation : SideOperation) {dropped word : ℕ} → answer_of s.tables (op.On side operation) ≡ Accepted dropped word →
+  side_follows : (side : Side) (operation : SideOperation) {dropped word : ℕ} → answer_of s.tables (op.On side operation) ≡ accept dropped word →
       AcceptedFollows s (op.On side operation)
   side_follows side (sided.MapPage vm guest page access generation) e = map-follows side s v.tables vm guest page access generation e
   side_follows side (sided.UnmapPage vm guest) e = unmap_follows side s v.tables vm guest e
@@ -41,7 +42,7 @@ module _ (s : State) (v : Valid s) where
   side_follows side (sided.ReadWord port guest word) e = read_follows s v side port guest word e
   side_follows side (sided.WriteWord port guest word value) e = write_follows s v side port guest word value e
 
-  accepted_follows : (operation : Operation) {dropped word : ℕ} → answer_of s.tables operation ≡ Accepted dropped word → AcceptedFollows s operation
+  accepted_follows : (operation : Operation) {dropped word : ℕ} → answer_of s.tables operation ≡ accept dropped word → AcceptedFollows s operation
   accepted_follows (op.AddVm vm) e = add_vm_follows s v.tables vm e
   accepted_follows (op.RemoveVm vm) e = remove_vm_follows s v.tables vm e
   accepted_follows (op.AssignPage vm page) e = assign_follows s v.tables vm page e
@@ -62,5 +63,5 @@ follows_upstream s v operation =
     (λ dropped word e. accepted_follows s v operation e)
 
 -- ---- upstream's wf holds of every state that the machine comes to: after an accepted start, and however many rows follow
-pub reached_well_formed : (told : Told) (lent : Lent) → start_answer told lent ≡ accepted → (rows room : List ℕ) (k : ℕ) → WellFormed (after rows k (beginning (start told lent).state room)).state
+pub reached_well_formed : (told : Told) (lent : Lists) → start_answer told lent ≡ accepted → (rows room : List ℕ) (k : ℕ) → WellFormed (after rows k (beginning (start told lent).state room)).state
 reached_well_formed told lent e rows room k = well_formed _ (started_valid told lent e rows room k).tables

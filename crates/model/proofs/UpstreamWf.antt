@@ -3,7 +3,7 @@ use Prim.Native.Nat.{ℕ, ◌/◌, ◌%◌, ◌<◌}
 use mathlib.Core.Bool.{true, false, true≢false}
 use mathlib.Core.List.{List}
 use mathlib.Core.Logic.{inl, inr, ⊎_elim}
-use mathlib.Core.Option.{some}
+use Rattle.std.specs.Prelude.{Some}
 use mathlib.Core.Path.{◌≡◌, refl, sym, ap, ◌∙◌}
 use native.Mathlib.Omega.{arith}
 use lib.Dec.{ltb}
@@ -129,7 +129,7 @@ module _ (t : Tables) (valid : ValidTables t) where
   -- ---- mappings
   -- what a side's map shows is an entry in it
   pub entry_seen : (side : Side) (table : List ℕ) (vm gpa : ℕ) (e : S2Entry) → MapGood side t.setup.pages t.known t.sets t.pairs table → vm < VMS →
-      gpa < GUEST_PAGES → map_seen table vm gpa ≡ some e →
+      gpa < GUEST_PAGES → map_seen table vm gpa ≡ Some e →
       (knows t.known vm ≡ true) × (may_map side t.sets t.pairs vm e.page ≡ true)
   entry_seen side table vm gpa e g v l q =
       let w = lookup key_of table (key vm gpa) in

@@ -16,8 +16,7 @@ use Rattle.table.specs.Scan.{any_below}
 use Rattle.table.specs.ScanLaws.{IsFirst, any_here, has_any, any_false, any_true, any_below_false, any_below_true}
 use Rattle.table.specs.Table.{Has, find, is_found}
 use Rattle.table.specs.TableLaws.{find_at, find_none}
-use Rattle.table.specs.declared.Found.{Found}
-use Rattle.table.specs.declared.Found.TheVariants.{At, Nothing}
+use Rattle.std.specs.Prelude.{Option, Some, None}
 use Rattle.model.specs.EarlyLaws.{both}
 use Rattle.model.specs.MemoryLaws.{get_or-there}
 use Rattle.model.specs.Views.{claims, claimed_elsewhere, has_pages, on_page, of_vm, joins, shares, edge_on, edge_of, paired, targeted, has_mappings, lent_to, may_map, on_port}
@@ -110,17 +109,17 @@ paired_joins pairs left right page e = go (find pair_key_of pairs (pair_key left
         let k : pair_key_of (get_or pairs i 0) ≡ pair_key left right page = eqb-true _ _ r.passes in
         (get_or pairs i 0, record { there = record { spot = i; within = r.within; holds = refl; filled = λ z. absurd (let q = rw z at k in omega arith) }; key = k })
 
-    go : (f : Found) → find pair_key_of pairs (pair_key left right page) ≡ f → is_found f ≡ true → (w : ℕ) × Joins pairs left right page w
-    go (At i) q t = at i (find_at pair_key_of pairs (pair_key left right page) i q)
-    go Nothing q t = absurd (true≢false (sym t))
+    go : (f : Option ℕ) → find pair_key_of pairs (pair_key left right page) ≡ f → is_found f ≡ true → (w : ℕ) × Joins pairs left right page w
+    go (Some i) q t = at i (find_at pair_key_of pairs (pair_key left right page) i q)
+    go None q t = absurd (true≢false (sym t))
 
 pub not_paired : (pairs : List ℕ) (left right page w : ℕ) → paired pairs left right page ≡ false → Joins pairs left right page w → ⊥
 unfolding paired
 not_paired pairs left right page w e r = go (find pair_key_of pairs (pair_key left right page)) refl e
   where
-    go : (f : Found) → find pair_key_of pairs (pair_key left right page) ≡ f → is_found f ≡ false → ⊥
-    go (At i) q t = true≢false t
-    go Nothing q t = find_none pair_key_of pairs (pair_key left right page) q r.there.spot r.there.within (rw r.there.holds r.key)
+    go : (f : Option ℕ) → find pair_key_of pairs (pair_key left right page) ≡ f → is_found f ≡ false → ⊥
+    go (Some i) q t = true≢false t
+    go None q t = find_none pair_key_of pairs (pair_key left right page) q r.there.spot r.there.within (rw r.there.holds r.key)
 
 -- ---- mappings
 pub not_targeted : (counts : ℕ → Bool) (table : List ℕ) (page w : ℕ) → targeted counts table page ≡ false → Has table w → counts w ≡ true → filled_of w ≡ 1 → page_of w ≡ page → ⊥

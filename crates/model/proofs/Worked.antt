@@ -7,7 +7,8 @@ use lib.ListN.{replicate}
 use Rattle.numbers.specs.Meaning.{answer_numbers, lowest_numbers}
 use Rattle.model.specs.State.{State}
 use Rattle.model.specs.Step.{Stepped}
-use Rattle.model.specs.Start.{Told, Lent, Free, start, free}
+use Rattle.model.specs.Start.{Told, Free, start, free}
+use Rattle.model.specs.Header.{Lists}
 use Rattle.model.specs.Sequence.{step_row}
 use Rattle.model.proofs.Computes.{computes}
 
@@ -59,7 +60,7 @@ eight_pages =
       units = 1 ∷ 16 ∷ 0 ∷ 3 ∷ 3 ∷ 3 ∷ 2 ∷ 16 ∷ 2 ∷ 2 ∷ 3 ∷ 1 ∷ [];
     }
 
-abbrev pub lent : Lent
+abbrev pub lent : Lists
 lent =
     record {
       sets = replicate (SETS * SET_WORDS) 7;

@@ -2,7 +2,7 @@
 use Rattle.std.specs.Prelude.{ℕ, ◌/◌, ◌%◌, Bool, not, ◌&&◌, List, eqb}
 use Rattle.std.specs.Prelude.{if◌then◌else◌}
 use Rattle.numbers.specs.Packing.{slot_key, key, key_of, access_of, page_of}
-use Rattle.numbers.specs.declared.Answer.{Answer}
+use Rattle.numbers.specs.Meaning.{Answer}
 use Rattle.numbers.specs.declared.Refusal.TheVariants.{OutOfRange, MappingDiffers, PortIdle, AccessLacking}
 use Rattle.table.specs.Table.{lookup}
 use Rattle.model.specs.Views.{is_guest, is_port, is_word, is_idle}

@@ -1,16 +1,13 @@
 -- When an operation is accepted (docs/MACHINE.md, 7): everything that it needs, each named once, in words of what the tables
 -- show (who is known, owns, holds, shares, maps) and in no order of checks.
 use Prim.{Unit as Anything}
-use Rattle.std.specs.Prelude.{ℕ, ◌+◌, ◌/◌, ◌%◌, ◌≤◌, ◌<◌, Bool, true, false, List, ◌⊎◌, ◌≡◌, get_or}
-use Rattle.std.proofs.Math.Option.{some}
+use Rattle.std.specs.Prelude.{ℕ, ◌+◌, ◌/◌, ◌%◌, ◌≤◌, ◌<◌, Bool, true, false, List, ◌⊎◌, ◌≡◌, get_or, Ok, Err, Option, None, Some}
 use Rattle.numbers.specs.Limits.{VMS, GUEST_PAGES, PAGE_WORDS, PAGES, PORTS, SLOTS, ACCESSES, GENERATIONS, READ, WRITE, IDLE}
 use Rattle.numbers.specs.Packing.{vm_of, guest_of, page_of, access_of, generation_of, left_of, right_of}
-use Rattle.numbers.specs.declared.Answer.{Answer}
-use Rattle.numbers.specs.declared.Answer.TheVariants.{Accepted, Refused}
+use Rattle.numbers.specs.Meaning.{Answer}
 use Rattle.numbers.specs.declared.Side.{Side}
 use Rattle.numbers.specs.declared.Side.TheVariants.{Cpu, Dma}
-use Rattle.numbers.specs.declared.Target.{Target}
-use Rattle.numbers.specs.declared.Target.TheVariants.{Idle, Vm}
+use Rattle.numbers.specs.declared.VmId.{VmId}
 use Rattle.numbers.specs.declared.SideOperation.{SideOperation}
 use Rattle.numbers.specs.declared.SideOperation.TheVariants as sided
 use Rattle.numbers.specs.declared.Operation.{Operation}
@@ -25,8 +22,8 @@ use Rattle.model.specs.Sequence.{operation_in}
 
 -- ---- the answer accepts
 abbrev pub accepts : Answer → Bool
-accepts (Accepted dropped word) = true
-accepts (Refused refusal index) = false
+accepts (Ok ok) = true
+accepts (Err err) = false
 
 -- ---- what the tables show
 abbrev pub Knows : Tables → ℕ → Type 0
@@ -200,11 +197,11 @@ pub record Removes (side : Side) (t : Tables) (region : Region) : Type 0 where
   pub no_edge : (k : ℕ) → k < region.count → Unshared side t (region.page.0 + k)
 
 -- ---- 15 to 20
-abbrev pub TargetGood : Tables → Target → Type 0
-TargetGood t Idle = Anything {0}
-TargetGood t (Vm vm) = (vm.0 < VMS) × Knows t vm.0
+abbrev pub TargetGood : Tables → Option VmId → Type 0
+TargetGood t None = Anything {0}
+TargetGood t (Some vm) = (vm.0 < VMS) × Knows t vm.0
 
-pub record GivesPort (t : Tables) (port : ℕ) (target : Target) : Type 0 where
+pub record GivesPort (t : Tables) (port : ℕ) (target : Option VmId) : Type 0 where
   pub port_ok : port < PORTS
   pub target_ok : TargetGood t target
 
@@ -268,5 +265,5 @@ Conditions t (op.RetireVm vm) = Retires t vm.0
 -- ---- a row: it names an operation, and the operation's conditions hold
 pub record RowConditions (t : Tables) (row : List ℕ) : Type 0 where
   pub operation : Operation
-  pub named : operation_in row ≡ some operation
+  pub named : operation_in row ≡ Some operation
   pub conditions : Conditions t operation

@@ -1,11 +1,10 @@
 -- What an early check that passed tells: the numbers are in range and the VMs known.
-use Rattle.std.specs.Prelude.{ℕ, ◌+◌, ◌≤◌, ◌<◌, Bool, true, false, not, ◌&&◌, ◌≡◌, refl, ltb}
+use Rattle.std.specs.Prelude.{ℕ, ◌+◌, ◌≤◌, ◌<◌, Bool, true, false, not, ◌&&◌, ◌≡◌, refl, ltb, Ok, Err}
 use Rattle.std.proofs.Common.{true≢false, sym, arith, ltb-true, leb-true}
 use Rattle.std.proofs.lemmas.Bool.{not-false}
 use Rattle.std.specs.Prelude.{if◌then◌else◌}
 use Rattle.numbers.specs.Limits.{VMS, GUEST_PAGES, ACCESSES, GENERATIONS}
-use Rattle.numbers.specs.declared.Answer.{Answer}
-use Rattle.numbers.specs.declared.Answer.TheVariants.{Accepted, Refused}
+use Rattle.numbers.specs.Meaning.{Answer, accept, refuse}
 use Rattle.numbers.specs.declared.Refusal.{Refusal}
 use Rattle.numbers.specs.declared.Region.{Region}
 use Rattle.units.specs.Spans.{span_within, region_span}
@@ -16,11 +15,11 @@ use Rattle.model.specs.Maps.{map_early, unmap_early}
 use Rattle.model.specs.Regions.{region_early}
 
 -- ---- chains
-pub never_both : {r : Refusal} {i dropped word : ℕ} {X : Type 0} → Refused r i ≡ Accepted dropped word → X
+pub never_both : {r : Refusal} {i dropped word : ℕ} {X : Type 0} → refuse r i ≡ accept dropped word → X
 never_both e = absurd (let z : ◌≡◌ {A = ℕ} 0 1 = cc in omega arith)
 
 -- where a chain accepts, its first condition was false and the rest accepts
-pub past : (t : Bool) (r : Refusal) (i : ℕ) (rest : Answer) {dropped word : ℕ} → (if t then Refused r i else rest) ≡ Accepted dropped word → (t ≡ false) × (rest ≡ Accepted dropped word)
+pub past : (t : Bool) (r : Refusal) (i : ℕ) (rest : Answer) {dropped word : ℕ} → (if t then refuse r i else rest) ≡ accept dropped word → (t ≡ false) × (rest ≡ accept dropped word)
 past true r i rest e = never_both e
 past false r i rest e = (refl, e)
 
@@ -33,16 +32,16 @@ pub hold : (a b : Bool) → not (a && b) ≡ false → (a ≡ true) × (b ≡ tr
 hold a b e = both a b (not-false (a && b) e)
 
 -- where what follows an early check accepts, the check accepted too
-pub then_passed : (early next : Answer) {dropped word : ℕ} → and_then early next ≡ Accepted dropped word → (d : ℕ) × (w : ℕ) × (early ≡ Accepted d w) × (next ≡ Accepted dropped word)
-then_passed (Accepted d w) next e = (d, w, refl, e)
-then_passed (Refused r i) next e = never_both e
+pub then_passed : (early next : Answer) {dropped word : ℕ} → and_then early next ≡ accept dropped word → (d : ℕ) × (w : ℕ) × (early ≡ accept d w) × (next ≡ accept dropped word)
+then_passed (Ok ok) next e = (ok.dropped, ok.word, refl, e)
+then_passed (Err err) next e = never_both e
 
 -- ---- each early check
 pub record VmPassed (known vm : ℕ) : Type 0 where
   pub vm_ok : vm < VMS
   pub knows_vm : knows known vm ≡ true
 
-pub vm_passed : (known vm : ℕ) {dropped word : ℕ} → vm_early known vm ≡ Accepted dropped word → VmPassed known vm
+pub vm_passed : (known vm : ℕ) {dropped word : ℕ} → vm_early known vm ≡ accept dropped word → VmPassed known vm
 vm_passed known vm e =
     let a = past (not (is_vm vm)) _ _ _ e in
     let b = past (not (knows known vm)) _ _ _ a.1 in
@@ -53,7 +52,7 @@ pub record PagePassed (known pages vm page : ℕ) : Type 0 where
   pub page_ok : page < pages
   pub knows_vm : knows known vm ≡ true
 
-pub page_passed : (known pages vm page : ℕ) {dropped word : ℕ} → page_early known pages vm page ≡ Accepted dropped word → PagePassed known pages vm page
+pub page_passed : (known pages vm page : ℕ) {dropped word : ℕ} → page_early known pages vm page ≡ accept dropped word → PagePassed known pages vm page
 page_passed known pages vm page e =
     let a = past (not (is_vm vm && is_page pages page)) _ _ _ e in
     let b = past (not (knows known vm)) _ _ _ a.1 in
@@ -67,7 +66,7 @@ pub record PairPassed (known pages left right page : ℕ) : Type 0 where
   pub knows_left : knows known left ≡ true
   pub knows_right : knows known right ≡ true
 
-pub pair_passed : (known pages left right page : ℕ) {dropped word : ℕ} → pair_early known pages left right page ≡ Accepted dropped word → PairPassed known pages left right page
+pub pair_passed : (known pages left right page : ℕ) {dropped word : ℕ} → pair_early known pages left right page ≡ accept dropped word → PairPassed known pages left right page
 pair_passed known pages left right page e =
     let a = past (not (is_vm left && is_vm right && is_page pages page)) _ _ _ e in
     let b = past (not (knows known left && knows known right)) _ _ _ a.1 in
@@ -87,7 +86,7 @@ pub record UnmapPassed (known vm guest : ℕ) : Type 0 where
   pub guest_ok : guest < GUEST_PAGES
   pub knows_vm : knows known vm ≡ true
 
-pub unmap_passed : (known vm guest : ℕ) {dropped word : ℕ} → unmap_early known vm guest ≡ Accepted dropped word → UnmapPassed known vm guest
+pub unmap_passed : (known vm guest : ℕ) {dropped word : ℕ} → unmap_early known vm guest ≡ accept dropped word → UnmapPassed known vm guest
 unmap_passed known vm guest e =
     let a = past (not (is_vm vm && is_guest guest)) _ _ _ e in
     let b = past (not (knows known vm)) _ _ _ a.1 in
@@ -102,7 +101,7 @@ pub record MapPassed (known pages vm guest page access generation : ℕ) : Type 
   pub generation_ok : generation < GENERATIONS
   pub knows_vm : knows known vm ≡ true
 
-pub map-passed : (known pages vm guest page access generation : ℕ) {dropped word : ℕ} → map_early known pages vm guest page access generation ≡ Accepted dropped word → MapPassed known pages vm guest page access generation
+pub map-passed : (known pages vm guest page access generation : ℕ) {dropped word : ℕ} → map_early known pages vm guest page access generation ≡ accept dropped word → MapPassed known pages vm guest page access generation
 map-passed known pages vm guest page access generation e =
     let a = past (not (is_vm vm && is_guest guest && is_page pages page && is_access access && is_generation generation)) _ _ _ e in
     let b = past (not (knows known vm)) _ _ _ a.1 in
@@ -127,7 +126,7 @@ pub record RegionPassed (known pages : ℕ) (region : Region) : Type 0 where
   pub page_ok : region.page.0 + region.count ≤ pages
   pub knows_vm : knows known region.vm.0 ≡ true
 
-pub region_passed : (known pages : ℕ) (region : Region) {dropped word : ℕ} → region_early known pages region ≡ Accepted dropped word → RegionPassed known pages region
+pub region_passed : (known pages : ℕ) (region : Region) {dropped word : ℕ} → region_early known pages region ≡ accept dropped word → RegionPassed known pages region
 region_passed known pages region e =
     let a = past (not (is_vm region.vm.0 && is_access region.access)) _ _ _ e in
     let b = past (not (region_span region pages)) _ _ _ a.1 in

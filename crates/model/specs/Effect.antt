@@ -1,30 +1,29 @@
 -- What an operation does to memory, and what it decides without looking at memory (docs/MACHINE.md, 6).
-use Rattle.std.specs.Prelude.{ℕ, zero, suc, ◌+◌, ◌*◌, List, [], ◌∷◌, get_or, set}
+use Rattle.std.specs.Prelude.{ℕ, zero, suc, ◌+◌, ◌*◌, List, [], ◌∷◌, get_or, set, Ok, Err}
 use Rattle.numbers.specs.Limits.{PAGE_WORDS}
 use Rattle.numbers.specs.declared.Refusal.{Refusal}
-use Rattle.numbers.specs.declared.Answer.{Answer}
-use Rattle.numbers.specs.declared.Answer.TheVariants.{Accepted, Refused}
+use Rattle.numbers.specs.Meaning.{Answer, accept, refuse}
 use Rattle.model.specs.State.{Tables}
 
 -- ---- answers
 abbrev pub accepted : Answer
-accepted = Accepted 0 0
+accepted = accept 0 0
 
 abbrev pub accepted_dropping : ℕ → Answer
-accepted_dropping dropped = Accepted dropped 0
+accepted_dropping dropped = accept dropped 0
 
 abbrev pub refused : Refusal → Answer
-refused refusal = Refused refusal 0
+refused refusal = refuse refusal 0
 
 -- what follows an early check that passed
 abbrev pub and_then : Answer → Answer → Answer
-and_then (Accepted dropped word) next = next
-and_then (Refused refusal index) next = Refused refusal index
+and_then (Ok ok) next = next
+and_then (Err err) next = Err err
 
 -- a value that an accepted operation replaces and a refused one leaves
 abbrev pub kept {ℓ} : {A : Type ℓ} → Answer → A → A → A
-kept (Accepted dropped word) old new = new
-kept (Refused refusal index) old new = old
+kept (Ok ok) old new = new
+kept (Err err) old new = old
 
 -- ---- memory: page p's word k is word p * PAGE_WORDS + k; past the end nothing is read or written
 abbrev pub memory_index : ℕ → ℕ → ℕ

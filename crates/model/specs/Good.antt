@@ -1,11 +1,10 @@
 -- What a step owes to valid tables (docs/MACHINE.md, 12): what it leaves is valid, a VM reaches only what it may, and
 -- a page is cleared when a VM's last claim on it ends, and never while somebody claims it. Secrecy rests on this.
 use Prim.{Unit}
-use Rattle.std.specs.Prelude.{ℕ, ◌<◌, Bool, true, false, ◌||◌, List, [], ◌∷◌, ◌⊎◌, ◌≡◌}
-use Rattle.std.proofs.Math.Option.{Option, none, some}
+use Rattle.std.specs.Prelude.{ℕ, ◌<◌, Bool, true, false, ◌||◌, List, [], ◌∷◌, ◌⊎◌, ◌≡◌, Option, None, Some}
 use Rattle.numbers.specs.Limits.{VMS, READ, WRITE}
 use Rattle.numbers.specs.Packing.{vm_of, left_of, right_of, page_of}
-use Rattle.numbers.specs.declared.Answer.{Answer}
+use Rattle.numbers.specs.Meaning.{Answer}
 use Rattle.numbers.specs.declared.Operation.{Operation}
 use Rattle.numbers.specs.declared.Operation.TheVariants as op
 use Rattle.numbers.specs.declared.Side.{Side}
@@ -94,20 +93,20 @@ pub record Sharing : Type 0 where
   pub page : ℕ
 
 abbrev pub sharing : Operation → Option Sharing
-sharing (op.AddVm vm) = none
-sharing (op.RemoveVm vm) = none
-sharing (op.AssignPage vm page) = none
-sharing (op.ReclaimPage vm page) = none
-sharing (op.SharePage left right page) = some (record { left = left.0; right = right.0; page = page.0 })
-sharing (op.UnsharePage left right page) = none
-sharing (op.On side operation) = none
-sharing op.DataBarrier = none
-sharing op.InstructionBarrier = none
-sharing (op.RetireVm vm) = none
+sharing (op.AddVm vm) = None
+sharing (op.RemoveVm vm) = None
+sharing (op.AssignPage vm page) = None
+sharing (op.ReclaimPage vm page) = None
+sharing (op.SharePage left right page) = Some (record { left = left.0; right = right.0; page = page.0 })
+sharing (op.UnsharePage left right page) = None
+sharing (op.On side operation) = None
+sharing op.DataBarrier = None
+sharing op.InstructionBarrier = None
+sharing (op.RetireVm vm) = None
 
 -- the pair was made by an accepted share of the page's owner
 pub record Made (t : Tables) (operation : Operation) (answer : Answer) (w : ℕ) : Type 0 where
-  pub share : sharing operation ≡ some (record { left = left_of w; right = right_of w; page = page_of w })
+  pub share : sharing operation ≡ Some (record { left = left_of w; right = right_of w; page = page_of w })
   pub agreed : answer ≡ accepted
   pub owned : owns t.sets (left_of w) (page_of w) ≡ true
 

@@ -2,7 +2,7 @@
 use Rattle.std.specs.Prelude.{ℕ, not, ◌&&◌, List}
 use Rattle.std.specs.Prelude.{if◌then◌else◌}
 use Rattle.numbers.specs.Packing.{entry, map_word, key, key_of, address_of}
-use Rattle.numbers.specs.declared.Answer.{Answer}
+use Rattle.numbers.specs.Meaning.{Answer}
 use Rattle.numbers.specs.declared.Refusal.TheVariants.{OutOfRange, VmUnknown, PageNotHeld, MappingDiffers, NoRoom}
 use Rattle.numbers.specs.declared.Side.{Side}
 use Rattle.table.specs.Scan.{count}

@@ -1,35 +1,31 @@
 -- Operations 15 to 20: switch a CPU or bind a device, fill and empty a slot (docs/MACHINE.md, 7).
-use Rattle.std.specs.Prelude.{ℕ, ◌+◌, Bool, true, not, ◌&&◌, List, ltb, get_or, set}
+use Rattle.std.specs.Prelude.{ℕ, ◌+◌, Bool, true, not, ◌&&◌, List, ltb, get_or, set, Option, None, Some}
 use Rattle.std.specs.Prelude.{if◌then◌else◌}
 use Rattle.numbers.specs.Limits.{SLOTS, IDLE}
-use Rattle.numbers.specs.Meaning.{target_number}
+use Rattle.numbers.specs.Meaning.{target_number, Answer}
 use Rattle.numbers.specs.Packing.{slot_word, slot_key, key, key_of, entry_of}
-use Rattle.numbers.specs.declared.Answer.{Answer}
 use Rattle.numbers.specs.declared.Refusal.TheVariants.{OutOfRange, VmUnknown, MappingDiffers, PortIdle}
-use Rattle.numbers.specs.declared.Target.{Target}
-use Rattle.numbers.specs.declared.Target.TheVariants.{Idle, Vm}
+use Rattle.numbers.specs.declared.VmId.{VmId}
 use Rattle.table.specs.Table.{find, place, lookup, is_found, set_at, or_else}
-use Rattle.table.specs.declared.Found.{Found}
-use Rattle.table.specs.declared.Found.TheVariants.{At}
 use Rattle.model.specs.Views.{is_vm, is_guest, is_port, is_slot, is_idle, knows}
 use Rattle.model.specs.Effect.{accepted, refused}
 
 -- ---- 15, 16: a CPU or a device to a VM, or to idle
-abbrev pub is_target : Target → Bool
-is_target Idle = true
-is_target (Vm vm) = is_vm vm.0
+abbrev pub is_target : Option VmId → Bool
+is_target None = true
+is_target (Some vm) = is_vm vm.0
 
-abbrev pub knows_target : ℕ → Target → Bool
-knows_target known Idle = true
-knows_target known (Vm vm) = knows known vm.0
+abbrev pub knows_target : ℕ → Option VmId → Bool
+knows_target known None = true
+knows_target known (Some vm) = knows known vm.0
 
-unfoldable pub port_answer : ℕ → ℕ → Target → Answer
+unfoldable pub port_answer : ℕ → ℕ → Option VmId → Answer
 port_answer known port target =
     if not (is_port port && is_target target) then refused OutOfRange
     else if not (knows_target known target) then refused VmUnknown
     else accepted
 
-abbrev pub port_ports : List ℕ → ℕ → Target → List ℕ
+abbrev pub port_ports : List ℕ → ℕ → Option VmId → List ℕ
 port_ports ports port target = set ports port (target_number target)
 
 -- ---- 17, 18: fill a slot from the walker
@@ -45,8 +41,8 @@ fill_answer ports walker port guest =
     else accepted
 
 -- the slot of the key, else the lowest empty slot, else the slot at the hand
-unfoldable pub fill_place : List ℕ → ℕ → ℕ → Found
-fill_place cache hand k = or_else (place key_of cache k) (At hand)
+unfoldable pub fill_place : List ℕ → ℕ → ℕ → Option ℕ
+fill_place cache hand k = or_else (place key_of cache k) (Some hand)
 
 unfoldable pub fill_cache : List ℕ → ℕ → List ℕ → List ℕ → ℕ → ℕ → List ℕ
 fill_cache cache hand ports walker port guest =

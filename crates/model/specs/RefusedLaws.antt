@@ -1,7 +1,6 @@
 -- What it is that a refusal leaves everything (of operations and rows: proofs/StepLeaves), and that a refused sequence leaves state and answer room.
-use Rattle.std.specs.Prelude.{ℕ, List, ◌≡◌, refl}
-use Rattle.numbers.specs.declared.Answer.{Answer}
-use Rattle.numbers.specs.declared.Answer.TheVariants.{Accepted, Refused}
+use Rattle.std.specs.Prelude.{ℕ, List, ◌≡◌, refl, Ok, Err}
+use Rattle.numbers.specs.Meaning.{Answer}
 use Rattle.model.specs.Effect.{Control, kept, quiet}
 use Rattle.model.specs.Sequence.{shape_answer, after, row_count, Sequenced, beginning, sequence}
 use Rattle.model.specs.State.{State, Tables}
@@ -26,5 +25,5 @@ unfolding sequence
 sequence_leaves s rows room = whole (shape_answer rows room)
   where
     whole : (answer : Answer) → SequenceLeaves s room (record { answer = answer; progress = kept answer (beginning s room) (after rows (row_count rows) (beginning s room)) })
-    whole (Accepted dropped word) = record { state = refl; room = refl }
-    whole (Refused refusal index) = record { state = refl; room = refl }
+    whole (Ok ok) = record { state = refl; room = refl }
+    whole (Err err) = record { state = refl; room = refl }

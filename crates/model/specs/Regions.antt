@@ -3,8 +3,7 @@
 use Rattle.std.specs.Prelude.{ℕ, zero, suc, ◌+◌, Bool, false, not, ◌&&◌, ◌||◌, List, [], ◌∷◌, eqb, ltb, leb}
 use Rattle.std.specs.Prelude.{if◌then◌else◌}
 use Rattle.numbers.specs.Packing.{entry, map_word, key, key_of, vm_of, guest_of}
-use Rattle.numbers.specs.declared.Answer.{Answer}
-use Rattle.numbers.specs.declared.Answer.TheVariants.{Refused}
+use Rattle.numbers.specs.Meaning.{Answer, refuse}
 use Rattle.numbers.specs.declared.Refusal.{Refusal}
 use Rattle.numbers.specs.declared.Refusal.TheVariants.{OutOfRange, BadSpan, VmUnknown, PageNotHeld, PageClaimed, NoSuchUnit, MappingDiffers, MappingPresent, StillInUse, NoRoom}
 use Rattle.numbers.specs.declared.Side.{Side}
@@ -46,7 +45,7 @@ region_early known pages region =
 
 -- the lowest page that fails a check refuses with its index, else the next check follows
 abbrev pub clash_at : ℕ → ℕ → Refusal → Answer → Answer
-clash_at k count refusal next = if ltb k count then Refused refusal k else next
+clash_at k count refusal next = if ltb k count then refuse refusal k else next
 
 abbrev pub clash : (ℕ → Bool) → Region → Refusal → Answer → Answer
 clash fails region refusal next = clash_at (lowest fails region.count) region.count refusal next

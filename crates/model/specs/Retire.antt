@@ -3,7 +3,7 @@ use Rattle.std.specs.Prelude.{ℕ, zero, suc, ◌+◌, Bool, false, ◌&&◌, �
 use Rattle.std.specs.Prelude.{if◌then◌else◌}
 use Rattle.numbers.specs.Limits.{PAGES}
 use Rattle.numbers.specs.Packing.{vm_of, page_of}
-use Rattle.numbers.specs.declared.Answer.{Answer}
+use Rattle.numbers.specs.Meaning.{Answer}
 use Rattle.numbers.specs.declared.Refusal.TheVariants.{VmBusy}
 use Rattle.numbers.specs.declared.Side.{Side}
 use Rattle.numbers.specs.declared.Side.TheVariants.{Cpu, Dma}

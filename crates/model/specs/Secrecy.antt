@@ -1,11 +1,9 @@
 -- Demand 3 (docs/MACHINE.md, 12): two runs that differ only in the private words of a set of VMs stay equal everywhere else.
 -- Over any reading of "private", since one VM's and a set's are two readings of it.
-use Rattle.std.specs.Prelude.{ℕ, zero, suc, ◌≤◌, ◌<◌, Bool, true, false, List, [], ◌∷◌, ◌≡◌, length, get_or}
-use Rattle.std.proofs.Math.Option.{Option, none, some}
+use Rattle.std.specs.Prelude.{ℕ, zero, suc, ◌≤◌, ◌<◌, Bool, true, false, List, [], ◌∷◌, ◌≡◌, length, get_or, Ok, Err, Option, None, Some}
 use Rattle.numbers.specs.Limits.{VMS, PAGE_WORDS}
 use Rattle.numbers.specs.Packing.{left_of, right_of, page_of}
-use Rattle.numbers.specs.declared.Answer.{Answer}
-use Rattle.numbers.specs.declared.Answer.TheVariants.{Accepted, Refused}
+use Rattle.numbers.specs.Meaning.{Answer, accept}
 use Rattle.numbers.specs.declared.Refusal.TheVariants.{OutOfRange}
 use Rattle.numbers.specs.declared.SideOperation.{SideOperation}
 use Rattle.numbers.specs.declared.SideOperation.TheVariants as sided
@@ -37,12 +35,12 @@ pub record Private (members : ℕ → Bool) (t : Tables) (page : ℕ) : Type 0 w
 
 -- ---- the operation of a row, and what it decides; a row of no operation decides nothing
 abbrev pub effect_in : Tables → Option Operation → Effect
-effect_in t none = quiet
-effect_in t (some operation) = (control t operation).effect
+effect_in t None = quiet
+effect_in t (Some operation) = (control t operation).effect
 
 abbrev pub answer_in : Tables → Option Operation → Answer
-answer_in t none = refused OutOfRange
-answer_in t (some operation) = (control t operation).answer
+answer_in t None = refused OutOfRange
+answer_in t (Some operation) = (control t operation).answer
 
 -- the operation but for the value that it writes
 abbrev pub side_without_value : SideOperation → SideOperation
@@ -69,17 +67,17 @@ without_value op.InstructionBarrier = op.InstructionBarrier
 without_value (op.RetireVm vm) = op.RetireVm vm
 
 abbrev pub without_value_in : Option Operation → Option Operation
-without_value_in none = none
-without_value_in (some operation) = some (without_value operation)
+without_value_in None = None
+without_value_in (Some operation) = Some (without_value operation)
 
 -- what a row shares
 abbrev pub sharing_in : Option Operation → Option Sharing
-sharing_in none = none
-sharing_in (some operation) = sharing operation
+sharing_in None = None
+sharing_in (Some operation) = sharing operation
 
 -- a share that the tables accept: the two VMs and the page
 pub record Shared (t : Tables) (operation : Option Operation) (left right page : ℕ) : Type 0 where
-  pub share : sharing_in operation ≡ some (record { left = left; right = right; page = page })
+  pub share : sharing_in operation ≡ Some (record { left = left; right = right; page = page })
   pub agreed : answer_in t operation ≡ accepted
 
 -- a page that a member shares with a VM outside holds equal words in both memories
@@ -101,8 +99,8 @@ words_read (clears pages) memory = []
 
 -- the answer but for the word that was read
 abbrev pub without_word : Answer → Answer
-without_word (Accepted dropped word) = Accepted dropped 0
-without_word (Refused refusal index) = Refused refusal index
+without_word (Ok ok) = accept ok.dropped 0
+without_word (Err err) = Err err
 
 -- ---- two runs, over a set of VMs and a reading of "private"
 module _ (members : ℕ → Bool) (Secret : Tables → ℕ → Type 0) where

@@ -1,16 +1,12 @@
 -- Rows and the sequence (docs/MACHINE.md, 9): eight numbers a row, four numbers an answer.
-use Rattle.std.specs.Prelude.{ℕ, ◌+◌, ◌*◌, ◌/◌, ◌%◌, not, List, [], ◌∷◌, eqb, leb, length, get_or, set, take, drop}
-use Rattle.std.proofs.Math.Option.{Option, none, some}
+use Rattle.std.specs.Prelude.{ℕ, ◌+◌, ◌*◌, ◌/◌, ◌%◌, not, List, [], ◌∷◌, eqb, leb, length, get_or, set, take, drop, Option, None, Some}
 use Rattle.std.specs.Prelude.{if◌then◌else◌}
 use Rattle.numbers.specs.Limits.{ROW_NUMBERS, ANSWER_NUMBERS, IDLE}
-use Rattle.numbers.specs.Meaning.{answer_numbers}
-use Rattle.numbers.specs.declared.Answer.{Answer}
+use Rattle.numbers.specs.Meaning.{answer_numbers, Answer}
 use Rattle.numbers.specs.declared.Refusal.TheVariants.{OutOfRange}
 use Rattle.numbers.specs.declared.VmId.{VmId}
 use Rattle.numbers.specs.declared.GuestPage.{GuestPage}
 use Rattle.numbers.specs.declared.PhysPage.{PhysPage}
-use Rattle.numbers.specs.declared.Target.{Target}
-use Rattle.numbers.specs.declared.Target.TheVariants.{Idle, Vm}
 use Rattle.numbers.specs.declared.Region.{Region}
 use Rattle.numbers.specs.declared.Side.TheVariants.{Cpu, Dma}
 use Rattle.numbers.specs.declared.SideOperation.TheVariants as sided
@@ -32,50 +28,50 @@ abbrev pub phys_page : ℕ → PhysPage
 phys_page n = record { 0 = n }
 
 -- the one place that reads a row's number as idle; `target_number` writes it
-abbrev pub target_of : ℕ → Target
-target_of n = if eqb n IDLE then Idle else Vm (vm_id n)
+abbrev pub target_of : ℕ → Option VmId
+target_of n = if eqb n IDLE then None else Some (vm_id n)
 
 abbrev pub region_of : ℕ → ℕ → ℕ → ℕ → ℕ → Region
 region_of vm guest page count access = record { vm = vm_id vm; guest = guest_page guest; page = phys_page page; count = count; access = access }
 
 abbrev pub operation_of : ℕ → ℕ → ℕ → ℕ → ℕ → ℕ → Option Operation
 operation_of number a b c d e =
-    if eqb number 1 then some (op.AddVm (vm_id a))
-    else if eqb number 2 then some (op.RemoveVm (vm_id a))
-    else if eqb number 3 then some (op.AssignPage (vm_id a) (phys_page b))
-    else if eqb number 4 then some (op.ReclaimPage (vm_id a) (phys_page b))
-    else if eqb number 5 then some (op.SharePage (vm_id a) (vm_id b) (phys_page c))
-    else if eqb number 6 then some (op.UnsharePage (vm_id a) (vm_id b) (phys_page c))
-    else if eqb number 7 then some (op.On Cpu (sided.MapPage (vm_id a) (guest_page b) (phys_page c) d e))
-    else if eqb number 8 then some (op.On Dma (sided.MapPage (vm_id a) (guest_page b) (phys_page c) d e))
-    else if eqb number 9 then some (op.On Cpu (sided.UnmapPage (vm_id a) (guest_page b)))
-    else if eqb number 10 then some (op.On Dma (sided.UnmapPage (vm_id a) (guest_page b)))
-    else if eqb number 11 then some (op.On Cpu (sided.InsertRegion (region_of a b c d e)))
-    else if eqb number 12 then some (op.On Cpu (sided.RemoveRegion (region_of a b c d e)))
-    else if eqb number 13 then some (op.On Dma (sided.InsertRegion (region_of a b c d e)))
-    else if eqb number 14 then some (op.On Dma (sided.RemoveRegion (region_of a b c d e)))
-    else if eqb number 15 then some (op.On Cpu (sided.GivePort a (target_of b)))
-    else if eqb number 16 then some (op.On Dma (sided.GivePort a (target_of b)))
-    else if eqb number 17 then some (op.On Cpu (sided.FillSlot a (guest_page b)))
-    else if eqb number 18 then some (op.On Dma (sided.FillSlot a (guest_page b)))
-    else if eqb number 19 then some (op.On Cpu (sided.EmptySlot a))
-    else if eqb number 20 then some (op.On Dma (sided.EmptySlot a))
-    else if eqb number 21 then some (op.On Cpu (sided.ReadWord a (guest_page b) c))
-    else if eqb number 22 then some (op.On Dma (sided.ReadWord a (guest_page b) c))
-    else if eqb number 23 then some (op.On Cpu (sided.WriteWord a (guest_page b) c d))
-    else if eqb number 24 then some (op.On Dma (sided.WriteWord a (guest_page b) c d))
-    else if eqb number 25 then some op.DataBarrier
-    else if eqb number 26 then some op.InstructionBarrier
-    else if eqb number 27 then some (op.RetireVm (vm_id a))
-    else none
+    if eqb number 1 then Some (op.AddVm (vm_id a))
+    else if eqb number 2 then Some (op.RemoveVm (vm_id a))
+    else if eqb number 3 then Some (op.AssignPage (vm_id a) (phys_page b))
+    else if eqb number 4 then Some (op.ReclaimPage (vm_id a) (phys_page b))
+    else if eqb number 5 then Some (op.SharePage (vm_id a) (vm_id b) (phys_page c))
+    else if eqb number 6 then Some (op.UnsharePage (vm_id a) (vm_id b) (phys_page c))
+    else if eqb number 7 then Some (op.On Cpu (sided.MapPage (vm_id a) (guest_page b) (phys_page c) d e))
+    else if eqb number 8 then Some (op.On Dma (sided.MapPage (vm_id a) (guest_page b) (phys_page c) d e))
+    else if eqb number 9 then Some (op.On Cpu (sided.UnmapPage (vm_id a) (guest_page b)))
+    else if eqb number 10 then Some (op.On Dma (sided.UnmapPage (vm_id a) (guest_page b)))
+    else if eqb number 11 then Some (op.On Cpu (sided.InsertRegion (region_of a b c d e)))
+    else if eqb number 12 then Some (op.On Cpu (sided.RemoveRegion (region_of a b c d e)))
+    else if eqb number 13 then Some (op.On Dma (sided.InsertRegion (region_of a b c d e)))
+    else if eqb number 14 then Some (op.On Dma (sided.RemoveRegion (region_of a b c d e)))
+    else if eqb number 15 then Some (op.On Cpu (sided.GivePort a (target_of b)))
+    else if eqb number 16 then Some (op.On Dma (sided.GivePort a (target_of b)))
+    else if eqb number 17 then Some (op.On Cpu (sided.FillSlot a (guest_page b)))
+    else if eqb number 18 then Some (op.On Dma (sided.FillSlot a (guest_page b)))
+    else if eqb number 19 then Some (op.On Cpu (sided.EmptySlot a))
+    else if eqb number 20 then Some (op.On Dma (sided.EmptySlot a))
+    else if eqb number 21 then Some (op.On Cpu (sided.ReadWord a (guest_page b) c))
+    else if eqb number 22 then Some (op.On Dma (sided.ReadWord a (guest_page b) c))
+    else if eqb number 23 then Some (op.On Cpu (sided.WriteWord a (guest_page b) c d))
+    else if eqb number 24 then Some (op.On Dma (sided.WriteWord a (guest_page b) c d))
+    else if eqb number 25 then Some op.DataBarrier
+    else if eqb number 26 then Some op.InstructionBarrier
+    else if eqb number 27 then Some (op.RetireVm (vm_id a))
+    else None
 
 unfoldable pub operation_in : List ℕ → Option Operation
 operation_in row = operation_of (get_or row 0 0) (get_or row 1 0) (get_or row 2 0) (get_or row 3 0) (get_or row 4 0) (get_or row 5 0)
 
 -- ---- one row
 abbrev pub step_known : State → Option Operation → Stepped
-step_known s none = record { answer = refused OutOfRange; state = s }
-step_known s (some operation) = step s operation
+step_known s None = record { answer = refused OutOfRange; state = s }
+step_known s (Some operation) = step s operation
 
 unfoldable pub step_row : State → List ℕ → Stepped
 step_row s row = step_known s (operation_in row)

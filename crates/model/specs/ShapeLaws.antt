@@ -1,5 +1,5 @@
 -- What an accepted operation leaves has the setup and the lengths of what was there (of every operation: proofs/StepShape).
-use Rattle.std.specs.Prelude.{ℕ, zero, suc, Bool, true, false, ◌≡◌}
+use Rattle.std.specs.Prelude.{ℕ, zero, suc, Bool, true, false, ◌≡◌, Option, Some, None}
 use mathlib.Core.List.{List}
 use Rattle.std.proofs.Math.Path.{refl}
 use Rattle.std.proofs.Common.{◌∙◌, length-set}
@@ -8,7 +8,7 @@ use Rattle.std.specs.Prelude.{if◌then◌else◌}
 use Rattle.numbers.specs.Packing.{key_of, address_of, entry_of, pair_key_of, pair_key, pair_word, key, slot_key, slot_word}
 use Rattle.numbers.specs.declared.Side.{Side}
 use Rattle.numbers.specs.declared.Side.TheVariants.{Cpu, Dma}
-use Rattle.numbers.specs.declared.Target.{Target}
+use Rattle.numbers.specs.declared.VmId.{VmId}
 use Rattle.numbers.specs.declared.SideOperation.{SideOperation}
 use Rattle.numbers.specs.declared.SideOperation.TheVariants as sided
 use Rattle.numbers.specs.declared.Operation.{Operation}
@@ -17,8 +17,6 @@ use Rattle.table.specs.Scan.{repeat}
 use Rattle.table.specs.ScanLaws.{length-wipe}
 use Rattle.table.specs.Table.{put, erase, set_at, has_key, lookup}
 use Rattle.table.specs.TableLaws.{length-put}
-use Rattle.table.specs.declared.Found.{Found}
-use Rattle.table.specs.declared.Found.TheVariants.{At, Nothing}
 use Rattle.pages.specs.Pour.{pour}
 use Rattle.pages.specs.PourLaws.{length-pour, length-emptied}
 use Rattle.pages.specs.RowLaws.{length-add, length-remove}
@@ -72,9 +70,9 @@ length-repeat : (f : ℕ → List ℕ → List ℕ) → ((k : ℕ) (ws : List �
 length-repeat f h i zero ws = refl
 length-repeat f h i (suc n) ws = length-repeat f h (suc i) n (f i ws) ∙ h i ws
 
-pub length-set_at : (ws : List ℕ) (f : Found) (w : ℕ) → length (set_at ws f w) ≡ length ws
-length-set_at ws (At i) w = length-set ws i w
-length-set_at ws Nothing w = refl
+pub length-set_at : (ws : List ℕ) (f : Option ℕ) (w : ℕ) → length (set_at ws f w) ≡ length ws
+length-set_at ws (Some i) w = length-set ws i w
+length-set_at ws None w = refl
 
 length-erase : (key_of : ℕ → ℕ) (ws : List ℕ) (k : ℕ) → length (erase key_of ws k) ≡ length ws
 unfolding erase
@@ -136,7 +134,7 @@ module _ (r : Route) where
   same_removed region =
       record { map = length-wipe (in_region region) r.map; walker = length-wipe (in_region region) r.walker; cache = length-wipe (in_region region) r.cache; ports = refl }
 
-  pub same_switched : (port : ℕ) (target : Target) → SameRoute r (with_ports r (port_ports r.ports port target))
+  pub same_switched : (port : ℕ) (target : Option VmId) → SameRoute r (with_ports r (port_ports r.ports port target))
   same_switched port target = record { map = refl; walker = refl; cache = refl; ports = length-set r.ports port _ }
 
   pub same_filled : (port guest : ℕ) → SameRoute r (fill_route r port guest)

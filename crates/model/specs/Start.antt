@@ -1,11 +1,10 @@
 -- Start, the empty machine and the free query (docs/MACHINE.md, 5 and 8).
-use Rattle.std.specs.Prelude.{ℕ, zero, suc, ◌+◌, ◌*◌, ◌/◌, ◌%◌, Bool, not, ◌&&◌, List, [], ◌∷◌, eqb, ltb, leb, length, get_or, replicate}
+use Rattle.std.specs.Prelude.{ℕ, zero, suc, ◌+◌, ◌*◌, ◌/◌, ◌%◌, Bool, not, ◌&&◌, List, [], ◌∷◌, eqb, ltb, leb, length, get_or, replicate, Option, None}
 use Rattle.std.specs.Prelude.{if◌then◌else◌}
 use Rattle.numbers.specs.Limits.{PAGES, PAGE_WORDS, SETS, SET_WORDS, PAIRS, ENTRIES, SLOTS, PORTS, UNITS, IDLE}
-use Rattle.numbers.specs.declared.Answer.{Answer}
+use Rattle.numbers.specs.Meaning.{Answer}
 use Rattle.numbers.specs.declared.Refusal.TheVariants.{StateNotValid, OutOfRange, BadSpan}
-use Rattle.numbers.specs.declared.Lowest.{Lowest}
-use Rattle.numbers.specs.declared.Lowest.TheVariants.{Nothing}
+use Rattle.numbers.specs.declared.PhysPage.{PhysPage}
 use Rattle.table.specs.Scan.{any_below, repeat}
 use Rattle.pages.specs.Rows.{add, pool_row, shared_row, free_count, lowest_free}
 use Rattle.units.specs.Spans.{span_within, region_span}
@@ -13,20 +12,9 @@ use Rattle.units.specs.Units.{is_mark, mark_of, no_unit}
 use Rattle.units.specs.declared.Unit.{Unit}
 use Rattle.numbers.specs.declared.Region.{Region}
 use Rattle.model.specs.State.{Tables, Route, Setup, State}
+use Rattle.model.specs.Header.{Lists}
 use Rattle.model.specs.Views.{is_vm, is_access}
 use Rattle.model.specs.Effect.{accepted, refused, kept}
-
--- what start is lent
-pub record Lent : Type 0 where
-  pub sets : List ℕ
-  pub pairs : List ℕ
-  pub cpu_map : List ℕ
-  pub cpu_walker : List ℕ
-  pub cpu_cache : List ℕ
-  pub dma_map : List ℕ
-  pub dma_walker : List ℕ
-  pub dma_cache : List ℕ
-  pub memory : List ℕ
 
 -- what start is told: pages, the shared span, and six numbers for each unit
 pub record Told : Type 0 where
@@ -48,11 +36,13 @@ number_told numbers k field = get_or numbers (k * UNIT_NUMBERS + field) 0
 abbrev pub unit_told : List ℕ → ℕ → Unit
 unit_told numbers k =
     record {
-      vm = record { 0 = number_told numbers k 0 };
-      guest = record { 0 = number_told numbers k 1 };
-      page = record { 0 = number_told numbers k 2 };
-      count = number_told numbers k 3;
-      access = number_told numbers k 4;
+      region = record {
+        vm = record { 0 = number_told numbers k 0 };
+        guest = record { 0 = number_told numbers k 1 };
+        page = record { 0 = number_told numbers k 2 };
+        count = number_told numbers k 3;
+        access = number_told numbers k 4;
+      };
       mark = mark_of (number_told numbers k 5);
     }
 
@@ -69,13 +59,13 @@ abbrev pub bad_field : List ℕ → ℕ → Bool
 bad_field numbers k = not (is_vm (number_told numbers k 0) && is_access (number_told numbers k 4) && is_mark (number_told numbers k 5))
 
 abbrev pub unit_region : Unit → Region
-unit_region unit = record { vm = unit.vm; guest = unit.guest; page = unit.page; count = unit.count; access = unit.access }
+unit_region unit = unit.region
 
 abbrev pub bad_span : ℕ → List ℕ → ℕ → Bool
 bad_span pages numbers k = not (region_span (unit_region (unit_told numbers k)) pages)
 
 -- ---- lengths
-abbrev pub lengths_good : Told → Lent → Bool
+abbrev pub lengths_good : Told → Lists → Bool
 lengths_good told lent =
     eqb (length lent.memory) (PAGE_WORDS * told.pages)
     && eqb (length lent.sets) (SETS * SET_WORDS)
@@ -89,7 +79,7 @@ lengths_good told lent =
     && eqb (length told.units % UNIT_NUMBERS) 0
 
 -- ---- the refusals, in order: every field is judged before any span
-unfoldable pub start_answer : Told → Lent → Answer
+unfoldable pub start_answer : Told → Lists → Answer
 start_answer told lent =
     if not (lengths_good told lent && ltb 0 told.pages && leb told.pages PAGES) then refused StateNotValid
     else if not (leb (count_told told.units) UNITS) then refused OutOfRange
@@ -136,7 +126,7 @@ empty_setup = record { pages = 0; shared_base = 0; shared_count = 0; units = rep
 abbrev pub empty_route : List ℕ → List ℕ → List ℕ → Route
 empty_route map walker cache = record { map = map; walker = walker; cache = cache; hand = 0; ports = replicate PORTS IDLE }
 
-unfoldable pub empty_state : Lent → State
+unfoldable pub empty_state : Lists → State
 empty_state lent =
     record {
       tables =
@@ -155,17 +145,17 @@ pub record Started : Type 0 where
   pub answer : Answer
   pub state : State
 
-unfoldable pub start : Told → Lent → Started
+unfoldable pub start : Told → Lists → Started
 start told lent = record { answer = start_answer told lent; state = kept (start_answer told lent) (empty_state lent) (fresh_state told) }
 
 -- ---- the free query: of a valid state, and of one that is not
 pub record Free : Type 0 where
   pub answer : Answer
   pub count : ℕ
-  pub lowest : Lowest
+  pub lowest : Option PhysPage
 
 unfoldable pub free : Tables → Free
 free t = record { answer = accepted; count = free_count t.sets t.setup.pages; lowest = lowest_free t.sets t.setup.pages }
 
 abbrev pub free_refused : Free
-free_refused = record { answer = refused StateNotValid; count = 0; lowest = Nothing }
+free_refused = record { answer = refused StateNotValid; count = 0; lowest = None }

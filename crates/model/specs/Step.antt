@@ -1,8 +1,7 @@
 -- The joined operation (docs/MACHINE.md, 7): what the tables decide for each, and one step of the whole machine.
-use Rattle.std.specs.Prelude.{ℕ, Bool, false, List, [], ◌∷◌, get_or}
+use Rattle.std.specs.Prelude.{ℕ, Bool, false, List, [], ◌∷◌, get_or, Ok, Err}
 use Rattle.numbers.specs.Limits.{READ, WRITE}
-use Rattle.numbers.specs.declared.Answer.{Answer}
-use Rattle.numbers.specs.declared.Answer.TheVariants.{Accepted, Refused}
+use Rattle.numbers.specs.Meaning.{Answer, accept}
 use Rattle.numbers.specs.declared.Operation.{Operation}
 use Rattle.numbers.specs.declared.Operation.TheVariants as op
 use Rattle.numbers.specs.declared.Region.{Region}
@@ -161,8 +160,8 @@ pub record Stepped : Type 0 where
   pub state : State
 
 abbrev pub with_word : Answer → List ℕ → Answer
-with_word (Accepted dropped word) words = Accepted dropped (get_or words 0 0)
-with_word (Refused refusal index) words = Refused refusal index
+with_word (Ok ok) words = accept ok.dropped (get_or words 0 0)
+with_word (Err err) words = Err err
 
 -- only a read fills in the word
 abbrev pub answer_with : Effect → List ℕ → Answer → Answer

@@ -4,17 +4,18 @@ use Rattle.std.proofs.Common.{arith, ltb-true, leb-true, eqb-true}
 use Rattle.std.proofs.lemmas.Bool.{not-false}
 use Rattle.std.specs.Prelude.{if◌then◌else◌}
 use Rattle.numbers.specs.Limits.{PAGES, PAGE_WORDS, SETS, SET_WORDS, PAIRS, ENTRIES, SLOTS, UNITS}
-use Rattle.numbers.specs.declared.Answer.TheVariants.{Accepted}
+use Rattle.numbers.specs.Meaning.{accept}
 use Rattle.table.specs.Scan.{any_below}
 use Rattle.table.specs.ScanLaws.{any_below_false}
 use Rattle.units.specs.Spans.{span_within}
 use Rattle.units.specs.Units.{no_unit}
 use Rattle.units.specs.declared.Unit.{Unit}
 use Rattle.model.specs.EarlyLaws.{past, both, hold}
-use Rattle.model.specs.Start.{Told, Lent, UNIT_NUMBERS, count_told, unit_told, units_from, bad_field, bad_span, lengths_good, start_answer}
+use Rattle.model.specs.Start.{Told, UNIT_NUMBERS, count_told, unit_told, units_from, bad_field, bad_span, lengths_good, start_answer}
+use Rattle.model.specs.Header.{Lists}
 
 -- ---- what an accepted answer tells
-pub record LengthsPassed (t : Told) (l : Lent) : Type 0 where
+pub record LengthsPassed (t : Told) (l : Lists) : Type 0 where
   pub memory : length l.memory ≡ PAGE_WORDS * t.pages
   pub sets : length l.sets ≡ SETS * SET_WORDS
   pub pairs : length l.pairs ≡ PAIRS
@@ -25,7 +26,7 @@ pub record LengthsPassed (t : Told) (l : Lent) : Type 0 where
   pub dma_walker : length l.dma_walker ≡ ENTRIES
   pub dma_cache : length l.dma_cache ≡ SLOTS
 
-pub lengths_passed : (t : Told) (l : Lent) → lengths_good t l ≡ true → LengthsPassed t l
+pub lengths_passed : (t : Told) (l : Lists) → lengths_good t l ≡ true → LengthsPassed t l
 lengths_passed t l e =
     let m = eqb (length l.memory) (PAGE_WORDS * t.pages) in
     let s = eqb (length l.sets) (SETS * SET_WORDS) in
@@ -57,7 +58,7 @@ lengths_passed t l e =
       dma_cache = eqb-true _ _ l8.1;
     }
 
-pub record StartPassed (t : Told) (l : Lent) : Type 0 where
+pub record StartPassed (t : Told) (l : Lists) : Type 0 where
   pub lengths : LengthsPassed t l
   pub some_pages : 0 < t.pages
   pub pages_ok : t.pages ≤ PAGES
@@ -66,7 +67,7 @@ pub record StartPassed (t : Told) (l : Lent) : Type 0 where
   pub spans_ok : (k : ℕ) → k < count_told t.units → bad_span t.pages t.units k ≡ false
   pub shared_ok : t.shared_base + t.shared_count ≤ t.pages
 
-pub start_passed : (t : Told) (l : Lent) {dropped word : ℕ} → start_answer t l ≡ Accepted dropped word → StartPassed t l
+pub start_passed : (t : Told) (l : Lists) {dropped word : ℕ} → start_answer t l ≡ accept dropped word → StartPassed t l
 unfolding start_answer
 start_passed t l e =
     let count = count_told t.units in

@@ -1,8 +1,7 @@
 -- Upstream's page model over views of our state: its two views, the clauses of its `wf`, its steps and their guards, in the
 -- order and under the names of its files. docs/CONTRACTS.md has a row for every clause and says what is left out.
 -- Sets and maps are functions. They are asked, and compared, at numbers in range alone: past it page bits stand for others.
-use Rattle.std.specs.Prelude.{ℕ, ◌+◌, ◌-◌, ◌/◌, ◌%◌, ◌<◌, Bool, true, false, not, ◌&&◌, ◌||◌, List, ◌⊎◌, ◌≡◌, eqb, ltb, length, get_or}
-use Rattle.std.proofs.Math.Option.{Option, none, some}
+use Rattle.std.specs.Prelude.{ℕ, ◌+◌, ◌-◌, ◌/◌, ◌%◌, ◌<◌, Bool, true, false, not, ◌&&◌, ◌||◌, List, ◌⊎◌, ◌≡◌, eqb, ltb, length, get_or, Option, None, Some}
 use Rattle.std.specs.Prelude.{if◌then◌else◌}
 use Rattle.numbers.specs.Limits.{VMS, PAGES, GUEST_PAGES, PORTS, READ, WRITE, EXECUTE}
 use Rattle.numbers.specs.Packing.{key, slot_key, key_of, page_of, access_of, generation_of}
@@ -43,8 +42,8 @@ pub record PageSets : Type 0 where
   pub pages : ℕ → ℕ → Bool
 
 abbrev pub is_some : {A : Type 0} → Option A → Bool
-is_some none = false
-is_some (some x) = true
+is_some None = false
+is_some (Some x) = true
 
 abbrev pub plus : (ℕ → Bool) → ℕ → ℕ → Bool
 plus set x n = eqb n x || set n
@@ -67,18 +66,18 @@ abbrev pub tlb_at : Tlb → ℕ → ℕ → ℕ → Option S2Entry → Tlb
 tlb_at tlb cpu vm gpa answer c v g = if eqb c cpu && (eqb v vm && eqb g gpa) then answer else tlb c v g
 
 abbrev pub flushed : Tlb → ℕ → ℕ → Tlb
-flushed tlb vm gpa c v g = if eqb v vm && eqb g gpa then none else tlb c v g
+flushed tlb vm gpa c v g = if eqb v vm && eqb g gpa then None else tlb c v g
 
 -- both maps' keys, the second's answer where it has one; the first without the second's keys
 abbrev pub prefer_right : Option S2Entry → Option S2Entry → Option S2Entry
-prefer_right left none = left
-prefer_right left (some e) = some e
+prefer_right left None = left
+prefer_right left (Some e) = Some e
 
 abbrev pub union_right : S2Map → S2Map → S2Map
 union_right left right v g = prefer_right (left v g) (right v g)
 
 abbrev pub without_keys : S2Map → S2Map → S2Map
-without_keys left right v g = if is_some (right v g) then none else left v g
+without_keys left right v g = if is_some (right v g) then None else left v g
 
 -- ---- region.rs: a region's pages and entries
 abbrev pub pages_of : Region → ℕ → Bool
@@ -87,8 +86,8 @@ pages_of region page = in_span region.page.0 region.count page
 abbrev pub entries_of : Region → S2Map
 entries_of region vm gpa =
     if eqb vm region.vm.0 && in_span region.guest.0 region.count gpa
-    then some (record { page = region.page.0 + (gpa - region.guest.0); access = perms_of region.access; generation = 0 })
-    else none
+    then Some (record { page = region.page.0 + (gpa - region.guest.0); access = perms_of region.access; generation = 0 })
+    else None
 
 -- ---- software/state.rs
 pub record SoftwareView : Type 0 where
@@ -117,7 +116,7 @@ abbrev pub entry_in : ℕ → S2Entry
 entry_in w = record { page = page_of w; access = perms_of (access_of w); generation = generation_of w }
 
 unfoldable pub seen : ℕ → Option S2Entry
-seen w = if eqb w 0 then none else some (entry_in w)
+seen w = if eqb w 0 then None else Some (entry_in w)
 
 abbrev pub map_seen : List ℕ → S2Map
 map_seen table vm gpa = seen (lookup key_of table (key vm gpa))
@@ -126,10 +125,10 @@ abbrev pub tlb_seen : List ℕ → Tlb
 tlb_seen cache port vm gpa = seen (lookup key_of cache (slot_key port vm gpa))
 
 unfoldable pub word_seen : List ℕ → ℕ → Option ℕ
-word_seen memory address = if ltb address (length memory) then some (get_or memory address 0) else none
+word_seen memory address = if ltb address (length memory) then Some (get_or memory address 0) else None
 
 unfoldable pub active_seen : List ℕ → ℕ → Option ℕ
-active_seen ports port = if is_idle (vm_on ports port) then none else some (vm_on ports port)
+active_seen ports port = if is_idle (vm_on ports port) then None else Some (vm_on ports port)
 
 -- a VM has page sets while it is known
 abbrev pub software_view : Tables → SoftwareView
@@ -225,8 +224,8 @@ abbrev pub SharingWf : SoftwareView → Type 0
 SharingWf s = (left right page : ℕ) → left < VMS → right < VMS → page < PAGES → s.shared_pages left right page ≡ true → EdgeWf s left right page
 
 pub record TranslationWf (s : SoftwareView) : Type 0 where
-  pub known : (vm gpa : ℕ) (e : S2Entry) → vm < VMS → gpa < GUEST_PAGES → s.s2_map vm gpa ≡ some e → s.all_vms vm ≡ true
-  pub may : (vm gpa : ℕ) (e : S2Entry) → vm < VMS → gpa < GUEST_PAGES → s.s2_map vm gpa ≡ some e → OwnedOrShared s vm e.page
+  pub known : (vm gpa : ℕ) (e : S2Entry) → vm < VMS → gpa < GUEST_PAGES → s.s2_map vm gpa ≡ Some e → s.all_vms vm ≡ true
+  pub may : (vm gpa : ℕ) (e : S2Entry) → vm < VMS → gpa < GUEST_PAGES → s.s2_map vm gpa ≡ Some e → OwnedOrShared s vm e.page
 
 pub record IommuOwnershipWf (s : SoftwareView) : Type 0 where
   pub dom : (vm : ℕ) → vm < VMS → s.iommu_owned.vms vm ≡ s.all_vms vm
@@ -238,9 +237,9 @@ pub record IommuOwnershipWf (s : SoftwareView) : Type 0 where
   pub cpu_span : (vm page : ℕ) → vm < VMS → page < PAGES → s.all_vms vm ≡ true → s.vm_owned.pages vm page ≡ true → s.iommu_shared page ≡ false
 
 pub record IommuTranslationWf (s : SoftwareView) : Type 0 where
-  pub known : (vm gpa : ℕ) (e : S2Entry) → vm < VMS → gpa < GUEST_PAGES → s.iommu_s2_map vm gpa ≡ some e → s.all_vms vm ≡ true
-  pub has : (vm gpa : ℕ) (e : S2Entry) → vm < VMS → gpa < GUEST_PAGES → s.iommu_s2_map vm gpa ≡ some e → s.iommu_owned.vms vm ≡ true
-  pub may : (vm gpa : ℕ) (e : S2Entry) → vm < VMS → gpa < GUEST_PAGES → s.iommu_s2_map vm gpa ≡ some e → OwnedOrSpan s vm e.page
+  pub known : (vm gpa : ℕ) (e : S2Entry) → vm < VMS → gpa < GUEST_PAGES → s.iommu_s2_map vm gpa ≡ Some e → s.all_vms vm ≡ true
+  pub has : (vm gpa : ℕ) (e : S2Entry) → vm < VMS → gpa < GUEST_PAGES → s.iommu_s2_map vm gpa ≡ Some e → s.iommu_owned.vms vm ≡ true
+  pub may : (vm gpa : ℕ) (e : S2Entry) → vm < VMS → gpa < GUEST_PAGES → s.iommu_s2_map vm gpa ≡ Some e → OwnedOrSpan s vm e.page
 
 pub record IommuWf (s : SoftwareView) : Type 0 where
   pub iommu_ownership_wf : IommuOwnershipWf s

@@ -1,14 +1,12 @@
 -- Which steps of upstream's an accepted operation is, and what it is to be a run of them. The numbers of an accepted operation
 -- are in range (EarlyLaws), so that nothing it does falls outside of what views are compared at.
-use Rattle.std.specs.Prelude.{ℕ, zero, suc, ◌/◌, Bool, true, false, not, ◌&&◌, ◌||◌, List, [], ◌∷◌, ◌++◌, ◌≡◌, eqb, get_or}
-use Rattle.std.proofs.Math.Option.{Option, none, some}
+use Rattle.std.specs.Prelude.{ℕ, zero, suc, ◌/◌, Bool, true, false, not, ◌&&◌, ◌||◌, List, [], ◌∷◌, ◌++◌, ◌≡◌, eqb, get_or, Option, None, Some}
 use Rattle.std.specs.Prelude.{if◌then◌else◌}
 use Rattle.numbers.specs.Limits.{PAGE_WORDS}
 use Rattle.numbers.specs.Packing.{key, slot_key, key_of, port_of, vm_of, guest_of}
 use Rattle.numbers.specs.declared.Side.{Side}
 use Rattle.numbers.specs.declared.Side.TheVariants.{Cpu, Dma}
-use Rattle.numbers.specs.declared.Target.{Target}
-use Rattle.numbers.specs.declared.Target.TheVariants.{Idle, Vm}
+use Rattle.numbers.specs.declared.VmId.{VmId}
 use Rattle.numbers.specs.declared.SideOperation.{SideOperation}
 use Rattle.numbers.specs.declared.SideOperation.TheVariants as sided
 use Rattle.numbers.specs.declared.Operation.{Operation}
@@ -57,7 +55,7 @@ use Rattle.model.specs.UpstreamStep.{
 -- ---- steps of ours that upstream lacks
 -- a cache forgets one key (N-10, N-11)
 abbrev pub ForgetStep : Side → ℕ → ℕ → ℕ → HardwareView → HardwareView → Type 0
-ForgetStep side port vm gpa h h' = SameHardware h' (with_walk side h (walk_of side h) (tlb_at (tlb_of side h) port vm gpa none))
+ForgetStep side port vm gpa h h' = SameHardware h' (with_walk side h (walk_of side h) (tlb_at (tlb_of side h) port vm gpa None))
 
 -- a device's cache is filled from its walker: the `fill` of the token machine, in hardware/spec.rs (N-09)
 pub record IommuFillStep (device vm gpa : ℕ) (h h' : HardwareView) : Type 0 where
@@ -66,12 +64,12 @@ pub record IommuFillStep (device vm gpa : ℕ) (h h' : HardwareView) : Type 0 wh
 
 -- a CPU runs nothing (N-08)
 abbrev pub IdleStep : ℕ → HardwareView → HardwareView → Type 0
-IdleStep cpu h h' = SameHardware h' (with_active h (answer_at h.active_vm cpu none))
+IdleStep cpu h h' = SameHardware h' (with_active h (answer_at h.active_vm cpu None))
 
 -- every word of a page becomes zero (N-13)
 abbrev pub zero_at : Option ℕ → Option ℕ
-zero_at none = none
-zero_at (some word) = some 0
+zero_at None = None
+zero_at (Some word) = Some 0
 
 abbrev pub cleared_at : (ℕ → Option ℕ) → ℕ → ℕ → Option ℕ
 cleared_at memory page address = if eqb (address / PAGE_WORDS) page then zero_at (memory address) else memory address
@@ -85,11 +83,11 @@ onto_pages_of Cpu s vm e = s.vm_owned.pages vm e.page
 onto_pages_of Dma s vm e = false
 
 abbrev pub unless_onto : Side → SoftwareView → ℕ → Option S2Entry → Option S2Entry
-unless_onto side s vm none = none
-unless_onto side s vm (some e) = if onto_pages_of side s vm e then none else some e
+unless_onto side s vm None = None
+unless_onto side s vm (Some e) = if onto_pages_of side s vm e then None else Some e
 
 abbrev pub map_left : Side → SoftwareView → ℕ → S2Map
-map_left side s vm v g = if eqb v vm then none else unless_onto side s vm (map_of side s v g)
+map_left side s vm v g = if eqb v vm then None else unless_onto side s vm (map_of side s v g)
 
 -- and every edge with the VM at an end
 abbrev pub edges_left : SoftwareView → ℕ → ℕ → ℕ → ℕ → Bool
@@ -226,9 +224,9 @@ retire_calls side sets vm [] = []
 retire_calls side sets vm (w ∷ ws) = if goes side sets vm w then unmap_invalidate side (vm_of w) (guest_of w) ∷ retire_calls side sets vm ws else retire_calls side sets vm ws
 
 -- HardwareView knows no device's VM
-abbrev pub port_calls : Side → ℕ → Target → List HardwareCall
-port_calls Cpu port Idle = idle port ∷ []
-port_calls Cpu port (Vm vm) = context_switch port vm.0 ∷ []
+abbrev pub port_calls : Side → ℕ → Option VmId → List HardwareCall
+port_calls Cpu port None = idle port ∷ []
+port_calls Cpu port (Some vm) = context_switch port vm.0 ∷ []
 port_calls Dma port target = []
 
 abbrev pub fill_call : Side → ℕ → ℕ → ℕ → HardwareCall

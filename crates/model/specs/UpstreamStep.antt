@@ -1,7 +1,6 @@
 -- Upstream's steps and guards over its views, in its order: what is required of the view before, then what the view after is.
 -- A CPU step and its DMA twin are one definition over a side; where they ask for different things each has its own.
-use Rattle.std.specs.Prelude.{ℕ, ◌+◌, ◌≤◌, ◌<◌, Bool, true, false, not, ◌&&◌, ◌||◌, ◌≡◌, eqb}
-use Rattle.std.proofs.Math.Option.{Option, none, some}
+use Rattle.std.specs.Prelude.{ℕ, ◌+◌, ◌≤◌, ◌<◌, Bool, true, false, not, ◌&&◌, ◌||◌, ◌≡◌, eqb, Option, None, Some}
 use Rattle.std.specs.Prelude.{if◌then◌else◌}
 use Rattle.numbers.specs.Limits.{VMS, PAGES, GUEST_PAGES}
 use Rattle.numbers.specs.declared.Side.{Side}
@@ -82,12 +81,12 @@ MayTarget Dma s vm page = (s.iommu_owned.vms vm ≡ true) × OwnedOrSpan s vm pa
 pub record MapStep (side : Side) (vm gpa : ℕ) (entry : S2Entry) (s s' : SoftwareView) : Type 0 where
   pub known : s.all_vms vm ≡ true
   pub may : MayTarget side s vm entry.page
-  pub next : SameSoftware s' (with_map_of side s (map_at (map_of side s) vm gpa (some entry)))
+  pub next : SameSoftware s' (with_map_of side s (map_at (map_of side s) vm gpa (Some entry)))
 
 -- ---- unmap_step, iommu_unmap_step
 pub record UnmapStep (side : Side) (vm gpa : ℕ) (s s' : SoftwareView) : Type 0 where
   pub present : is_some (map_of side s vm gpa) ≡ true
-  pub next : SameSoftware s' (with_map_of side s (map_at (map_of side s) vm gpa none))
+  pub next : SameSoftware s' (with_map_of side s (map_at (map_of side s) vm gpa None))
 
 -- ---- assign_page_step, reclaim_page_step
 pub record AssignPageStep (vm page : ℕ) (s s' : SoftwareView) : Type 0 where
@@ -181,7 +180,7 @@ module _ (assignable : Region → Bool) where
     pub assign : assignable region ≡ true
     pub owned : (page : ℕ) → pages_of region page ≡ true → s.vm_owned.pages region.vm.0 page ≡ true
     pub installed : (vm gpa : ℕ) → is_some (entries_of region vm gpa) ≡ true → s.s2_map vm gpa ≡ entries_of region vm gpa
-    pub no_other : (vm gpa : ℕ) (e : S2Entry) → vm < VMS → gpa < GUEST_PAGES → s.s2_map vm gpa ≡ some e → is_some (entries_of region vm gpa) ≡ false →
+    pub no_other : (vm gpa : ℕ) (e : S2Entry) → vm < VMS → gpa < GUEST_PAGES → s.s2_map vm gpa ≡ Some e → is_some (entries_of region vm gpa) ≡ false →
         pages_of region e.page ≡ false
     pub no_edge : (left right page : ℕ) → left < VMS → right < VMS → s.shared_pages left right page ≡ true → pages_of region page ≡ false
 
@@ -192,7 +191,7 @@ module _ (assignable : Region → Bool) where
     pub assign : assignable region ≡ true
     pub owned : (page : ℕ) → pages_of region page ≡ true → s.iommu_owned.pages region.vm.0 page ≡ true
     pub installed : (vm gpa : ℕ) → is_some (entries_of region vm gpa) ≡ true → s.iommu_s2_map vm gpa ≡ entries_of region vm gpa
-    pub no_other : (vm gpa : ℕ) (e : S2Entry) → vm < VMS → gpa < GUEST_PAGES → s.iommu_s2_map vm gpa ≡ some e → is_some (entries_of region vm gpa) ≡ false →
+    pub no_other : (vm gpa : ℕ) (e : S2Entry) → vm < VMS → gpa < GUEST_PAGES → s.iommu_s2_map vm gpa ≡ Some e → is_some (entries_of region vm gpa) ≡ false →
         pages_of region e.page ≡ false
 
 -- a set with the region's pages, and without them; a DMA region leaves the pool alone
@@ -262,22 +261,22 @@ answer_at f x answer n = if eqb n x then answer else f n
 
 -- ---- hardware/step.rs: tlb_fill_step
 pub record TlbFillStep (cpu vm gpa : ℕ) (h h' : HardwareView) : Type 0 where
-  pub active : h.active_vm cpu ≡ some vm
+  pub active : h.active_vm cpu ≡ Some vm
   pub reachable : is_some (h.s2map vm gpa) ≡ true
   pub next : SameHardware h' (with_walk Cpu h h.s2map (tlb_at h.tlb cpu vm gpa (h.s2map vm gpa)))
 
 -- ---- unmap_invalidate_step, iommu_unmap_invalidate_step
 abbrev pub UnmapInvalidateStep : Side → ℕ → ℕ → HardwareView → HardwareView → Type 0
-UnmapInvalidateStep side vm gpa h h' = SameHardware h' (with_walk side h (map_at (walk_of side h) vm gpa none) (flushed (tlb_of side h) vm gpa))
+UnmapInvalidateStep side vm gpa h h' = SameHardware h' (with_walk side h (map_at (walk_of side h) vm gpa None) (flushed (tlb_of side h) vm gpa))
 
 -- ---- map_step, iommu_map_step
 pub record HardwareMapStep (side : Side) (vm gpa : ℕ) (entry : S2Entry) (h h' : HardwareView) : Type 0 where
   pub absent : is_some (walk_of side h vm gpa) ≡ false
-  pub next : SameHardware h' (with_walk side h (map_at (walk_of side h) vm gpa (some entry)) (tlb_of side h))
+  pub next : SameHardware h' (with_walk side h (map_at (walk_of side h) vm gpa (Some entry)) (tlb_of side h))
 
 -- ---- context_switch_step, dsb_step, isb_step
 abbrev pub ContextSwitchStep : ℕ → ℕ → HardwareView → HardwareView → Type 0
-ContextSwitchStep cpu vm h h' = SameHardware h' (with_active h (answer_at h.active_vm cpu (some vm)))
+ContextSwitchStep cpu vm h h' = SameHardware h' (with_active h (answer_at h.active_vm cpu (Some vm)))
 
 abbrev pub BarrierStep : HardwareView → HardwareView → Type 0
 BarrierStep h h' = SameHardware h' h
@@ -288,4 +287,4 @@ pub record MemReadStep (address : ℕ) (h h' : HardwareView) : Type 0 where
   pub next : SameHardware h' h
 
 abbrev pub MemWriteStep : ℕ → ℕ → HardwareView → HardwareView → Type 0
-MemWriteStep address value h h' = SameHardware h' (with_memory h (answer_at h.memory address (some value)))
+MemWriteStep address value h h' = SameHardware h' (with_memory h (answer_at h.memory address (Some value)))

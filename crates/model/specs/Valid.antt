@@ -29,8 +29,8 @@ pub record Lengths (t : Tables) : Type 0 where
 
 -- ---- 2: what start accepts: pages, shared span, units
 pub record UnitGood (pages : ℕ) (unit : Unit) : Type 0 where
-  pub vm : unit.vm.0 < VMS
-  pub access : unit.access < ACCESSES
+  pub vm : unit.region.vm.0 < VMS
+  pub access : unit.region.access < ACCESSES
   pub span : region_span (unit_region unit) pages ≡ true
 
 pub record SetupGood (s : Setup) : Type 0 where

@@ -1,5 +1,8 @@
-// The model of the machine has no functions: specs/ says what it means, proofs/ what is proved of it.
+// The machine as its code hands it on: a header and what is lent with it. specs/ says what it means, proofs/ what is proved of it.
 #![tactic(auto)]
+
+ghost use Rattle.std.specs.Prelude.{◌≡◌};
+ghost use Rattle.model.specs.Header.{lists, seen_lists};
 
 use numbers::{PORTS, UNITS};
 use units::Unit;
@@ -30,9 +33,43 @@ pub struct Registers {
     pub dma: SideRegisters,
 }
 
-// The header of a machine, which goes by value into every operation and comes back. Its tables and memory are lent.
+// The header of a machine. Its tables and memory are lent.
 #[derive(Clone, Copy)]
 pub struct Machine {
     pub fixed: Fixed,
     pub registers: Registers,
+}
+
+// What is lent with a header: the tables and memory, each as a slice to be changed, `Lent<&mut [u64]>`, or to be read,
+// `Lent<&[u64]>`.
+#[derive(Clone, Copy)]
+pub struct Lent<L> {
+    pub sets: L,
+    pub pairs: L,
+    pub cpu_map: L,
+    pub cpu_walker: L,
+    pub cpu_cache: L,
+    pub dma_map: L,
+    pub dma_walker: L,
+    pub dma_cache: L,
+    pub memory: L,
+}
+
+impl Lent<&mut [u64]> {
+    // The same to be read.
+    pub fn seen(&self) -> Lent<&[u64]>
+        ensures { seen_lists result ≡ lists self.now }
+    {
+        Lent {
+            sets: self.sets,
+            pairs: self.pairs,
+            cpu_map: self.cpu_map,
+            cpu_walker: self.cpu_walker,
+            cpu_cache: self.cpu_cache,
+            dma_map: self.dma_map,
+            dma_walker: self.dma_walker,
+            dma_cache: self.dma_cache,
+            memory: self.memory,
+        }
+    }
 }

@@ -1,5 +1,5 @@
 -- The numbers that the paper has for each case of each enum (docs/MACHINE.md, 2 and 7).
-use Rattle.std.specs.Prelude.{ℕ, List, [], ◌∷◌, get_or}
+use Rattle.std.specs.Prelude.{ℕ, List, [], ◌∷◌, get_or, Option, Some, None, Result, Ok, Err}
 use Rattle.numbers.specs.Limits.{IDLE}
 use Rattle.numbers.specs.declared.Refusal.{Refusal}
 use Rattle.numbers.specs.declared.Refusal.TheVariants.{
@@ -20,12 +20,10 @@ use Rattle.numbers.specs.declared.Refusal.TheVariants.{
   PortIdle,
   AccessLacking,
 }
-use Rattle.numbers.specs.declared.Answer.{Answer}
-use Rattle.numbers.specs.declared.Answer.TheVariants.{Accepted, Refused}
-use Rattle.numbers.specs.declared.Lowest.{Lowest}
-use Rattle.numbers.specs.declared.Lowest.TheVariants.{Page, Nothing}
-use Rattle.numbers.specs.declared.Target.{Target}
-use Rattle.numbers.specs.declared.Target.TheVariants.{Idle, Vm}
+use Rattle.numbers.specs.declared.Accepted.{Accepted}
+use Rattle.numbers.specs.declared.Refused.{Refused}
+use Rattle.numbers.specs.declared.PhysPage.{PhysPage}
+use Rattle.numbers.specs.declared.VmId.{VmId}
 use Rattle.numbers.specs.declared.Side.{Side}
 use Rattle.numbers.specs.declared.Side.TheVariants.{Cpu, Dma}
 use Rattle.numbers.specs.declared.Region.{Region}
@@ -52,23 +50,33 @@ refusal_number NoRoom = 14
 refusal_number PortIdle = 15
 refusal_number AccessLacking = 16
 
+-- an operation is accepted, with the slots that it dropped and the word that it read, or refused, at an index of its region
+abbrev pub Answer : Type 0
+Answer = Result Accepted Refused
+
+abbrev pub accept : ℕ → ℕ → Answer
+accept dropped word = Ok (record { dropped = dropped; word = word })
+
+abbrev pub refuse : Refusal → ℕ → Answer
+refuse refusal index = Err (record { refusal = refusal; index = index })
+
 -- number, region index, dropped slots, word
 abbrev pub answer_numbers : Answer → List ℕ
-answer_numbers (Accepted dropped word) = 0 ∷ 0 ∷ dropped ∷ word ∷ []
-answer_numbers (Refused refusal index) = refusal_number refusal ∷ index ∷ 0 ∷ 0 ∷ []
+answer_numbers (Ok ok) = 0 ∷ 0 ∷ ok.dropped ∷ ok.word ∷ []
+answer_numbers (Err err) = refusal_number err.refusal ∷ err.index ∷ 0 ∷ 0 ∷ []
 
 -- the first of the four, which an entry returns: 0, or a refusal's
 abbrev pub number_of : Answer → ℕ
 number_of answer = get_or (answer_numbers answer) 0 0
 
 -- the page's number, or no number
-abbrev pub lowest_numbers : Lowest → List ℕ
-lowest_numbers (Page page) = page.0 ∷ []
-lowest_numbers Nothing = []
+abbrev pub lowest_numbers : Option PhysPage → List ℕ
+lowest_numbers (Some page) = page.0 ∷ []
+lowest_numbers None = []
 
-abbrev pub target_number : Target → ℕ
-target_number Idle = IDLE
-target_number (Vm vm) = vm.0
+abbrev pub target_number : Option VmId → ℕ
+target_number None = IDLE
+target_number (Some vm) = vm.0
 
 -- an operation of a side has a number for the CPU and one for DMA
 abbrev by_side : Side → ℕ → ℕ → ℕ

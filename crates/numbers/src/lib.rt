@@ -3,7 +3,7 @@
 #![tactic(auto)]
 
 ghost use Rattle.std.specs.Prelude.{◌≡◌, ◌<◌};
-ghost use Rattle.numbers.specs.Meaning.{refusal_number, answer_numbers, target_number};
+ghost use Rattle.numbers.specs.Meaning.{accept, refusal_number, answer_numbers, target_number};
 ghost use Rattle.numbers.specs.Packing.{GENERATION_FIELD, ACCESS_FIELD, PAGE_FIELD, GUEST_BIT, GUEST_FIELD, VM_FIELD, PORT_FIELD, entry, slot_word, map_word, pair_word, slot_key, key, port_of, vm_of, guest_of, entry_of, page_of, access_of, generation_of, key_of, address_of, left_of, right_of, filled_of, pair_key, pair_key_of};
 
 // ---- Limits. Each has this one name in code and the same name in specs/Limits.antt.
@@ -75,13 +75,13 @@ pub const ADDRESS_FIELD: u64 = VM_FIELD * GUEST_FIELD * 2;
 
 // ---- Kinds of number, kept apart.
 
-#[derive(Clone, Copy)]
+#[derive(Clone, Copy, PartialEq, Eq)]
 pub struct VmId(pub u64);
 
-#[derive(Clone, Copy)]
+#[derive(Clone, Copy, PartialEq, Eq)]
 pub struct GuestPage(pub u64);
 
-#[derive(Clone, Copy)]
+#[derive(Clone, Copy, PartialEq, Eq)]
 pub struct PhysPage(pub u64);
 
 // ---- The two sides of the machine, each with a map, a walker map, a cache, a hand and eight ports.
@@ -94,47 +94,42 @@ pub enum Side {
 // ---- Why something is refused, in the order of the refusal numbers 1 to 16.
 #[derive(Clone, Copy)]
 pub enum Refusal {
-    StateNotValid,
-    OutOfRange,
-    BadSpan,
-    VmUnknown,
-    VmKnown,
-    PageNotHeld,
-    PageClaimed,
-    NoSuchUnit,
-    MappingDiffers,
-    MappingPresent,
-    StillInUse,
-    PairWrong,
-    VmBusy,
-    NoRoom,
-    PortIdle,
-    AccessLacking,
+    StateNotValid = 1,
+    OutOfRange = 2,
+    BadSpan = 3,
+    VmUnknown = 4,
+    VmKnown = 5,
+    PageNotHeld = 6,
+    PageClaimed = 7,
+    NoSuchUnit = 8,
+    MappingDiffers = 9,
+    MappingPresent = 10,
+    StillInUse = 11,
+    PairWrong = 12,
+    VmBusy = 13,
+    NoRoom = 14,
+    PortIdle = 15,
+    AccessLacking = 16,
 }
 
-// ---- What an operation answers. A refusal drops no slot and reads no word.
+// ---- What an operation answers: how many slots it dropped and the word that it read, or why it is refused and where in its
+// region.
 #[derive(Clone, Copy)]
-pub enum Answer {
-    Accepted { dropped: u64, word: u64 },
-    Refused { refusal: Refusal, index: u64 },
+pub struct Accepted {
+    pub dropped: u64,
+    pub word: u64,
 }
 
-// ---- The lowest free page, or the named nothing.
 #[derive(Clone, Copy)]
-pub enum Lowest {
-    Page(PhysPage),
-    Nothing,
+pub struct Refused {
+    pub refusal: Refusal,
+    pub index: u64,
 }
 
-// ---- What a port is given: a VM, or nobody.
-#[derive(Clone, Copy)]
-pub enum Target {
-    Idle,
-    Vm(VmId),
-}
+pub type Answer = Result<Accepted, Refused>;
 
 // ---- A region as a caller names it: the five fields that a unit must equal.
-#[derive(Clone, Copy)]
+#[derive(Clone, Copy, PartialEq, Eq)]
 pub struct Region {
     pub vm: VmId,
     pub guest: GuestPage,
@@ -156,7 +151,7 @@ pub enum SideOperation {
     UnmapPage(VmId, GuestPage),
     InsertRegion(Region),
     RemoveRegion(Region),
-    GivePort(u64, Target),
+    GivePort(u64, Option<VmId>),
     FillSlot(u64, GuestPage),
     EmptySlot(u64),
     ReadWord {
@@ -190,58 +185,45 @@ pub enum Operation {
 // ---- Answers, made.
 
 pub fn accept(dropped: u64) -> Answer
-    ensures { result ≡ Answer.Accepted dropped 0 }
+    ensures { result ≡ accept dropped 0 }
 {
-    Answer::Accepted { dropped, word: 0 }
+    Ok(Accepted { dropped, word: 0 })
 }
 
-pub fn refuse(refusal: Refusal, index: u64) -> Answer
-    ensures { result ≡ Answer.Refused refusal index }
+// A refusal, in place of whatever is asked for.
+pub fn refuse<T>(refusal: Refusal, index: u64) -> Result<T, Refused>
+    ensures { result ≡ Err (record { refusal = refusal; index = index }) }
 {
-    Answer::Refused { refusal, index }
+    Err(Refused { refusal, index })
 }
 
 // ---- The numbers of an enum.
 
-pub fn refusal_number(refusal: Refusal) -> u64
-    ensures { result ≡ refusal_number refusal }
-{
-    match refusal {
-        Refusal::StateNotValid => 1,
-        Refusal::OutOfRange => 2,
-        Refusal::BadSpan => 3,
-        Refusal::VmUnknown => 4,
-        Refusal::VmKnown => 5,
-        Refusal::PageNotHeld => 6,
-        Refusal::PageClaimed => 7,
-        Refusal::NoSuchUnit => 8,
-        Refusal::MappingDiffers => 9,
-        Refusal::MappingPresent => 10,
-        Refusal::StillInUse => 11,
-        Refusal::PairWrong => 12,
-        Refusal::VmBusy => 13,
-        Refusal::NoRoom => 14,
-        Refusal::PortIdle => 15,
-        Refusal::AccessLacking => 16,
+impl From<Refusal> for u64 {
+    ghost from_gives = { λ refusal number. number ≡ refusal_number refusal };
+
+    fn from(refusal: Refusal) -> u64 {
+        refusal as u64
     }
 }
 
 // Number, region index, dropped slots, word.
-pub fn answer_numbers(answer: Answer) -> [u64; 4]
+pub fn answer_numbers(answer: Answer) -> [u64; ANSWER_NUMBERS]
     ensures { result ≡ answer_numbers answer }
 {
     match answer {
-        Answer::Accepted { dropped, word } => [0, 0, dropped, word],
-        Answer::Refused { refusal, index } => [refusal_number(refusal), index, 0, 0],
+        Ok(Accepted { dropped, word }) => [0, 0, dropped, word],
+        Err(Refused { refusal, index }) => [refusal.into(), index, 0, 0],
     }
 }
 
-pub fn target_number(target: Target) -> u64
+// What a port is given: a VM, or nobody.
+pub fn target_number(target: Option<VmId>) -> u64
     ensures { result ≡ target_number target }
 {
     match target {
-        Target::Idle => IDLE,
-        Target::Vm(vm) => vm.0,
+        Some(vm) => vm.0,
+        None => IDLE,
     }
 }
 

@@ -3,12 +3,12 @@ use Prim.Native.Nat.{ℕ, ◌≤◌, ◌<◌}
 use mathlib.Core.Bool.{true, false}
 use mathlib.Core.List.{List}
 use mathlib.Core.Logic.{⊎_elim}
-use mathlib.Core.Option.{Option, none, some}
 use mathlib.Core.Path.{◌≡◌, refl, sym, ◌∙◌}
 use native.Mathlib.Omega.{arith}
 use lib.Dec.{eqb, leb}
 use lib.ListN.{length}
 use borrow.Author.Tests.{leb-true, leb-false, ne_eqb}
+use Rattle.std.specs.Prelude.{Option, None, Some}
 use Rattle.numbers.specs.CaseLaws.{cases, equal, none_some}
 use Rattle.numbers.specs.Decides.{Decides}
 use Rattle.numbers.specs.DecidesLaws.{decides_and, decides_less, decides_most}
@@ -61,21 +61,21 @@ argument_counts_lem (op.RetireVm vm) = refl
 
 -- ---- a row names an operation exactly where its number is a kind, which is then the operation's number
 abbrev named : Option Operation → Option ℕ
-named none = none
-named (some operation) = some (operation_number operation)
+named None = None
+named (Some operation) = Some (operation_number operation)
 
 module _ (a b c d e : ℕ) where
-  known_named : (n : ℕ) → is_kind n ≡ true → named (operation_of n a b c d e) ≡ some n
-  known_named = each_kind (λ n. named (operation_of n a b c d e)) some refl
+  known_named : (n : ℕ) → is_kind n ≡ true → named (operation_of n a b c d e) ≡ Some n
+  known_named = each_kind (λ n. named (operation_of n a b c d e)) Some refl
 
   -- no operation has a number past the last kind
   past : (n : ℕ) → KINDS < n → (k : ℕ) → leb k KINDS ≡ true → eqb n k ≡ false
   past n h k l = ne_eqb n k (λ q. omega (arith, leb-true k KINDS l))
 
-  past_none : (n : ℕ) → KINDS < n → operation_of n a b c d e ≡ none
+  past_none : (n : ℕ) → KINDS < n → operation_of n a b c d e ≡ None
   past_none n h = simp (past n h)
 
-  kind_of_some : (n : ℕ) (operation : Operation) → operation_of n a b c d e ≡ some operation → is_kind n ≡ true
+  kind_of_some : (n : ℕ) (operation : Operation) → operation_of n a b c d e ≡ Some operation → is_kind n ≡ true
   kind_of_some n operation is = (decides_and (decides_less 0 n) (decides_most n KINDS)).complete (nonzero, known)
     where
       nonzero : 0 < n
@@ -85,11 +85,11 @@ module _ (a b c d e : ℕ) where
       known = ⊎_elim (λ t. leb-true n KINDS t) (λ f. absurd (none_some (sym (past_none n (leb-false n KINDS f)) ∙ is))) (cases (leb n KINDS))
 
 -- both, of a row: the kinds are the numbers of rows that name an operation
-some_named : (found : Option Operation) (n : ℕ) → named found ≡ some n → (operation : Operation) × (found ≡ some operation) × (operation_number operation ≡ n)
-some_named none n e = absurd (none_some e)
-some_named (some operation) n e = (operation, refl, cc)
+some_named : (found : Option Operation) (n : ℕ) → named found ≡ Some n → (operation : Operation) × (found ≡ Some operation) × (operation_number operation ≡ n)
+some_named None n e = absurd (none_some e)
+some_named (Some operation) n e = (operation, refl, cc)
 
-pub kinds_rows : (row : List ℕ) → Decides (is_kind (kind_of row)) ((operation : Operation) × (operation_in row ≡ some operation))
+pub kinds_rows : (row : List ℕ) → Decides (is_kind (kind_of row)) ((operation : Operation) × (operation_in row ≡ Some operation))
 unfolding operation_in
 kinds_rows row =
     let a = argument row 0 in
@@ -102,7 +102,7 @@ kinds_rows row =
       complete = λ s. kind_of_some a b c d e (kind_of row) s.0 s.1;
     }
 
-pub kind_named : (row : List ℕ) (operation : Operation) → operation_in row ≡ some operation → operation_number operation ≡ kind_of row
+pub kind_named : (row : List ℕ) (operation : Operation) → operation_in row ≡ Some operation → operation_number operation ≡ kind_of row
 unfolding operation_in
 kind_named row operation e =
     let h = (kinds_rows row).complete (operation, e) in

@@ -3,15 +3,12 @@ use Prim.Native.Nat.{ℕ, ◌+◌}
 use mathlib.Core.List.{List, [], ◌∷◌, ◌++◌, map}
 use mathlib.Core.Path.{◌≡◌, refl}
 use lib.ListN.{take, replicate}
+use Rattle.std.specs.Prelude.{None, Result, Ok, Err}
 use Rattle.operation_log.specs.Kinds.{KINDS, argument_counts}
-use Rattle.operation_log.specs.Log.{log_refusal_number, record_of, record_at, written_at, written}
-use Rattle.operation_log.specs.Logs.{log_of, Readings, read_all}
+use Rattle.operation_log.specs.Log.{log_refusal_number, record_of, Read, record_at, place_after, written_at, written}
+use Rattle.operation_log.specs.Logs.{log_of, Found, Record, End, Refused, Readings, read_all}
 use Rattle.operation_log.specs.declared.LogRefusal.TheVariants.{CutShort, UnknownKind, WrongLength, DoesNotFit}
-use Rattle.operation_log.specs.declared.Found.{Found}
-use Rattle.operation_log.specs.declared.Found.TheVariants.{Record, End, Refused}
-use Rattle.operation_log.specs.declared.Taken.{Taken}
-use Rattle.operation_log.specs.declared.Written.{Written}
-use Rattle.operation_log.specs.declared.Written.TheVariants as put
+use Rattle.operation_log.specs.declared.LogRefusal.{LogRefusal}
 use Rattle.operation_log.proofs.ReadWritten.{a_record}
 
 -- a row of the numbers that are given, and 0 behind them
@@ -39,11 +36,11 @@ add_one_between = refl
 abbrev pub full : ℕ → List ℕ
 full kind = kind ∷ 11 ∷ 12 ∷ 13 ∷ 14 ∷ 15 ∷ 16 ∷ 17 ∷ []
 
-abbrev pub read_back : List ℕ → Taken
+abbrev pub read_back : List ℕ → Read
 read_back row = record_at (written row (replicate 25 9) 1) 1
 
 -- what is read, and the place behind it
-abbrev pub kinds : List Taken
+abbrev pub kinds : List Read
 kinds =
     -- VMs, ownership and sharing
     a_record (padded (1 ∷ 11 ∷ [])) 9
@@ -97,50 +94,50 @@ refusal_numbers = refl
 pub record Reading : Type 0 where
   pub log : List ℕ
   pub place : ℕ
-  pub says : Found
+  pub says : Read
 
-abbrev pub reading : List ℕ → ℕ → Found → Reading
+abbrev pub reading : List ℕ → ℕ → Read → Reading
 reading log place says = record { log = log; place = place; says = says }
 
 abbrev pub readings : List Reading
 readings =
     -- 20: one, two and three bytes left; one byte and many fewer than the length says
-    reading (6 ∷ []) 0 (Refused CutShort)
-    ∷ reading (6 ∷ 0 ∷ []) 0 (Refused CutShort)
-    ∷ reading (6 ∷ 0 ∷ 1 ∷ []) 0 (Refused CutShort)
-    ∷ reading (take 7 add_one) 0 (Refused CutShort)
-    ∷ reading (255 ∷ 255 ∷ 1 ∷ 0 ∷ 1 ∷ 0 ∷ 0 ∷ 0 ∷ []) 0 (Refused CutShort)
-    ∷ reading add_one 5 (Refused CutShort)
+    reading (6 ∷ []) 0 (Err CutShort)
+    ∷ reading (6 ∷ 0 ∷ []) 0 (Err CutShort)
+    ∷ reading (6 ∷ 0 ∷ 1 ∷ []) 0 (Err CutShort)
+    ∷ reading (take 7 add_one) 0 (Err CutShort)
+    ∷ reading (255 ∷ 255 ∷ 1 ∷ 0 ∷ 1 ∷ 0 ∷ 0 ∷ 0 ∷ []) 0 (Err CutShort)
+    ∷ reading add_one 5 (Err CutShort)
     -- 21: before the first kind, past the last one, the highest number of two bytes, and a kind in the high byte
-    ∷ reading (2 ∷ 0 ∷ 0 ∷ 0 ∷ []) 0 (Refused UnknownKind)
-    ∷ reading (2 ∷ 0 ∷ (KINDS + 1) ∷ 0 ∷ []) 0 (Refused UnknownKind)
-    ∷ reading (2 ∷ 0 ∷ 255 ∷ 255 ∷ []) 0 (Refused UnknownKind)
-    ∷ reading (2 ∷ 0 ∷ 0 ∷ 25 ∷ []) 0 (Refused UnknownKind)
+    ∷ reading (2 ∷ 0 ∷ 0 ∷ 0 ∷ []) 0 (Err UnknownKind)
+    ∷ reading (2 ∷ 0 ∷ (KINDS + 1) ∷ 0 ∷ []) 0 (Err UnknownKind)
+    ∷ reading (2 ∷ 0 ∷ 255 ∷ 255 ∷ []) 0 (Err UnknownKind)
+    ∷ reading (2 ∷ 0 ∷ 0 ∷ 25 ∷ []) 0 (Err UnknownKind)
     -- 22: a byte less and a byte more than the kind has, with other bytes behind them; a length that does not hold the kind
-    ∷ reading (5 ∷ 0 ∷ 1 ∷ 0 ∷ 1 ∷ 0 ∷ 0 ∷ 0 ∷ 0 ∷ []) 0 (Refused WrongLength)
-    ∷ reading (7 ∷ 0 ∷ 1 ∷ 0 ∷ 1 ∷ 0 ∷ 0 ∷ 0 ∷ 0 ∷ []) 0 (Refused WrongLength)
-    ∷ reading (0 ∷ 0 ∷ 25 ∷ 0 ∷ []) 0 (Refused WrongLength)
-    ∷ reading (1 ∷ 0 ∷ 25 ∷ 0 ∷ []) 0 (Refused WrongLength)
-    ∷ reading add_one 2 (Refused WrongLength)
+    ∷ reading (5 ∷ 0 ∷ 1 ∷ 0 ∷ 1 ∷ 0 ∷ 0 ∷ 0 ∷ 0 ∷ []) 0 (Err WrongLength)
+    ∷ reading (7 ∷ 0 ∷ 1 ∷ 0 ∷ 1 ∷ 0 ∷ 0 ∷ 0 ∷ 0 ∷ []) 0 (Err WrongLength)
+    ∷ reading (0 ∷ 0 ∷ 25 ∷ 0 ∷ []) 0 (Err WrongLength)
+    ∷ reading (1 ∷ 0 ∷ 25 ∷ 0 ∷ []) 0 (Err WrongLength)
+    ∷ reading add_one 2 (Err WrongLength)
     -- two that meet: cut short comes before an unknown kind and before a wrong length, and an unknown kind before a wrong length
-    ∷ reading (3 ∷ 0 ∷ (KINDS + 1) ∷ 0 ∷ []) 0 (Refused CutShort)
-    ∷ reading (7 ∷ 0 ∷ 1 ∷ 0 ∷ 1 ∷ 0 ∷ 0 ∷ 0 ∷ []) 0 (Refused CutShort)
-    ∷ reading (0 ∷ 0 ∷ (KINDS + 1) ∷ 0 ∷ []) 0 (Refused UnknownKind)
-    ∷ reading (1 ∷ 0 ∷ 0 ∷ 0 ∷ []) 0 (Refused UnknownKind)
+    ∷ reading (3 ∷ 0 ∷ (KINDS + 1) ∷ 0 ∷ []) 0 (Err CutShort)
+    ∷ reading (7 ∷ 0 ∷ 1 ∷ 0 ∷ 1 ∷ 0 ∷ 0 ∷ 0 ∷ []) 0 (Err CutShort)
+    ∷ reading (0 ∷ 0 ∷ (KINDS + 1) ∷ 0 ∷ []) 0 (Err UnknownKind)
+    ∷ reading (1 ∷ 0 ∷ 0 ∷ 0 ∷ []) 0 (Err UnknownKind)
     -- at a record's place in a log of more
-    ∷ reading (add_one ++ (2 ∷ 0 ∷ (KINDS + 1) ∷ 0 ∷ [])) 8 (Refused UnknownKind)
+    ∷ reading (add_one ++ (2 ∷ 0 ∷ (KINDS + 1) ∷ 0 ∷ [])) 8 (Err UnknownKind)
     -- the end, and past it
-    ∷ reading [] 0 End
-    ∷ reading [] 3 End
-    ∷ reading add_one 8 End
-    ∷ reading add_one 1000 End
+    ∷ reading [] 0 (Ok None)
+    ∷ reading [] 3 (Ok None)
+    ∷ reading add_one 8 (Ok None)
+    ∷ reading add_one 1000 (Ok None)
     ∷ []
 
--- the row is of zeros then, and the place is kept
-abbrev pub says_in : Reading → Taken
-says_in r = record { found = r.says; row = replicate 8 0; next = r.place }
+-- a reader that finds none stays where it is
+abbrev pub says_in : Reading → Read × ℕ
+says_in r = (r.says, r.place)
 
-pub readings_say : map (λ (r : Reading). record_at r.log r.place) readings ≡ map says_in readings
+pub readings_say : map (λ (r : Reading). let read = record_at r.log r.place in (read, place_after read r.place)) readings ≡ map says_in readings
 unfolding record_at argument_counts
 readings_say = refl
 
@@ -149,9 +146,9 @@ pub record Writing : Type 0 where
   pub row : List ℕ
   pub room : ℕ
   pub place : ℕ
-  pub says : Written
+  pub says : Result ℕ LogRefusal
 
-abbrev pub writing : List ℕ → ℕ → ℕ → Written → Writing
+abbrev pub writing : List ℕ → ℕ → ℕ → Result ℕ LogRefusal → Writing
 writing ns room place says = record { row = padded ns; room = room; place = place; says = says }
 
 -- the first number that four bytes cannot hold
@@ -161,30 +158,30 @@ over = 4294967296
 abbrev pub writings : List Writing
 writings =
     -- 21: no kind, in bytes or not
-    writing [] 100 0 (put.Refused UnknownKind)
-    ∷ writing ((KINDS + 1) ∷ []) 100 0 (put.Refused UnknownKind)
-    ∷ writing (65537 ∷ []) 100 0 (put.Refused UnknownKind)
+    writing [] 100 0 (Err UnknownKind)
+    ∷ writing ((KINDS + 1) ∷ []) 100 0 (Err UnknownKind)
+    ∷ writing (65537 ∷ []) 100 0 (Err UnknownKind)
     -- 23: an argument that four bytes cannot hold, first and last; behind the arguments it is no argument
-    ∷ writing (1 ∷ over ∷ []) 100 0 (put.Refused DoesNotFit)
-    ∷ writing (7 ∷ 1 ∷ 2 ∷ 3 ∷ 4 ∷ over ∷ []) 100 0 (put.Refused DoesNotFit)
-    ∷ writing (23 ∷ 1 ∷ 2 ∷ over ∷ 4 ∷ []) 100 0 (put.Refused DoesNotFit)
-    ∷ writing (1 ∷ 4294967295 ∷ over ∷ []) 100 0 (put.Past 8)
-    ∷ writing (25 ∷ over ∷ []) 100 0 (put.Past 4)
+    ∷ writing (1 ∷ over ∷ []) 100 0 (Err DoesNotFit)
+    ∷ writing (7 ∷ 1 ∷ 2 ∷ 3 ∷ 4 ∷ over ∷ []) 100 0 (Err DoesNotFit)
+    ∷ writing (23 ∷ 1 ∷ 2 ∷ over ∷ 4 ∷ []) 100 0 (Err DoesNotFit)
+    ∷ writing (1 ∷ 4294967295 ∷ over ∷ []) 100 0 (Ok 8)
+    ∷ writing (25 ∷ over ∷ []) 100 0 (Ok 4)
     -- but a value may be one
-    ∷ writing (23 ∷ 1 ∷ 2 ∷ 3 ∷ over ∷ []) 100 0 (put.Past 24)
+    ∷ writing (23 ∷ 1 ∷ 2 ∷ 3 ∷ over ∷ []) 100 0 (Ok 24)
     -- 23: a byte too little room, at the start and behind other bytes; at the end and past it; room that is just enough
-    ∷ writing (1 ∷ 1 ∷ []) 7 0 (put.Refused DoesNotFit)
-    ∷ writing (1 ∷ 1 ∷ []) 8 1 (put.Refused DoesNotFit)
-    ∷ writing (25 ∷ []) 4 1 (put.Refused DoesNotFit)
-    ∷ writing (25 ∷ []) 4 4 (put.Refused DoesNotFit)
-    ∷ writing (25 ∷ []) 4 9 (put.Refused DoesNotFit)
-    ∷ writing (25 ∷ []) 0 0 (put.Refused DoesNotFit)
-    ∷ writing (1 ∷ 1 ∷ []) 8 0 (put.Past 8)
-    ∷ writing (25 ∷ []) 9 5 (put.Past 9)
+    ∷ writing (1 ∷ 1 ∷ []) 7 0 (Err DoesNotFit)
+    ∷ writing (1 ∷ 1 ∷ []) 8 1 (Err DoesNotFit)
+    ∷ writing (25 ∷ []) 4 1 (Err DoesNotFit)
+    ∷ writing (25 ∷ []) 4 4 (Err DoesNotFit)
+    ∷ writing (25 ∷ []) 4 9 (Err DoesNotFit)
+    ∷ writing (25 ∷ []) 0 0 (Err DoesNotFit)
+    ∷ writing (1 ∷ 1 ∷ []) 8 0 (Ok 8)
+    ∷ writing (25 ∷ []) 9 5 (Ok 9)
     -- two that meet: an unknown kind comes before what does not fit, by its number or by the room
-    ∷ writing ((KINDS + 1) ∷ over ∷ []) 100 0 (put.Refused UnknownKind)
-    ∷ writing ((KINDS + 1) ∷ []) 0 0 (put.Refused UnknownKind)
-    ∷ writing (0 ∷ over ∷ []) 0 9 (put.Refused UnknownKind)
+    ∷ writing ((KINDS + 1) ∷ over ∷ []) 100 0 (Err UnknownKind)
+    ∷ writing ((KINDS + 1) ∷ []) 0 0 (Err UnknownKind)
+    ∷ writing (0 ∷ over ∷ []) 0 9 (Err UnknownKind)
     ∷ []
 
 pub writings_say : map (λ (w : Writing). written_at w.row w.room w.place) writings ≡ map (λ (w : Writing). w.says) writings

@@ -1,11 +1,11 @@
 -- What is true of each kind, by computing it for all of them: the bytes of its body stand in the code's table, and its fields are few.
-use Rattle.std.specs.Prelude.{ℕ, zero, suc, ◌+◌, ◌*◌, ◌-◌, ◌≤◌, ◌<◌, true, false, List, [], ◌∷◌, ◌≡◌, refl, leb, get_or, drop}
+use Rattle.std.specs.Prelude.{ℕ, zero, suc, ◌+◌, ◌*◌, ◌-◌, ◌≤◌, ◌<◌, true, false, Some, None, List, [], ◌∷◌, ◌≡◌, refl, leb, get_or, drop}
 use Rattle.std.proofs.Common.{true≢false, ⊎_elim, sym, ap, ◌∙◌, leb-true}
 use native.Mathlib.Omega.{arith, by_contra}
 use Rattle.std.proofs.Math.ListN.{get_or-eq_default}
-use Rattle.numbers.specs.CaseLaws.{equal}
+use Rattle.numbers.specs.CaseLaws.{cases, equal}
 use Rattle.numbers.specs.DecidesLaws.{decides_and, decides_less, decides_most, decides_or, decides_equal}
-use Rattle.operation_log.specs.Kinds.{KINDS, is_kind, argument_counts, argument_count, writes_value, FIELD_BYTES, field_count, body_length}
+use Rattle.operation_log.specs.Kinds.{KINDS, is_kind, argument_counts, argument_count, writes_value, FIELD_BYTES, field_count, body_length, body_of}
 use Rattle.operation_log.specs.Log.{FIELDS}
 
 pub kind_bounds : (kind : ℕ) → is_kind kind ≡ true → (0 < kind) × (kind ≤ KINDS)
@@ -39,6 +39,13 @@ fields_most kind h = leb-true (field_count kind) FIELDS (each_kind (λ k. leb (f
 pub value_arguments : (kind : ℕ) → writes_value kind ≡ true → argument_count kind ≡ 4
 unfolding argument_counts
 value_arguments kind v = ⊎_elim (λ (e : kind ≡ 23). rw e) (λ (e : kind ≡ 24). rw e) ((decides_or (decides_equal kind 23) (decides_equal kind 24)).sound v)
+
+-- ---- what has a body is a kind, and what has none is not
+pub body_kind : (kind body : ℕ) → body_of kind ≡ Some body → (is_kind kind ≡ true) × (body ≡ body_length kind)
+body_kind kind body e = ⊎_elim (λ (k : is_kind kind ≡ true). let there : Some (body_length kind) ≡ Some body = rw k at e in (k, cc)) (λ (k : is_kind kind ≡ false). absurd (let none : None ≡ Some body = rw k at e in cc)) (cases (is_kind kind))
+
+pub body_none : (kind : ℕ) → body_of kind ≡ None → is_kind kind ≡ false
+body_none kind e = ⊎_elim (λ (k : is_kind kind ≡ true). absurd (let there : Some (body_length kind) ≡ None = rw k at e in cc)) (λ (k : is_kind kind ≡ false). k) (cases (is_kind kind))
 
 -- ---- the arguments by the bytes of the body; what is no kind has none
 pub body_value : (kind body : ℕ) → body ≡ body_length kind → writes_value kind ≡ true → body ≡ FIELD_BYTES * (argument_count kind + 1)

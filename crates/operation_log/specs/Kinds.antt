@@ -1,5 +1,5 @@
 -- The kinds of record, which are the operations' numbers, and how long the body of each is (docs/MACHINE.md, 14).
-use Rattle.std.specs.Prelude.{ℕ, ◌+◌, ◌*◌, Bool, ◌&&◌, ◌||◌, List, [], ◌∷◌, eqb, ltb, leb, get_or}
+use Rattle.std.specs.Prelude.{ℕ, ◌+◌, ◌*◌, Bool, ◌&&◌, ◌||◌, Option, Some, None, List, [], ◌∷◌, eqb, ltb, leb, get_or}
 use Rattle.std.specs.Prelude.{if◌then◌else◌}
 
 -- the last kind
@@ -45,3 +45,7 @@ field_count kind = argument_count kind + (if writes_value kind then 1 else 0)
 
 abbrev pub body_length : ℕ → ℕ
 body_length kind = FIELD_BYTES * field_count kind
+
+-- how long a body is, of what is a kind
+abbrev pub body_of : ℕ → Option ℕ
+body_of kind = if is_kind kind then Some (body_length kind) else None

@@ -1,24 +1,26 @@
 -- The log (docs/MACHINE.md, 14): records in a row, each a length, a kind and a body. What a row is as a record, what stands at a
 -- place of a log, and what writing a row there gives.
-use Rattle.std.specs.Prelude.{ℕ, zero, suc, ◌+◌, ◌*◌, ◌-◌, ◌/◌, ◌%◌, Bool, not, ◌&&◌, true, List, [], ◌∷◌, ◌++◌, eqb, ltb, leb, length, get_or}
+use Rattle.std.specs.Prelude.{ℕ, zero, suc, ◌+◌, ◌*◌, ◌-◌, ◌/◌, ◌%◌, Bool, not, ◌&&◌, true, Option, Some, None, Result, Ok, Err, List, [], ◌∷◌, ◌++◌, eqb, ltb, leb, length, get_or, codes}
 use Rattle.std.specs.Prelude.{if◌then◌else◌}
 use Rattle.model.specs.Sequence.{write_at}
 use Rattle.records.specs.Little.{two, four, bytes_of}
 use Rattle.operation_log.specs.Kinds.{is_kind, writes_value, field_count, body_length, FIELD_BYTES}
 use Rattle.operation_log.specs.declared.LogRefusal.{LogRefusal}
 use Rattle.operation_log.specs.declared.LogRefusal.TheVariants.{CutShort, UnknownKind, WrongLength, DoesNotFit}
-use Rattle.operation_log.specs.declared.Found.{Found}
-use Rattle.operation_log.specs.declared.Found.TheVariants.{Record, End, Refused}
 use Rattle.operation_log.specs.declared.Taken.{Taken}
-use Rattle.operation_log.specs.declared.Written.{Written}
-use Rattle.operation_log.specs.declared.Written.TheVariants as put
 
--- the manual's number of each refusal; no answer of the machine carries one of them
+-- the manual's number of each refusal, of which no answer of the machine carries one, and what it is called
 abbrev pub log_refusal_number : LogRefusal → ℕ
 log_refusal_number CutShort = 20
 log_refusal_number UnknownKind = 21
 log_refusal_number WrongLength = 22
 log_refusal_number DoesNotFit = 23
+
+abbrev pub log_refusal_text : LogRefusal → List ℕ
+log_refusal_text CutShort = codes "cut short"
+log_refusal_text UnknownKind = codes "unknown kind"
+log_refusal_text WrongLength = codes "wrong length"
+log_refusal_text DoesNotFit = codes "does not fit"
 
 -- ---- the parts of a record
 abbrev pub LENGTH_BYTES : ℕ
@@ -65,34 +67,42 @@ unfoldable pub record_of : List ℕ → List ℕ
 record_of row =
     bytes_of LENGTH_BYTES (length_of (kind_of row)) ++ (bytes_of KIND_BYTES (kind_of row) ++ body_from (fields_of row) 0 (field_count (kind_of row)))
 
--- ---- reading: the record at a place and the place after it, or why there is none, and the same place
-abbrev pub no_record : Found → ℕ → Taken
-no_record why at = record { found = why; row = 0 ∷ 0 ∷ 0 ∷ 0 ∷ 0 ∷ 0 ∷ 0 ∷ 0 ∷ []; next = at }
-
+-- ---- reading
 -- field i of the record at a place, which has n; 0 where it has no such field
 abbrev pub field_at : List ℕ → ℕ → ℕ → ℕ → ℕ
 field_at log at n i = if ltb i n then four log (at + HEAD_BYTES + FIELD_BYTES * i) else 0
 
+abbrev pub fields_at : List ℕ → ℕ → ℕ → List ℕ
+fields_at log at n = field_at log at n 0 ∷ field_at log at n 1 ∷ field_at log at n 2 ∷ field_at log at n 3 ∷ field_at log at n 4 ∷ []
+
 -- the row of a kind and of five fields
-abbrev pub row_of : ℕ → ℕ → ℕ → ℕ → ℕ → ℕ → List ℕ
-row_of kind a b c d e =
-    if writes_value kind then kind ∷ a ∷ b ∷ c ∷ (d + FIELD * e) ∷ 0 ∷ 0 ∷ 0 ∷ []
-    else kind ∷ a ∷ b ∷ c ∷ d ∷ e ∷ 0 ∷ 0 ∷ []
+abbrev pub row_of : ℕ → List ℕ → List ℕ
+row_of kind fields =
+    if writes_value kind then kind ∷ get_or fields 0 0 ∷ get_or fields 1 0 ∷ get_or fields 2 0 ∷ (get_or fields 3 0 + FIELD * get_or fields 4 0) ∷ 0 ∷ 0 ∷ 0 ∷ []
+    else kind ∷ get_or fields 0 0 ∷ get_or fields 1 0 ∷ get_or fields 2 0 ∷ get_or fields 3 0 ∷ get_or fields 4 0 ∷ 0 ∷ 0 ∷ []
 
 -- the row of the record of a kind at a place
 abbrev pub row_in : List ℕ → ℕ → ℕ → List ℕ
-row_in log at kind =
-    let n = field_count kind in
-    row_of kind (field_at log at n 0) (field_at log at n 1) (field_at log at n 2) (field_at log at n 3) (field_at log at n 4)
+row_in log at kind = row_of kind (fields_at log at (field_count kind))
 
-unfoldable pub record_at : List ℕ → ℕ → Taken
+-- what stands at a place: a record, nothing where the log has ended, or why there is no record
+abbrev pub Read : Type 0
+Read = Result (Option Taken) LogRefusal
+
+unfoldable pub record_at : List ℕ → ℕ → Read
 record_at log at =
-    if leb (length log) at then no_record End at
-    else if ltb (length log - at) HEAD_BYTES then no_record (Refused CutShort) at
-    else if ltb (length log - at - LENGTH_BYTES) (two log at) then no_record (Refused CutShort) at
-    else if not (is_kind (two log (at + LENGTH_BYTES))) then no_record (Refused UnknownKind) at
-    else if not (eqb (two log at) (length_of (two log (at + LENGTH_BYTES)))) then no_record (Refused WrongLength) at
-    else record { found = Record; row = row_in log at (two log (at + LENGTH_BYTES)); next = at + HEAD_BYTES + body_length (two log (at + LENGTH_BYTES)) }
+    if leb (length log) at then Ok None
+    else if ltb (length log - at) HEAD_BYTES then Err CutShort
+    else if ltb (length log - at - LENGTH_BYTES) (two log at) then Err CutShort
+    else if not (is_kind (two log (at + LENGTH_BYTES))) then Err UnknownKind
+    else if not (eqb (two log at) (length_of (two log (at + LENGTH_BYTES)))) then Err WrongLength
+    else Ok (Some (record { row = row_in log at (two log (at + LENGTH_BYTES)); next = at + HEAD_BYTES + body_length (two log (at + LENGTH_BYTES)) }))
+
+-- where a reader is then: past a record, and else at the same place
+abbrev pub place_after : Read → ℕ → ℕ
+place_after (Ok (Some taken)) at = taken.next
+place_after (Ok None) at = at
+place_after (Err why) at = at
 
 -- ---- writing: the place after the record, or why it is refused; a refusal leaves the buffer
 -- n of the fields from the i-th on hold what four bytes can
@@ -103,17 +113,17 @@ fit_from fields i (suc n) = ltb (get_or fields i 0) FIELD && fit_from fields (i 
 abbrev pub fits : List ℕ → Bool
 fits row = fit_from (fields_of row) 0 (field_count (kind_of row))
 
-unfoldable pub written_at : List ℕ → ℕ → ℕ → Written
+unfoldable pub written_at : List ℕ → ℕ → ℕ → Result ℕ LogRefusal
 written_at row room at =
-    if not (is_kind (kind_of row)) then put.Refused UnknownKind
-    else if not (fits row) then put.Refused DoesNotFit
-    else if not (leb (at + HEAD_BYTES + body_length (kind_of row)) room) then put.Refused DoesNotFit
-    else put.Past (at + HEAD_BYTES + body_length (kind_of row))
+    if not (is_kind (kind_of row)) then Err UnknownKind
+    else if not (fits row) then Err DoesNotFit
+    else if not (leb (at + HEAD_BYTES + body_length (kind_of row)) room) then Err DoesNotFit
+    else Ok (at + HEAD_BYTES + body_length (kind_of row))
 
 -- what stands in the buffer then
-abbrev pub buffered : Written → List ℕ → List ℕ → ℕ → List ℕ
-buffered (put.Past next) row log at = write_at log at (record_of row)
-buffered (put.Refused why) row log at = log
+abbrev pub buffered : Result ℕ LogRefusal → List ℕ → List ℕ → ℕ → List ℕ
+buffered (Ok next) row log at = write_at log at (record_of row)
+buffered (Err why) row log at = log
 
 unfoldable pub written : List ℕ → List ℕ → ℕ → List ℕ
 written row log at = buffered (written_at row (length log) at) row log at

@@ -1,5 +1,5 @@
 -- Reading what was written, and writing what was read.
-use Rattle.std.specs.Prelude.{ℕ, zero, suc, ◌+◌, ◌*◌, ◌-◌, ◌/◌, ◌%◌, ◌≤◌, ◌<◌, Bool, true, false, not, ◌≡◌, refl, eqb, ltb, leb, length, drop}
+use Rattle.std.specs.Prelude.{ℕ, zero, suc, ◌+◌, ◌*◌, ◌-◌, ◌/◌, ◌%◌, ◌≤◌, ◌<◌, Bool, true, false, not, Some, None, Result, Ok, Err, ◌≡◌, refl, eqb, ltb, leb, length, drop}
 use Rattle.std.proofs.Common.{true≢false, ⊎_elim, sym, ◌∙◌, add-zero, zero-add, add_assoc, length-append, get_or-append-add, take-add, drop-drop, ltb-true, ltb-false, lt-ltb, le-ltb, leb-true, leb-false, le-leb, eqb-true, eq-eqb}
 use mathlib.Core.List.{List, [], ◌∷◌, ◌++◌}
 use Rattle.std.proofs.Math.Path.{ap, ap₂}
@@ -17,35 +17,11 @@ use Rattle.records.specs.Little.{BYTE, little, two, four, bytes_of}
 use Rattle.records.specs.LittleLaws.{little_same, little_left, little_right, little_bytes, little_below, bytes_little}
 use Rattle.operation_log.specs.Kinds.{is_kind, argument_count, writes_value, FIELD_BYTES, field_count, body_length}
 use Rattle.operation_log.specs.KindLaws.{kind_bounds, fields_most, value_arguments}
-use Rattle.operation_log.specs.Log.{
-  LENGTH_BYTES,
-  KIND_BYTES,
-  HEAD_BYTES,
-  length_of,
-  FIELD,
-  FIELDS,
-  kind_of,
-  argument,
-  fields_of,
-  body_from,
-  record_of,
-  no_record,
-  field_at,
-  row_of,
-  row_in,
-  record_at,
-  fit_from,
-  fits,
-  written_at,
-}
+use Rattle.operation_log.specs.Log.{LENGTH_BYTES, KIND_BYTES, HEAD_BYTES, length_of, FIELD, FIELDS, kind_of, argument, fields_of, body_from, record_of, field_at, fields_at, row_of, row_in, Read, record_at, fit_from, fits, written_at}
 use Rattle.operation_log.specs.Logs.{used_row, Writable}
 use Rattle.operation_log.specs.declared.LogRefusal.{LogRefusal}
 use Rattle.operation_log.specs.declared.LogRefusal.TheVariants.{CutShort, UnknownKind, WrongLength, DoesNotFit}
-use Rattle.operation_log.specs.declared.Found.{Found}
-use Rattle.operation_log.specs.declared.Found.TheVariants.{Record, End, Refused}
 use Rattle.operation_log.specs.declared.Taken.{Taken}
-use Rattle.operation_log.specs.declared.Written.{Written}
-use Rattle.operation_log.specs.declared.Written.TheVariants as put
 
 -- ---- the parts of a record
 pub length-body : (fields : List ℕ) (i n : ℕ) → length (body_from fields i n) ≡ FIELD_BYTES * n
@@ -141,11 +117,11 @@ pub record Stands (log : List ℕ) (at kind : ℕ) : Type 0 where
   pub length-there : two log at ≡ length_of kind
   pub kind_there : two log (at + LENGTH_BYTES) ≡ kind
 
-abbrev pub read_of : List ℕ → ℕ → ℕ → Taken
-read_of log at kind = record { found = Record; row = row_in log at kind; next = at + HEAD_BYTES + body_length kind }
+abbrev pub taken_of : List ℕ → ℕ → ℕ → Taken
+taken_of log at kind = record { row = row_in log at kind; next = at + HEAD_BYTES + body_length kind }
 
 -- such a record is read, and no other
-pub stands_read : (log : List ℕ) (at kind : ℕ) → Stands log at kind → record_at log at ≡ read_of log at kind
+pub stands_read : (log : List ℕ) (at kind : ℕ) → Stands log at kind → record_at log at ≡ Ok (Some (taken_of log at kind))
 unfolding record_at
 stands_read log at kind s =
     let more : leb (length log) at ≡ false = lt-leb (length log) at (omega (arith, s.inside)) in
@@ -153,29 +129,29 @@ stands_read log at kind s =
     let whole : ltb (length log - at - LENGTH_BYTES) (length_of kind) ≡ false = le-ltb (length log - at - LENGTH_BYTES) (length_of kind) (omega (arith, s.inside)) in
     rw (more, head, s.length-there, whole, s.kind_there, s.known, eq-eqb (length_of kind) (length_of kind) refl)
 
-abbrev is_record : Found → Bool
-is_record Record = true
-is_record End = false
-is_record (Refused why) = false
+abbrev is_record : Read → Bool
+is_record (Ok (Some taken)) = true
+is_record (Ok None) = false
+is_record (Err why) = false
 
-abbrev is_end : Found → Bool
-is_end Record = false
-is_end End = true
-is_end (Refused why) = false
+abbrev is_end : Read → Bool
+is_end (Ok (Some taken)) = false
+is_end (Ok None) = true
+is_end (Err why) = false
 
--- what is found and is not why a test stops was found behind the test
-passed_on : (is : Found → Bool) (t : Bool) (why : Found) (at : ℕ) (rest : Taken) → is why ≡ false → is (if t then no_record why at else rest).found ≡ true → (t ≡ false) × (is rest.found ≡ true)
-passed_on is true why at rest n e = absurd (true≢false (sym e ∙ n))
-passed_on is false why at rest n e = (refl, e)
+-- what is found and is not what a test stops with was found behind the test
+passed_on : (is : Read → Bool) (t : Bool) (stop rest : Read) → is stop ≡ false → is (if t then stop else rest) ≡ true → (t ≡ false) × (is rest ≡ true)
+passed_on is true stop rest n e = absurd (true≢false (sym e ∙ n))
+passed_on is false stop rest n e = (refl, e)
 
-pub read_stands : (log : List ℕ) (at : ℕ) → (record_at log at).found ≡ Record → Stands log at (two log (at + LENGTH_BYTES))
+pub read_stands : (log : List ℕ) (at : ℕ) (taken : Taken) → record_at log at ≡ Ok (Some taken) → Stands log at (two log (at + LENGTH_BYTES))
 unfolding record_at
-read_stands log at e =
-    let more = passed_on is_record (leb (length log) at) End at _ refl (ap is_record e) in
-    let head = passed_on is_record (ltb (length log - at) HEAD_BYTES) (Refused CutShort) at _ refl more.1 in
-    let whole = passed_on is_record (ltb (length log - at - LENGTH_BYTES) (two log at)) (Refused CutShort) at _ refl head.1 in
-    let kind = passed_on is_record (not (is_kind (two log (at + LENGTH_BYTES)))) (Refused UnknownKind) at _ refl whole.1 in
-    let size = passed_on is_record (not (eqb (two log at) (length_of (two log (at + LENGTH_BYTES))))) (Refused WrongLength) at _ refl kind.1 in
+read_stands log at taken e =
+    let more = passed_on is_record (leb (length log) at) (Ok None) _ refl (ap is_record e) in
+    let head = passed_on is_record (ltb (length log - at) HEAD_BYTES) (Err CutShort) _ refl more.1 in
+    let whole = passed_on is_record (ltb (length log - at - LENGTH_BYTES) (two log at)) (Err CutShort) _ refl head.1 in
+    let kind = passed_on is_record (not (is_kind (two log (at + LENGTH_BYTES)))) (Err UnknownKind) _ refl whole.1 in
+    let size = passed_on is_record (not (eqb (two log at) (length_of (two log (at + LENGTH_BYTES))))) (Err WrongLength) _ refl kind.1 in
     let length-there = eqb-true (two log at) (length_of (two log (at + LENGTH_BYTES))) (not-false _ size.0) in
     record {
       known = not-false _ kind.0;
@@ -191,44 +167,34 @@ read_stands log at e =
     }
 
 -- the end is found at the log's length and past it, and nowhere else
-pub end_read : (log : List ℕ) (at : ℕ) → length log ≤ at → record_at log at ≡ no_record End at
+pub end_read : (log : List ℕ) (at : ℕ) → length log ≤ at → record_at log at ≡ Ok None
 unfolding record_at
 end_read log at h = rw (le-leb (length log) at h)
 
-pub read_end : (log : List ℕ) (at : ℕ) → (record_at log at).found ≡ End → length log ≤ at
+pub read_end : (log : List ℕ) (at : ℕ) → record_at log at ≡ Ok None → length log ≤ at
 unfolding record_at
 read_end log at e = ⊎_elim (leb-true (length log) at) inside (cases (leb (length log) at))
   where
     inside : leb (length log) at ≡ false → length log ≤ at
     inside f =
-        let head = passed_on is_end (ltb (length log - at) HEAD_BYTES) (Refused CutShort) at _ refl (rw f at (ap is_end e)) in
-        let whole = passed_on is_end (ltb (length log - at - LENGTH_BYTES) (two log at)) (Refused CutShort) at _ refl head.1 in
-        let kind = passed_on is_end (not (is_kind (two log (at + LENGTH_BYTES)))) (Refused UnknownKind) at _ refl whole.1 in
-        let size = passed_on is_end (not (eqb (two log at) (length_of (two log (at + LENGTH_BYTES))))) (Refused WrongLength) at _ refl kind.1 in
+        let head = passed_on is_end (ltb (length log - at) HEAD_BYTES) (Err CutShort) _ refl (rw f at (ap is_end e)) in
+        let whole = passed_on is_end (ltb (length log - at - LENGTH_BYTES) (two log at)) (Err CutShort) _ refl head.1 in
+        let kind = passed_on is_end (not (is_kind (two log (at + LENGTH_BYTES)))) (Err UnknownKind) _ refl whole.1 in
+        let size = passed_on is_end (not (eqb (two log at) (length_of (two log (at + LENGTH_BYTES))))) (Err WrongLength) _ refl kind.1 in
         absurd (true≢false (sym size.1))
 
--- ---- a row that was read has eight numbers, and where none was read it has as many
-row_length : (kind a b c d e : ℕ) → length (row_of kind a b c d e) ≡ ROW_NUMBERS
-row_length kind a b c d e = go (writes_value kind)
-  where
-    go : (writes : Bool) → length (if writes then kind ∷ a ∷ b ∷ c ∷ (d + FIELD * e) ∷ 0 ∷ 0 ∷ 0 ∷ [] else kind ∷ a ∷ b ∷ c ∷ d ∷ e ∷ 0 ∷ 0 ∷ []) ≡ ROW_NUMBERS
-    go true = refl
-    go false = refl
+-- ---- what was read: all of the record stands in the log, and its row has eight numbers
+pub read_taken : (log : List ℕ) (at : ℕ) (taken : Taken) → record_at log at ≡ Ok (Some taken) → taken ≡ taken_of log at (two log (at + LENGTH_BYTES))
+read_taken log at taken e = let there = stands_read log at (two log (at + LENGTH_BYTES)) (read_stands log at taken e) in cc
 
-either_length : (t : Bool) (why : Found) (at : ℕ) (rest : Taken) → length rest.row ≡ ROW_NUMBERS → length (if t then no_record why at else rest).row ≡ ROW_NUMBERS
-either_length true why at rest e = refl
-either_length false why at rest e = e
+pub read_inside : (log : List ℕ) (at : ℕ) (taken : Taken) → record_at log at ≡ Ok (Some taken) → taken.next ≤ length log
+read_inside log at taken e = rw (read_taken log at taken e) (read_stands log at taken e).inside
 
-pub row_numbers : (log : List ℕ) (at : ℕ) → length (record_at log at).row ≡ ROW_NUMBERS
-unfolding record_at
-row_numbers log at =
-    let kind = two log (at + LENGTH_BYTES) in
-    let field = field_at log at (field_count kind) in
-    either_length (leb (length log) at) End at _
-    (either_length (ltb (length log - at) HEAD_BYTES) (Refused CutShort) at _
-    (either_length (ltb (length log - at - LENGTH_BYTES) (two log at)) (Refused CutShort) at _
-    (either_length (not (is_kind kind)) (Refused UnknownKind) at _
-    (either_length (not (eqb (two log at) (length_of kind))) (Refused WrongLength) at _ (row_length kind (field 0) (field 1) (field 2) (field 3) (field 4))))))
+row_length : (kind : ℕ) (fields : List ℕ) → length (row_of kind fields) ≡ ROW_NUMBERS
+row_length kind fields = ⊎_elim (λ (v : writes_value kind ≡ true). rw v) (λ (v : writes_value kind ≡ false). rw v) (cases (writes_value kind))
+
+pub row_numbers : (log : List ℕ) (at : ℕ) (taken : Taken) → record_at log at ≡ Ok (Some taken) → length taken.row ≡ ROW_NUMBERS
+row_numbers log at taken e = let kind = two log (at + LENGTH_BYTES) in rw (read_taken log at taken e) (row_length kind (fields_at log at (field_count kind)))
 
 -- ---- what stands where a row's record was written is that row, as far as its operation has numbers
 -- fields as far as there are any
@@ -239,7 +205,7 @@ abbrev held_row : List ℕ → List ℕ
 held_row row =
     let n = field_count (kind_of row) in
     let f = fields_of row in
-    row_of (kind_of row) (held n f 0) (held n f 1) (held n f 2) (held n f 3) (held n f 4)
+    row_of (kind_of row) (held n f 0 ∷ held n f 1 ∷ held n f 2 ∷ held n f 3 ∷ held n f 4 ∷ [])
 
 row_used : (row : List ℕ) → held_row row ≡ used_row row
 unfolding used_row
@@ -272,24 +238,24 @@ module _ (log : List ℕ) (at : ℕ) (row : List ℕ) (w : Writable row) (h : Ho
   held_row_lem : row_in log at (kind_of row) ≡ used_row row
   held_row_lem = rw (held_field 0, held_field 1, held_field 2, held_field 3, held_field 4) (row_used row)
 
-  pub read_held : record_at log at ≡ record { found = Record; row = used_row row; next = at + HEAD_BYTES + body_length (kind_of row) }
+  pub read_held : record_at log at ≡ Ok (Some (record { row = used_row row; next = at + HEAD_BYTES + body_length (kind_of row) }))
   read_held = stands_read log at (kind_of row) held_stands ∙ rw held_row_lem
 
 -- ---- the writer takes a row exactly where it is writable and has room
-pub written_taken : (row : List ℕ) (room at : ℕ) → Writable row → at + HEAD_BYTES + body_length (kind_of row) ≤ room → written_at row room at ≡ put.Past (at + HEAD_BYTES + body_length (kind_of row))
+pub written_taken : (row : List ℕ) (room at : ℕ) → Writable row → at + HEAD_BYTES + body_length (kind_of row) ≤ room → written_at row room at ≡ Ok (at + HEAD_BYTES + body_length (kind_of row))
 unfolding written_at
 written_taken row room at w h = rw (w.known, w.fit, le-leb (at + HEAD_BYTES + body_length (kind_of row)) room h)
 
-put_on : (t : Bool) (why : LogRefusal) (rest : Written) (next : ℕ) → (if not t then put.Refused why else rest) ≡ put.Past next → (t ≡ true) × (rest ≡ put.Past next)
+put_on : (t : Bool) (why : LogRefusal) (rest : Result ℕ LogRefusal) (next : ℕ) → (if not t then Err why else rest) ≡ Ok next → (t ≡ true) × (rest ≡ Ok next)
 put_on true why rest next e = (refl, e)
-put_on false why rest next e = absurd (let z : ◌≡◌ {A = ℕ} 0 1 = cc in omega arith)
+put_on false why rest next e = cc
 
 pub record Takes (row : List ℕ) (room at next : ℕ) : Type 0 where
   pub writable : Writable row
   pub past : next ≡ at + HEAD_BYTES + body_length (kind_of row)
   pub inside : next ≤ room
 
-pub taken_written : (row : List ℕ) (room at next : ℕ) → written_at row room at ≡ put.Past next → Takes row room at next
+pub taken_written : (row : List ℕ) (room at next : ℕ) → written_at row room at ≡ Ok next → Takes row room at next
 unfolding written_at
 taken_written row room at next e =
     let end = at + HEAD_BYTES + body_length (kind_of row) in
@@ -300,10 +266,10 @@ taken_written row room at next e =
     record { writable = record { known = known.0; fit = fit.0 }; past = past; inside = rw past (leb-true end room inside.0) }
 
 -- ---- what was read, written: the kind, and the fields of a row that is made of them
-pub kind_row : (kind a b c d e : ℕ) → kind_of (row_of kind a b c d e) ≡ kind
-kind_row kind a b c d e = ⊎_elim (λ (v : writes_value kind ≡ true). rw v) (λ (v : writes_value kind ≡ false). rw v) (cases (writes_value kind))
+pub kind_row : (kind : ℕ) (fields : List ℕ) → kind_of (row_of kind fields) ≡ kind
+kind_row kind fields = ⊎_elim (λ (v : writes_value kind ≡ true). rw v) (λ (v : writes_value kind ≡ false). rw v) (cases (writes_value kind))
 
-pub fields_row : (kind a b c d e : ℕ) → d < FIELD → fields_of (row_of kind a b c d e) ≡ a ∷ b ∷ c ∷ d ∷ e ∷ []
+pub fields_row : (kind a b c d e : ℕ) → d < FIELD → fields_of (row_of kind (a ∷ b ∷ c ∷ d ∷ e ∷ [])) ≡ a ∷ b ∷ c ∷ d ∷ e ∷ []
 fields_row kind a b c d e h = ⊎_elim value (λ (v : writes_value kind ≡ false). simp v) (cases (writes_value kind))
   where
     low : (d + FIELD * e) % FIELD ≡ d
@@ -312,7 +278,7 @@ fields_row kind a b c d e h = ⊎_elim value (λ (v : writes_value kind ≡ fals
     high : (d + FIELD * e) / FIELD ≡ e
     high = omega arith
 
-    value : writes_value kind ≡ true → fields_of (row_of kind a b c d e) ≡ a ∷ b ∷ c ∷ d ∷ e ∷ []
+    value : writes_value kind ≡ true → fields_of (row_of kind (a ∷ b ∷ c ∷ d ∷ e ∷ [])) ≡ a ∷ b ∷ c ∷ d ∷ e ∷ []
     value v = simp (v, low, high)
 
 five : (f : ℕ → ℕ) (k : ℕ) → k < FIELDS → get_or (f 0 ∷ f 1 ∷ f 2 ∷ f 3 ∷ f 4 ∷ []) k 0 ≡ f k
@@ -352,7 +318,7 @@ module _ (log : List ℕ) (below : (i : ℕ) → get_or log i 0 < BYTE) where
 
   module _ (at kind : ℕ) (s : Stands log at kind) where
     pub read_kind : kind_of (row_in log at kind) ≡ kind
-    read_kind = let n = field_count kind in kind_row kind (field_at log at n 0) (field_at log at n 1) (field_at log at n 2) (field_at log at n 3) (field_at log at n 4)
+    read_kind = kind_row kind (fields_at log at (field_count kind))
 
     read_field : (k : ℕ) → k < field_count kind → get_or (fields_of (row_in log at kind)) k 0 ≡ four log (at + HEAD_BYTES + FIELD_BYTES * k)
     read_field k h =

@@ -1,12 +1,12 @@
 -- What is said of whole logs: the rows that a log can hold and what of them it holds, the log of many rows, and reading one record
 -- after the other.
 use Prim.{Unit}
-use Rattle.std.specs.Prelude.{ℕ, zero, suc, true, List, [], ◌∷◌, ◌++◌, ◌≡◌, ltb}
+use Rattle.std.specs.Prelude.{ℕ, zero, suc, true, Some, None, Ok, Err, List, [], ◌∷◌, ◌++◌, ◌≡◌, ltb}
 use Rattle.std.specs.Prelude.{if◌then◌else◌}
 use Rattle.operation_log.specs.Kinds.{is_kind, argument_count}
-use Rattle.operation_log.specs.Log.{kind_of, argument, fits, record_of, record_at}
-use Rattle.operation_log.specs.declared.Found.{Found}
-use Rattle.operation_log.specs.declared.Found.TheVariants.{Record, End, Refused}
+use Rattle.operation_log.specs.Log.{kind_of, argument, fits, record_of, Read, record_at}
+use Rattle.operation_log.specs.declared.LogRefusal.{LogRefusal}
+use Rattle.operation_log.specs.declared.Taken.{Taken}
 
 -- ---- one row
 -- what a record holds of a row: the kind, its arguments, and 0 past them
@@ -31,7 +31,13 @@ abbrev pub log_of : List (List ℕ) → List ℕ
 log_of [] = []
 log_of (row ∷ rows) = record_of row ++ log_of rows
 
--- ---- the rows that were read, the place where reading stopped, and what it found there: a record where as many as asked for were read
+-- ---- what reading one after the other found where it stopped: a record where as many as asked for were read
+pub data Found : Type 0 where
+  Record : Found
+  End : Found
+  Refused : (why : LogRefusal) → Found
+
+-- the rows that were read, the place where reading stopped, and what it found there
 pub record Readings : Type 0 where
   pub rows : List (List ℕ)
   pub place : ℕ
@@ -40,13 +46,17 @@ pub record Readings : Type 0 where
 abbrev pub stopped : Found → ℕ → Readings
 stopped why at = record { rows = []; place = at; found = why }
 
--- a record before the others, or what stops it
-abbrev pub read_on : Found → ℕ → List ℕ → Readings → Readings
-read_on Record at row rest = record { rows = row ∷ rest.rows; place = rest.place; found = rest.found }
-read_on End at row rest = stopped End at
-read_on (Refused why) at row rest = stopped (Refused why) at
+-- a row ahead of the others
+abbrev pub ahead : List ℕ → Readings → Readings
+ahead row rest = record { rows = row ∷ rest.rows; place = rest.place; found = rest.found }
+
+-- a record and what is read past it, or what stops it
+abbrev pub read_on : Read → ℕ → (Taken → Readings) → Readings
+read_on (Ok (Some taken)) at rest = ahead taken.row (rest taken)
+read_on (Ok None) at rest = stopped End at
+read_on (Err why) at rest = stopped (Refused why) at
 
 -- at most n records from a place on
 abbrev pub read_all : ℕ → List ℕ → ℕ → Readings
 read_all zero log at = stopped Record at
-read_all (suc n) log at = read_on (record_at log at).found at (record_at log at).row (read_all n log (record_at log at).next)
+read_all (suc n) log at = read_on (record_at log at) at (λ taken. read_all n log taken.next)

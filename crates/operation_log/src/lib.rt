@@ -1,16 +1,19 @@
 // The operation log: records in a row, read and written one at a time (docs/MACHINE.md, 14).
 #![tactic(auto)]
 
-ghost use Rattle.std.specs.Prelude.{true, ◌≡◌, ◌+◌, ◌*◌, ◌≤◌, ◌<◌, length};
+ghost use Rattle.std.specs.Prelude.{Some, IfSome, ◌≡◌, ◌+◌, ◌*◌, ◌≤◌, ◌<◌, length, slice_index, nat_lt};
+ghost use Rattle.std.specs.List.{list_all, flat_map};
 ghost use Rattle.model.specs.Sequence.{write_at};
-ghost use Rattle.operation_log.specs.Kinds.{is_kind, argument_count, writes_value, body_length, FIELD_BYTES};
-ghost use Rattle.operation_log.specs.Log.{log_refusal_number, HEAD_BYTES, FIELD, FIELDS, no_record, field_at, row_of, record_at, fields_of, body_from, fit_from, written_at, written};
+ghost use Rattle.records.specs.Little.{bytes_of};
+ghost use Rattle.operation_log.specs.Kinds.{argument_count, writes_value, body_of, FIELD_BYTES};
+ghost use Rattle.operation_log.specs.Log.{log_refusal_number, log_refusal_text, HEAD_BYTES, FIELD, FIELDS, fields_at, row_of, record_at, place_after, fields_of, written_at, written};
 
 use numbers::ROW_NUMBERS;
+use std::{array, fmt};
 
 // ---- Kinds.
 
-// The last kind: kinds are the operations' numbers.
+// The last kind. Kinds are the operations' numbers, and numbers here too: a record holds them so.
 pub const KINDS: u64 = 27;
 // The bytes of each kind's body, from kind 1 on, beside its number.
 const BODIES: [usize; KINDS as usize] = [
@@ -62,8 +65,8 @@ const FIELDS: usize = 5;
 // Numbers that a field can hold.
 const FIELD: u64 = 4294967296;
 
-// ---- Why a record is not read or not written. No answer of the machine carries one of these.
-#[derive(Clone, Copy)]
+// ---- Why a record is not read or not written. No answer of the machine carries the number of one of these.
+#[derive(Clone, Copy, Debug, PartialEq, Eq)]
 pub enum LogRefusal {
     CutShort,
     UnknownKind,
@@ -71,27 +74,37 @@ pub enum LogRefusal {
     DoesNotFit,
 }
 
-// ---- What stands at a place of a log.
-#[derive(Clone, Copy)]
-pub enum Found {
-    Record,
-    End,
-    Refused(LogRefusal),
+impl From<LogRefusal> for u64 {
+    ghost from_gives = { λ refusal number. number ≡ log_refusal_number refusal };
+
+    fn from(refusal: LogRefusal) -> u64 {
+        match refusal {
+            LogRefusal::CutShort => 20,
+            LogRefusal::UnknownKind => 21,
+            LogRefusal::WrongLength => 22,
+            LogRefusal::DoesNotFit => 23,
+        }
+    }
 }
 
-// With a record its row and the place after it; with none zeros, and the same place.
+impl fmt::Display for LogRefusal {
+    ghost output = { λ refusal. Some (log_refusal_text refusal) };
+
+    fn fmt<W: fmt::Write>(&self, f: &mut fmt::Formatter<W>) -> fmt::Result {
+        f.write_str(match self {
+            LogRefusal::CutShort => "cut short",
+            LogRefusal::UnknownKind => "unknown kind",
+            LogRefusal::WrongLength => "wrong length",
+            LogRefusal::DoesNotFit => "does not fit",
+        })
+    }
+}
+
+// ---- A record as it was read: its row, and the place after it.
 #[derive(Clone, Copy)]
 pub struct Taken {
-    pub found: Found,
     pub row: [u64; ROW_NUMBERS],
     pub next: usize,
-}
-
-// ---- What writing gives: the place after the record, or why there is none.
-#[derive(Clone, Copy)]
-pub enum Written {
-    Past(usize),
-    Refused(LogRefusal),
 }
 
 // ---- A log and a place in it.
@@ -101,30 +114,17 @@ pub struct Reader<'a> {
     pub at: usize,
 }
 
-pub fn log_refusal_number(refusal: LogRefusal) -> u64
-    ensures { result ≡ log_refusal_number refusal }
-{
-    match refusal {
-        LogRefusal::CutShort => 20,
-        LogRefusal::UnknownKind => 21,
-        LogRefusal::WrongLength => 22,
-        LogRefusal::DoesNotFit => 23,
-    }
-}
-
 // ---- Kinds, for reader and writer.
 
-fn is_kind(kind: u64) -> bool
-    ensures { result ≡ is_kind kind }
+// How many bytes the body of a kind has; what is no kind has none.
+fn body_length(kind: u64) -> Option<usize>
+    ensures length { result ≡ body_of kind }
+    ensures most { IfSome result (λ body. body ≤ FIELD_BYTES * FIELDS) }
 {
-    (0 < kind) & (kind <= KINDS)
-}
-
-fn body_length(kind: u64) -> usize
-    requires { is_kind kind ≡ true }
-    ensures { (result ≡ body_length kind) × (result ≤ FIELD_BYTES * FIELDS) }
-{
-    BODIES[(kind - 1) as usize]
+    if (0 < kind) & (kind <= KINDS) {
+        return Some(BODIES[(kind - 1) as usize]);
+    }
+    None
 }
 
 fn writes_value(kind: u64) -> bool
@@ -137,10 +137,10 @@ fn writes_value(kind: u64) -> bool
 pub fn argument_count(kind: u64) -> usize
     ensures { (result ≡ argument_count kind) × (result ≤ FIELDS) }
 {
-    if !is_kind(kind) {
+    let Some(body) = body_length(kind) else {
         return 0;
-    }
-    let fields = body_length(kind) / FIELD_BYTES;
+    };
+    let fields = body / FIELD_BYTES;
     if writes_value(kind) {
         return fields - 1;
     }
@@ -149,102 +149,85 @@ pub fn argument_count(kind: u64) -> usize
 
 // ---- Reading.
 
-fn no_record(why: Found, at: usize) -> Taken
-    ensures { result ≡ no_record why at }
+// The fields of the record at a place, which has `count` of them, and 0 behind them.
+fn fields_at(log: &[u8], at: usize, count: usize) -> [u64; FIELDS]
+    requires { at + HEAD_BYTES + FIELD_BYTES * count ≤ length log.now }
+    ensures { result ≡ fields_at log.now at count }
 {
-    Taken {
-        found: why,
-        row: [0; ROW_NUMBERS],
-        next: at,
-    }
+    array::from_fn(|i| {
+        if i < count {
+            records::read::<FIELD_BYTES>(log, at + HEAD_BYTES + FIELD_BYTES * i)
+        } else {
+            0
+        }
+    })
 }
 
-// Field i of the record at a place, which has `fields` of them.
-fn field_at(log: &[u8], at: usize, fields: usize, i: usize) -> u64
-    requires { at + HEAD_BYTES + FIELD_BYTES * fields ≤ length log.now }
-    ensures { (result ≡ field_at log.now at fields i) × (result < FIELD) }
+fn row_of(kind: u64, fields: [u64; FIELDS]) -> [u64; ROW_NUMBERS]
+    requires { (slice_index fields 3 < FIELD) × (slice_index fields 4 < FIELD) }
+    ensures { result ≡ row_of kind fields }
 {
-    if i < fields {
-        return records::four(log, at + HEAD_BYTES + FIELD_BYTES * i);
-    }
-    0
-}
-
-fn row_of(kind: u64, a: u64, b: u64, c: u64, d: u64, e: u64) -> [u64; ROW_NUMBERS]
-    requires { (d < FIELD) × (e < FIELD) }
-    ensures { result ≡ row_of kind a b c d e }
-{
+    let [a, b, c, d, e] = fields;
     if writes_value(kind) {
         return [kind, a, b, c, d + FIELD * e, 0, 0, 0];
     }
     [kind, a, b, c, d, e, 0, 0]
 }
 
-// What stands at a place of the log.
-pub fn record_at(log: &[u8], at: usize) -> Taken
+// What stands at a place of the log: a record, or nothing where the log has ended.
+#[tactic(auto, unfolding(crate::specs::Log::record_at))]
+pub fn record_at(log: &[u8], at: usize) -> Result<Option<Taken>, LogRefusal>
     ensures { result ≡ record_at log.now at }
 {
     if log.len() <= at {
-        return no_record(Found::End, at);
+        return Ok(None);
     }
     let left = log.len() - at;
     if left < HEAD_BYTES {
-        return no_record(Found::Refused(LogRefusal::CutShort), at);
+        return Err(LogRefusal::CutShort);
     }
-    let length = records::two(log, at) as usize;
+    let length = records::read::<LENGTH_BYTES>(log, at) as usize;
     if left - LENGTH_BYTES < length {
-        return no_record(Found::Refused(LogRefusal::CutShort), at);
+        return Err(LogRefusal::CutShort);
     }
-    let kind = records::two(log, at + LENGTH_BYTES);
-    if !is_kind(kind) {
-        return no_record(Found::Refused(LogRefusal::UnknownKind), at);
-    }
-    let body = body_length(kind);
+    let kind = records::read::<KIND_BYTES>(log, at + LENGTH_BYTES);
+    let body = body_length(kind).ok_or(LogRefusal::UnknownKind)?;
     if length != KIND_BYTES + body {
-        return no_record(Found::Refused(LogRefusal::WrongLength), at);
+        return Err(LogRefusal::WrongLength);
     }
-    let fields = body / FIELD_BYTES;
-    let a = field_at(log, at, fields, 0);
-    let b = field_at(log, at, fields, 1);
-    let c = field_at(log, at, fields, 2);
-    let d = field_at(log, at, fields, 3);
-    let e = field_at(log, at, fields, 4);
-    Taken {
-        found: Found::Record,
-        row: row_of(kind, a, b, c, d, e),
+    let fields = fields_at(log, at, body / FIELD_BYTES);
+    Ok(Some(Taken {
+        row: row_of(kind, fields),
         next: at + HEAD_BYTES + body,
+    }))
+}
+
+// ---- A reader, whose methods are thin over `record_at`.
+
+impl<'a> Reader<'a> {
+    pub fn new(log: &'a [u8], at: usize) -> Reader<'a>
+        ensures { (result.log ≡ log.entry) × (result.at ≡ at) }
+    {
+        Reader { log, at }
     }
-}
 
-// ---- A reader: thin functions, each of which takes it apart and calls `record_at`.
+    // Looks at the record at the reader's place.
+    pub fn read(&self) -> Result<Option<Taken>, LogRefusal>
+        ensures { result ≡ record_at self.now.log.now self.now.at }
+    {
+        record_at(self.log, self.at)
+    }
 
-pub fn placed<'a>(log: &'a [u8], at: usize) -> Reader<'a>
-    ensures { (result.log ≡ log.entry) × (result.at ≡ at) }
-{
-    Reader { log, at }
-}
-
-// Looks at the record at the reader's place.
-pub fn read<'a>(r: Reader<'a>) -> Taken
-    ensures { result ≡ record_at r.entry.log.now r.entry.at }
-{
-    record_at(r.log, r.at)
-}
-
-// Reads the record at the reader's place and moves past it; where there is none it stays.
-pub fn next<'s, 'a>(r: &'s mut Reader<'a>) -> Taken
-    ensures { (result ≡ record_at r.old.log.now r.old.at) × (r.new.log ≡ r.old.log) × (r.new.at ≡ result.next) }
-{
-    let taken = record_at(r.log, r.at);
-    r.at = taken.next;
-    taken
-}
-
-// The same as `read` with plain parameters, so that whoever calls it has nothing of a reader.
-pub fn read_at(log: &[u8], at: usize) -> Taken
-    ensures { result ≡ record_at log.now at }
-{
-    read(placed(log, at))
+    // Reads the record at the reader's place and moves past it; where there is none it stays.
+    pub fn next(&mut self) -> Result<Option<Taken>, LogRefusal>
+        ensures { (result ≡ record_at self.old.log.now self.old.at) × (self.new.log ≡ self.old.log) × (self.new.at ≡ place_after result self.old.at) }
+    {
+        let found = record_at(self.log, self.at);
+        if let Ok(Some(taken)) = found {
+            self.at = taken.next;
+        }
+        found
+    }
 }
 
 // ---- Writing.
@@ -259,55 +242,43 @@ fn fields_of(row: [u64; ROW_NUMBERS]) -> [u64; FIELDS]
     [row[1], row[2], row[3], row[4], row[5]]
 }
 
-// Whether four bytes can hold each of the first `count` fields.
-fn fit(fields: [u64; FIELDS], count: usize) -> bool
-    requires { count ≤ FIELDS }
-    ensures { result ≡ fit_from fields 0 count }
+// Whether four bytes can hold each of the fields.
+fn fit(fields: &[u64]) -> bool
+    ensures { result ≡ list_all (λ field. nat_lt field FIELD) fields.now }
 {
-    let mut i = 0;
-    while i < count {
-        if FIELD <= fields[i] {
-            return false;
-        }
-        i += 1;
-    }
-    true
+    fields.iter().all(|field| *field < FIELD)
 }
 
-// The first `count` fields, one behind the other from a place on.
-fn put_fields(log: &mut [u8], at: usize, fields: [u64; FIELDS], count: usize)
-    requires { (count ≤ FIELDS) × (at + FIELD_BYTES * count ≤ length log.old) }
-    ensures { log.new ≡ write_at log.old at (body_from fields 0 count) }
+// The fields, one behind the other from a place on.
+fn put_fields(log: &mut [u8], at: usize, fields: &[u64])
+    requires { at + FIELD_BYTES * length fields.now ≤ length log.old }
+    ensures { log.new ≡ write_at log.old at (flat_map (bytes_of FIELD_BYTES) fields.now) }
 {
-    let mut i = 0;
-    while i < count {
-        records::put_four(log, at + FIELD_BYTES * i, fields[i]);
-        i += 1;
+    for (i, field) in fields.iter().enumerate() {
+        records::put::<FIELD_BYTES>(log, at + FIELD_BYTES * i, *field);
     }
 }
 
-// The row's record at a place of the buffer. Refused, it leaves the buffer.
-pub fn write(row: [u64; ROW_NUMBERS], log: &mut [u8], at: usize) -> Written
+// The row's record at a place of the buffer, and the place after it. Refused, it leaves the buffer.
+#[tactic(auto, unfolding(crate::specs::Log::written_at, crate::specs::Log::written))]
+pub fn write(row: [u64; ROW_NUMBERS], log: &mut [u8], at: usize) -> Result<usize, LogRefusal>
     ensures { (result ≡ written_at row (length log.old) at) × (log.new ≡ written row log.old at) }
 {
     let kind = row[0];
-    if !is_kind(kind) {
-        return Written::Refused(LogRefusal::UnknownKind);
-    }
-    let body = body_length(kind);
-    let count = body / FIELD_BYTES;
-    let fields = fields_of(row);
-    if !fit(fields, count) {
-        return Written::Refused(LogRefusal::DoesNotFit);
+    let body = body_length(kind).ok_or(LogRefusal::UnknownKind)?;
+    let all = fields_of(row);
+    let fields = &all[..body / FIELD_BYTES];
+    if !fit(fields) {
+        return Err(LogRefusal::DoesNotFit);
     }
     if log.len() < at {
-        return Written::Refused(LogRefusal::DoesNotFit);
+        return Err(LogRefusal::DoesNotFit);
     }
     if log.len() - at < HEAD_BYTES + body {
-        return Written::Refused(LogRefusal::DoesNotFit);
+        return Err(LogRefusal::DoesNotFit);
     }
-    records::put_two(log, at, (KIND_BYTES + body) as u64);
-    records::put_two(log, at + LENGTH_BYTES, kind);
-    put_fields(log, at + HEAD_BYTES, fields, count);
-    Written::Past(at + HEAD_BYTES + body)
+    records::put::<LENGTH_BYTES>(log, at, (KIND_BYTES + body) as u64);
+    records::put::<KIND_BYTES>(log, at + LENGTH_BYTES, kind);
+    put_fields(log, at + HEAD_BYTES, fields);
+    Ok(at + HEAD_BYTES + body)
 }

@@ -1,5 +1,5 @@
 -- Laws of the page sets: what adding and removing a page changes, when a page is free, and what the free count and the lowest free page say.
-use Rattle.std.specs.Prelude.{ℕ, zero, suc, ◌+◌, ◌*◌, ◌/◌, ◌%◌, ◌≤◌, ◌<◌, Bool, true, false, List, ◌≡◌, refl, eqb, length}
+use Rattle.std.specs.Prelude.{ℕ, zero, suc, ◌+◌, ◌*◌, ◌/◌, ◌%◌, ◌≤◌, ◌<◌, Bool, true, false, List, ◌≡◌, refl, eqb, length, Some, None}
 use Rattle.std.proofs.Common.{true≢false, ⊎_elim, sym, ◌∙◌, arith, add-one, below_more, eq-eqb, ne_eqb, eqb-true}
 use Rattle.std.proofs.Math.Bool.{and-true, and-false}
 use Rattle.std.proofs.lemmas.Bool.{eqb-false}
@@ -7,7 +7,6 @@ use Rattle.numbers.specs.CaseLaws.{cases, equal}
 use Rattle.numbers.specs.Decides.{Decides}
 use Rattle.numbers.specs.DecidesLaws.{decides_itself, decides_and, decides_not, same_answer}
 use Rattle.numbers.specs.Limits.{PAGES, SET_WORDS, VMS}
-use Rattle.numbers.specs.declared.Lowest.TheVariants.{Page, Nothing}
 use Rattle.numbers.specs.declared.PhysPage.{PhysPage}
 use Rattle.table.specs.Scan.{count_below, lowest}
 use Rattle.table.specs.ScanLaws.{lowest_within, lowest_found, lowest_none, some_below}
@@ -139,20 +138,20 @@ pub record LowestFree (sets : List ℕ) (n page : ℕ) : Type 0 where
   pub lower : (k : ℕ) → k < page → is_free sets k ≡ false
 
 -- the answer for where a search ends
-pub lowest_page : (n stop : ℕ) → stop < n → Page (record { 0 = stop }) ≡ lowest_of n stop
+pub lowest_page : (n stop : ℕ) → stop < n → Some (record { 0 = stop }) ≡ lowest_of n stop
 lowest_page n stop h = rw (ne_eqb stop n (omega arith))
 
-pub lowest_nothing : (n : ℕ) → Nothing ≡ lowest_of n n
+pub lowest_nothing : (n : ℕ) → None ≡ lowest_of n n
 lowest_nothing n = rw (eq-eqb n n refl)
 
 -- a page is not nothing
-pub page_nothing : (page : PhysPage) → Page page ≡ Nothing → ⊥
+pub page_nothing : (page : PhysPage) → Some page ≡ None → ⊥
 page_nothing page e = let z : ◌≡◌ {A = ℕ} 0 1 = cc in omega arith
 
-at_end : (n stop : ℕ) → lowest_of n stop ≡ Nothing → stop ≡ n
+at_end : (n stop : ℕ) → lowest_of n stop ≡ None → stop ≡ n
 at_end n stop e = ⊎_elim (λ t. eqb-true stop n t) (λ f. absurd (page_nothing _ (rw f at e))) (cases (eqb stop n))
 
-at_page : (n stop : ℕ) (page : PhysPage) → lowest_of n stop ≡ Page page → (stop ≡ page.0) × (stop ≡ n → ⊥)
+at_page : (n stop : ℕ) (page : PhysPage) → lowest_of n stop ≡ Some page → (stop ≡ page.0) × (stop ≡ n → ⊥)
 at_page n stop page e =
     ⊎_elim
     (λ t. absurd (page_nothing page (sym (rw t at e))))
@@ -174,17 +173,17 @@ module _ (sets : List ℕ) (n : ℕ) where
   free_count-le = count_le (is_free sets) n
 
   -- it is 0 exactly where there is no lowest
-  pub free_count-zero : lowest_free sets n ≡ Nothing → free_count sets n ≡ 0
+  pub free_count-zero : lowest_free sets n ≡ None → free_count sets n ≡ 0
   unfolding free_count lowest_free
   free_count-zero e =
       let z = at_end n (lowest (is_free sets) n) e in
       count_zero (is_free sets) n (lowest_none (is_free sets) n (omega arith))
 
-  pub lowest_free-nothing : free_count sets n ≡ 0 → lowest_free sets n ≡ Nothing
+  pub lowest_free-nothing : free_count sets n ≡ 0 → lowest_free sets n ≡ None
   unfolding free_count lowest_free
   lowest_free-nothing e = rw (none_lowest (is_free sets) n e) (sym (lowest_nothing n))
 
-  pub lowest_free-page : (page : PhysPage) → lowest_free sets n ≡ Page page → LowestFree sets n page.0
+  pub lowest_free-page : (page : PhysPage) → lowest_free sets n ≡ Some page → LowestFree sets n page.0
   unfolding lowest_free
   lowest_free-page page e =
       let (same, short) = at_page n (lowest (is_free sets) n) page e in

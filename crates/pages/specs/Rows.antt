@@ -1,10 +1,9 @@
 -- The page sets, one row of SET_WORDS words each (docs/MACHINE.md, 3): the pool, the shared span, and for each VM its
 -- CPU pages and its DMA pages.
-use Rattle.std.specs.Prelude.{ℕ, ◌+◌, ◌*◌, Bool, not, ◌&&◌, List, eqb}
+use Rattle.std.specs.Prelude.{ℕ, ◌+◌, ◌*◌, Bool, not, ◌&&◌, List, eqb, Option, Some, None}
 use Rattle.std.specs.Prelude.{if◌then◌else◌}
 use Rattle.numbers.specs.Limits.{PAGES, VMS}
-use Rattle.numbers.specs.declared.Lowest.{Lowest}
-use Rattle.numbers.specs.declared.Lowest.TheVariants.{Page, Nothing}
+use Rattle.numbers.specs.declared.PhysPage.{PhysPage}
 use Rattle.table.specs.Scan.{any_below, count_below, lowest}
 use Rattle.pages.specs.Bits.{contains, insert, delete}
 
@@ -45,8 +44,8 @@ unfoldable pub free_count : List ℕ → ℕ → ℕ
 free_count sets n = count_below (is_free sets) n
 
 -- the lowest, where a search that ends at n found nothing
-abbrev pub lowest_of : ℕ → ℕ → Lowest
-lowest_of n at = if eqb at n then Nothing else Page (record { 0 = at })
+abbrev pub lowest_of : ℕ → ℕ → Option PhysPage
+lowest_of n at = if eqb at n then None else Some (record { 0 = at })
 
-unfoldable pub lowest_free : List ℕ → ℕ → Lowest
+unfoldable pub lowest_free : List ℕ → ℕ → Option PhysPage
 lowest_free sets n = lowest_of n (lowest (is_free sets) n)

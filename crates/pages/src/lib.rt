@@ -10,7 +10,7 @@ ghost use Rattle.pages.specs.Columns.{column_word};
 ghost use Rattle.pages.specs.Pour.{pour, emptied};
 ghost use Rattle.pages.specs.Rows.{cpu_row, dma_row, holds, add, remove, held_for_dma, is_free, free_count, lowest_free};
 
-use numbers::{Lowest, PhysPage, SET_WORDS, VMS, VmId};
+use numbers::{PhysPage, SET_WORDS, VMS, VmId};
 
 // ---- Rows: the pool, the shared span, then two for each VM.
 pub const POOL: u64 = 0;
@@ -95,12 +95,10 @@ pub fn holds_any(sets: &[u64], row: u64) -> bool
     ensures { result ≡ any_below (λ page. holds sets.now row page) PAGES }
 {
     let from = word_of(row, PhysPage(0));
-    let mut k = 0;
-    while k < SET_WORDS {
+    for k in 0..SET_WORDS {
         if sets[from + k] != 0 {
             return true;
         }
-        k += 1;
     }
     false
 }
@@ -123,11 +121,9 @@ pub fn pour(sets: &mut [u64], from: u64, to: u64)
 {
     let source = word_of(from, PhysPage(0));
     let target = word_of(to, PhysPage(0));
-    let mut k = 0;
-    while k < SET_WORDS {
+    for k in 0..SET_WORDS {
         sets[target + k] = sets[target + k] | sets[source + k];
         sets[source + k] = 0;
-        k += 1;
     }
 }
 
@@ -137,10 +133,8 @@ pub fn empty(sets: &mut [u64], row: u64)
     ensures { sets.new ≡ emptied sets.old row }
 {
     let start = word_of(row, PhysPage(0));
-    let mut k = 0;
-    while k < SET_WORDS {
+    for k in 0..SET_WORDS {
         sets[start + k] = 0;
-        k += 1;
     }
 }
 
@@ -151,12 +145,10 @@ fn held_for_dma(sets: &[u64], page: PhysPage) -> bool
     requires { (page.0 < PAGES) × (SETS * SET_WORDS ≤ length sets.now) }
     ensures { result ≡ held_for_dma sets.now page.0 }
 {
-    let mut vm = 0;
-    while vm < VMS {
+    for vm in 0..VMS {
         if holds(sets, dma_row(VmId(vm)), page) {
             return true;
         }
-        vm += 1;
     }
     false
 }
@@ -173,26 +165,22 @@ pub fn free_count(sets: &[u64], pages: u64) -> u64
     ensures { result ≡ free_count sets.now pages }
 {
     let mut count: u64 = 0;
-    let mut page: u64 = 0;
-    while page < pages {
+    for page in 0..pages {
         if is_free(sets, PhysPage(page)) {
             count += 1;
         }
-        page += 1;
     }
     count
 }
 
-pub fn lowest_free(sets: &[u64], pages: u64) -> Lowest
+pub fn lowest_free(sets: &[u64], pages: u64) -> Option<PhysPage>
     requires { (pages ≤ PAGES) × (SETS * SET_WORDS ≤ length sets.now) }
     ensures { result ≡ lowest_free sets.now pages }
 {
-    let mut lowest: u64 = 0;
-    while lowest < pages {
+    for lowest in 0..pages {
         if is_free(sets, PhysPage(lowest)) {
-            return Lowest::Page(PhysPage(lowest));
+            return Some(PhysPage(lowest));
         }
-        lowest += 1;
     }
-    Lowest::Nothing
+    None
 }

@@ -1,253 +1,130 @@
 // Reads a box script from its reader, in pieces, and has it answered line by line (docs/MACHINE.md, 11).
 #![tactic(auto)]
 
-ghost use Rattle.batch.specs.Room.{Orderly};
-
-use batch::carry::{pause, query, settle};
-use batch::{CACHE_WORDS, End, MEMORY_WORDS, ROWS_ROOM, SETS_WORDS, UNITS_ROOM, Work};
-use numbers::{ENTRIES, PAIRS};
+use batch::{End, MEMORY_WORDS, Work};
 use script::{Line, Reader};
 use std::io::{Read, Write};
 
-pub const LF: u8 = 10;
 // The most bytes of a piece of the script.
-pub const PIECE: usize = 65536;
+const PIECE: usize = 65536;
 // A bad line is given up when so many bytes have followed its first bad one without a line end.
 const BAD_BYTES: usize = 65536;
 
-// One line of the script, after what must be answered before it.
-fn line<W: Write>(
-    to: &mut W,
-    work: Work,
-    said: Line,
-    units: &mut [u64; UNITS_ROOM],
-    sets: &mut [u64; SETS_WORDS],
-    pairs: &mut [u64; PAIRS],
-    cpu_map: &mut [u64; ENTRIES],
-    cpu_walker: &mut [u64; ENTRIES],
-    cpu_cache: &mut [u64; CACHE_WORDS],
-    dma_map: &mut [u64; ENTRIES],
-    dma_walker: &mut [u64; ENTRIES],
-    dma_cache: &mut [u64; CACHE_WORDS],
-    memory: &mut [u64; MEMORY_WORDS],
-    rows: &mut [u64; ROWS_ROOM],
-) -> Work
-    requires { Orderly work.units work.rows }
-    ensures { Orderly result.units result.rows }
-{
-    let counted = batch::counted(work);
-    let placed = lines::in_place(counted, said);
-    let ready = settle(
-        to,
-        counted,
-        lines::asks(placed),
-        units,
-        sets,
-        pairs,
-        cpu_map,
-        cpu_walker,
-        cpu_cache,
-        dma_map,
-        dma_walker,
-        dma_cache,
-        memory,
-        rows,
-    );
-    if batch::has_ended(ready) {
-        return ready;
-    }
-    if let Line::Free = placed {
-        return query(
-            to, ready, sets, pairs, cpu_map, cpu_walker, cpu_cache, dma_map, dma_walker, dma_cache,
-            memory,
-        );
-    }
-    lines::take(to, ready, placed, units, rows)
+// ---- The reading, whatever is done with the lines.
+
+// What is done with the lines of a script, one after the other.
+pub trait Script {
+    fn line(&mut self, said: Line) -> Result<(), End>;
+
+    // After a piece of the script: whoever told it may wait.
+    fn pause(&mut self) -> Result<(), End>;
 }
 
-// Where the reading has come to: the box, the line under way, and how many of its bytes came since it was bad, the first bad
-// one among them.
+// The line under way, and how many of its bytes came since it was bad, the first bad one among them.
 #[derive(Clone, Copy)]
-pub struct Place {
-    pub work: Work,
-    pub reader: Reader,
-    pub bad: usize,
+struct Under {
+    reader: Reader,
+    bad: usize,
 }
 
-// The count of bad bytes after one more of the line.
-pub fn bad_after(bad: usize, reader: Reader) -> usize {
-    if !script::is_bad(reader) {
-        return 0;
-    }
-    if bad > BAD_BYTES {
-        return bad;
-    }
-    bad + 1
-}
-
-// Whether the line ends with the byte, or is given up at it.
-pub fn ends(byte: u8, bad: usize) -> bool {
-    if byte == LF {
-        return true;
-    }
-    bad > BAD_BYTES
-}
-
-// One piece of the script, byte by byte. A line that was given up ends the reading, so that what is left of it counts as none.
-fn piece<W: Write>(
-    to: &mut W,
-    place: Place,
-    bytes: &[u8],
-    units: &mut [u64; UNITS_ROOM],
-    sets: &mut [u64; SETS_WORDS],
-    pairs: &mut [u64; PAIRS],
-    cpu_map: &mut [u64; ENTRIES],
-    cpu_walker: &mut [u64; ENTRIES],
-    cpu_cache: &mut [u64; CACHE_WORDS],
-    dma_map: &mut [u64; ENTRIES],
-    dma_walker: &mut [u64; ENTRIES],
-    dma_cache: &mut [u64; CACHE_WORDS],
-    memory: &mut [u64; MEMORY_WORDS],
-    rows: &mut [u64; ROWS_ROOM],
-) -> Place
-    requires { Orderly place.work.units place.work.rows }
-    ensures { Orderly result.work.units result.work.rows }
-{
-    let mut work = place.work;
-    let mut reader = place.reader;
-    let mut bad = place.bad;
-    let mut i = 0;
-    while i < bytes.len() {
-        let byte = bytes[i];
-        i += 1;
-        if byte != LF {
-            reader = script::feed(reader, byte);
-            bad = bad_after(bad, reader);
-        }
-        if ends(byte, bad) {
-            let said = script::line_end(reader);
-            work = line(
-                to, work, said, units, sets, pairs, cpu_map, cpu_walker, cpu_cache, dma_map,
-                dma_walker, dma_cache, memory, rows,
-            );
-            reader = script::line_start();
-            bad = 0;
+impl Under {
+    // At the start of a line.
+    fn new() -> Under {
+        Under {
+            reader: script::line_start(),
+            bad: 0,
         }
     }
-    Place { work, reader, bad }
-}
 
-// The last line, with or without a line end, and all that still waits.
-pub fn finish<W: Write>(
-    to: &mut W,
-    place: Place,
-    units: &mut [u64; UNITS_ROOM],
-    sets: &mut [u64; SETS_WORDS],
-    pairs: &mut [u64; PAIRS],
-    cpu_map: &mut [u64; ENTRIES],
-    cpu_walker: &mut [u64; ENTRIES],
-    cpu_cache: &mut [u64; CACHE_WORDS],
-    dma_map: &mut [u64; ENTRIES],
-    dma_walker: &mut [u64; ENTRIES],
-    dma_cache: &mut [u64; CACHE_WORDS],
-    memory: &mut [u64; MEMORY_WORDS],
-    rows: &mut [u64; ROWS_ROOM],
-) -> Work
-    requires { Orderly place.work.units place.work.rows }
-{
-    let work = place.work;
-    let reader = place.reader;
-    let said = script::line_end(reader);
-    let last = line(
-        to, work, said, units, sets, pairs, cpu_map, cpu_walker, cpu_cache, dma_map, dma_walker,
-        dma_cache, memory, rows,
-    );
-    settle(
-        to, last, true, units, sets, pairs, cpu_map, cpu_walker, cpu_cache, dma_map, dma_walker,
-        dma_cache, memory, rows,
-    )
-}
+    // The line with one byte more, other than the LF that ends it.
+    fn feed(&mut self, byte: u8) {
+        self.reader = script::feed(self.reader, byte);
+        self.bad = if script::is_bad(self.reader) {
+            self.bad.saturating_add(1)
+        } else {
+            0
+        };
+    }
 
-// The place where nothing more could be read.
-fn unread(place: Place) -> Place
-    requires { Orderly place.work.units place.work.rows }
-    ensures { Orderly result.work.units result.work.rows }
-{
-    let reader = place.reader;
-    let told = place.work;
-    let work = batch::ended(told, End::CannotRead);
-    Place {
-        work,
-        reader,
-        bad: place.bad,
+    // What the line says where it ends with the byte, or is given up at it.
+    fn take(&mut self, byte: u8) -> Option<Line> {
+        if byte != b'\n' {
+            self.feed(byte);
+            if self.bad <= BAD_BYTES {
+                return None;
+            }
+        }
+        let said = script::line_end(self.reader);
+        *self = Under::new();
+        Some(said)
     }
 }
 
-// Piece by piece, until the input ends or nothing more counts. A loop has to end and nothing says that the input does, so
-// this one counts its turns down from a number that no run uses up.
+// One piece of the script, byte by byte.
+fn piece<S: Script>(script: &mut S, under: &mut Under, bytes: &[u8]) -> Result<(), End> {
+    for &byte in bytes {
+        if let Some(said) = under.take(byte) {
+            script.line(said)?;
+        }
+    }
+    script.pause()
+}
+
+// Piece by piece, until the input ends, and then the last line, with or without a line end. A loop has to end and nothing says
+// that the input does, so this one has a number of turns that no run uses up.
+pub fn read_script<R: Read, S: Script>(from: &mut R, script: &mut S) -> Result<(), End> {
+    let mut under = Under::new();
+    let mut bytes = [0; PIECE];
+    for _ in 0..u64::MAX {
+        let count = from.read(&mut bytes).map_err(|_| End::CannotRead)?;
+        if count == 0 {
+            break;
+        }
+        piece(script, &mut under, &bytes[..count])?;
+    }
+    script.line(script::line_end(under.reader))
+}
+
+// ---- A box that a script tells.
+#[derive(Drop)]
+struct Runner<'t, 'w, 'm, W> {
+    to: &'t mut W,
+    work: &'w mut Work,
+    memory: &'m mut [u64; MEMORY_WORDS],
+}
+
+impl<'t, 'w, 'm, W: Write> Script for Runner<'t, 'w, 'm, W> {
+    // One line of the script, after what must be answered before it, or where no further row has room.
+    fn line(&mut self, said: Line) -> Result<(), End> {
+        // No script has as many lines as would make the count wrap.
+        self.work.line = self.work.line.wrapping_add(1);
+        let placed = lines::in_place(self.work.phase, !self.work.rows.is_empty(), said);
+        if lines::asks(placed) || self.work.rows.is_full() {
+            self.work.settle(self.to, self.memory)?;
+        }
+        if let Line::Free = placed {
+            self.work.query(self.to, self.memory)?;
+        }
+        lines::take(self.to, self.work, placed)
+    }
+
+    // Rows that wait are carried out and written: whoever told them may wait for their answers. A box without rows goes on
+    // waiting, since units may follow.
+    fn pause(&mut self) -> Result<(), End> {
+        if self.work.rows.is_empty() {
+            return Ok(());
+        }
+        self.work.settle(self.to, self.memory)
+    }
+}
+
+// The whole script, and all that still waits at its end.
 pub fn run<R: Read, W: Write>(
     from: &mut R,
     to: &mut W,
-    units: &mut [u64; UNITS_ROOM],
-    sets: &mut [u64; SETS_WORDS],
-    pairs: &mut [u64; PAIRS],
-    cpu_map: &mut [u64; ENTRIES],
-    cpu_walker: &mut [u64; ENTRIES],
-    cpu_cache: &mut [u64; CACHE_WORDS],
-    dma_map: &mut [u64; ENTRIES],
-    dma_walker: &mut [u64; ENTRIES],
-    dma_cache: &mut [u64; CACHE_WORDS],
+    work: &mut Work,
     memory: &mut [u64; MEMORY_WORDS],
-    rows: &mut [u64; ROWS_ROOM],
-) -> Place
-    ensures { Orderly result.work.units result.work.rows }
-{
-    let work = batch::no_work();
-    let mut place = Place {
-        work,
-        reader: script::line_start(),
-        bad: 0,
-    };
-    let mut bytes = [0u8; PIECE];
-    let mut turns = u64::MAX;
-    while turns > 0 {
-        let Ok(count) = from.read(&mut bytes) else {
-            return unread(place);
-        };
-        if count == 0 {
-            return place;
-        }
-        let told = piece(
-            to,
-            place,
-            &bytes[..count],
-            units,
-            sets,
-            pairs,
-            cpu_map,
-            cpu_walker,
-            cpu_cache,
-            dma_map,
-            dma_walker,
-            dma_cache,
-            memory,
-            rows,
-        );
-        let waits = told.work;
-        let reader = told.reader;
-        let work = pause(
-            to, waits, units, sets, pairs, cpu_map, cpu_walker, cpu_cache, dma_map, dma_walker,
-            dma_cache, memory, rows,
-        );
-        place = Place {
-            work,
-            reader,
-            bad: told.bad,
-        };
-        if batch::has_ended(work) {
-            return place;
-        }
-        turns -= 1;
-    }
-    place
+) -> Result<(), End> {
+    read_script(from, &mut Runner { to, work, memory })?;
+    work.settle(to, memory)
 }

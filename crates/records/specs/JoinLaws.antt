@@ -1,6 +1,6 @@
 -- Numbers in bytes, read, made and written one part behind the other.
 use Rattle.std.specs.Prelude.{ℕ, zero, suc, ◌+◌, ◌*◌, ◌/◌, ◌^◌, List, [], ◌∷◌, ◌++◌, ◌≡◌, refl, length, set}
-use Rattle.std.proofs.Common.{ap, ◌∙◌, zero-add, suc-add, mul_assoc, arith}
+use Rattle.std.proofs.Common.{ap, zero-add, suc-add, mul_assoc, arith}
 use Rattle.std.proofs.Math.Nat.{pow-succ', div-div-eq-div-mul}
 use Rattle.model.specs.Sequence.{write_at}
 use Rattle.records.specs.Little.{BYTE, little, bytes_of}
@@ -26,10 +26,3 @@ pub bytes_join : (n m number : ℕ) → bytes_of n number ++ bytes_of m (number 
 bytes_join zero m number = let z : number / 1 ≡ number = omega arith in rw (z, zero-add m)
 bytes_join (suc n) m number =
     rw (suc-add n m, pow-succ' BYTE n, ← div-div-eq-div-mul number BYTE (BYTE ^ n), bytes_join n m (number / BYTE))
-
--- and written so
-pub put_join : (n m : ℕ) (room half all : List ℕ) (i j number : ℕ) → i + n ≡ j → half ≡ write_at room i (bytes_of n number) →
-    all ≡ write_at half j (bytes_of m (number / BYTE ^ n)) → all ≡ write_at room i (bytes_of (n + m) number)
-put_join n m room half all i j number e first second =
-    let l : i + length (bytes_of n number) ≡ j = rw (length-bytes n number) e in
-    second ∙ rw (first, write_join room i j (bytes_of n number) (bytes_of m (number / BYTE ^ n)) l, bytes_join n m number)

@@ -5,13 +5,6 @@ use Rattle.std.specs.Prelude.{ℕ, zero, suc, ◌+◌, ◌*◌, ◌/◌, ◌%◌
 abbrev pub BYTE : ℕ
 BYTE = 256
 
--- numbers that two bytes can be, and that four can
-abbrev pub TWO : ℕ
-TWO = 65536
-
-abbrev pub FOUR : ℕ
-FOUR = 4294967296
-
 -- the number that n bytes make from a place on
 abbrev pub little : ℕ → List ℕ → ℕ → ℕ
 little zero bytes at = 0
@@ -22,9 +15,6 @@ two bytes at = little 2 bytes at
 
 abbrev pub four : List ℕ → ℕ → ℕ
 four bytes at = little 4 bytes at
-
-abbrev pub eight : List ℕ → ℕ → ℕ
-eight bytes at = little 8 bytes at
 
 -- the n lowest bytes of a number
 abbrev pub bytes_of : ℕ → ℕ → List ℕ

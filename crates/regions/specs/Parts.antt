@@ -1,11 +1,13 @@
 -- The parts of the contracts of insert and remove, by name. `Sized` is what an answer asks of its arguments, `Ready` what a
 -- deed asks, `Done` what it does, `Left` what the operation leaves: its answer, and each list new or as it was.
-use Rattle.std.specs.Prelude.{ℕ, ◌+◌, ◌*◌, ◌≤◌, ◌<◌, List, ◌≡◌, length}
+use Rattle.std.specs.Prelude.{ℕ, ◌+◌, ◌*◌, ◌≤◌, ◌<◌, Bool, List, [], ◌≡◌, length, Option, Some, None, ltb}
+use Rattle.std.specs.Prelude.{if◌then◌else◌}
 use Rattle.numbers.specs.Limits.{VMS, ACCESSES, GUEST_PAGES, PAGES, SETS, SET_WORDS, PAGE_WORDS}
-use Rattle.numbers.specs.declared.Answer.{Answer}
+use Rattle.numbers.specs.Meaning.{Answer}
 use Rattle.numbers.specs.declared.Region.{Region}
 use Rattle.numbers.specs.declared.Side.{Side}
-use Rattle.table.specs.Scan.{count}
+use Rattle.numbers.specs.declared.Side.TheVariants.{Cpu, Dma}
+use Rattle.table.specs.Scan.{count, lowest}
 use Rattle.model.specs.Effect.{kept, apply, clears, cleared_pages, quiet}
 use Rattle.model.specs.Regions.{insert_sets, insert_table, in_region, remove_sets, remove_table, remove_clears}
 
@@ -21,6 +23,16 @@ pub record Placed (region : Region) : Type 0 where
 pub record Sized (pages : ℕ) (sets : List ℕ) : Type 0 where
   pub few_pages : pages ≤ PAGES
   pub sets_length : length sets ≡ SETS * SET_WORDS
+
+-- ---- what the searches give
+-- the lowest number below n that fails a check, none where all pass
+abbrev pub lowest_failing : (ℕ → Bool) → ℕ → Option ℕ
+lowest_failing fails n = if ltb (lowest fails n) n then Some (lowest fails n) else None
+
+-- the pairs whose edges hold a page back: for DMA none do
+abbrev pub binding : Side → List ℕ → List ℕ
+binding Cpu pairs = pairs
+binding Dma pairs = []
 
 -- ---- insert
 pub record InsertReady (sets : List ℕ) (region : Region) : Type 0 where

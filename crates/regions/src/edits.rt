@@ -3,15 +3,16 @@ ghost use Rattle.std.specs.Prelude.{◌≡◌, ◌+◌, ◌*◌, ◌<◌, ◌≤
 ghost use Rattle.numbers.specs.Limits.{PAGES, VMS, SETS, SET_WORDS, PAGE_WORDS};
 ghost use Rattle.model.specs.Views.{other_side};
 ghost use Rattle.model.specs.Effect.{cleared_pages};
-ghost use Rattle.model.specs.Regions.{insert_page, insert_sets, insert_table, remove_page, remove_sets, remove_clears, in_region};
-ghost use Rattle.regions.specs.Parts.{Placed, Swept};
+ghost use Rattle.model.specs.Regions.{insert_page, insert_sets, insert_table, remove_page, remove_sets, remove_clears};
+ghost use Rattle.regions.specs.Parts.{Swept};
 
-use crate::searches::{entry_in, key_in, page_in};
-use numbers::{PhysPage, Region, Side, VmId};
+use crate::placed::PlacedRegion;
+use numbers::{PhysPage, Side, VmId};
 
 // ---- Insertion.
 
 // One page more for the VM. DMA leaves the pool alone.
+#[tactic(auto, unfolding(model::specs::Ledger::assign_sets))]
 fn take_page(side: Side, sets: &mut [u64], vm: VmId, page: PhysPage)
     requires { (vm.0 < VMS) × (page.0 < PAGES) × (length sets.old ≡ SETS * SET_WORDS) }
     ensures { sets.new ≡ insert_page side vm.0 page.0 sets.old }
@@ -25,31 +26,27 @@ fn take_page(side: Side, sets: &mut [u64], vm: VmId, page: PhysPage)
     }
 }
 
-pub fn take_pages(side: Side, sets: &mut [u64], region: Region)
-    requires { Placed region × (length sets.old ≡ SETS * SET_WORDS) }
-    ensures { sets.new ≡ insert_sets side sets.old region }
+pub fn take_pages(side: Side, sets: &mut [u64], placed: PlacedRegion)
+    requires { length sets.old ≡ SETS * SET_WORDS }
+    ensures { sets.new ≡ insert_sets side sets.old placed.region }
 {
-    let mut k = 0;
-    while k < region.count {
-        take_page(side, sets, region.vm, page_in(region, k));
-        k += 1;
+    for k in 0..placed.region.count {
+        take_page(side, sets, placed.region.vm, placed.page(k));
     }
 }
 
-pub fn install(map: &mut [u64], region: Region)
-    requires { Placed region }
-    ensures { map.new ≡ insert_table map.old region }
+pub fn install(map: &mut [u64], placed: PlacedRegion)
+    ensures { map.new ≡ insert_table map.old placed.region }
 {
-    let mut k = 0;
-    while k < region.count {
-        table::put(map, key_in(region, k), entry_in(region, k));
-        k += 1;
+    for k in 0..placed.region.count {
+        table::put(map, placed.key(k), placed.entry(k));
     }
 }
 
 // ---- Removal.
 
 // One page fewer for the VM. A CPU page goes back to the pool.
+#[tactic(auto, unfolding(model::specs::Ledger::reclaim_sets))]
 fn return_page(side: Side, sets: &mut [u64], vm: VmId, page: PhysPage)
     requires { (vm.0 < VMS) × (page.0 < PAGES) × (length sets.old ≡ SETS * SET_WORDS) }
     ensures { sets.new ≡ remove_page side vm.0 page.0 sets.old }
@@ -63,44 +60,20 @@ fn return_page(side: Side, sets: &mut [u64], vm: VmId, page: PhysPage)
     }
 }
 
-pub fn return_pages(side: Side, sets: &mut [u64], region: Region)
-    requires { Placed region × (length sets.old ≡ SETS * SET_WORDS) }
-    ensures { sets.new ≡ remove_sets side sets.old region }
+pub fn return_pages(side: Side, sets: &mut [u64], placed: PlacedRegion)
+    requires { length sets.old ≡ SETS * SET_WORDS }
+    ensures { sets.new ≡ remove_sets side sets.old placed.region }
 {
-    let mut k = 0;
-    while k < region.count {
-        return_page(side, sets, region.vm, page_in(region, k));
-        k += 1;
+    for k in 0..placed.region.count {
+        return_page(side, sets, placed.region.vm, placed.page(k));
     }
-}
-
-// A filled word of the region's VM whose guest page lies in the region, whatever its port.
-fn in_region(w: u64, region: Region) -> bool
-    requires { Placed region }
-    ensures { result ≡ in_region region w }
-{
-    let guest = numbers::guest_of(w);
-    (numbers::filled_of(w) == 1)
-        & (numbers::vm_of(w).0 == region.vm.0)
-        & (region.guest.0 <= guest.0)
-        & (guest.0 < region.guest.0 + region.count)
 }
 
 // Empties every word of the region, in a map or a cache, and answers how many there were.
-pub fn sweep(words: &mut [u64], region: Region) -> u64
-    requires { Placed region }
-    ensures { Swept words.old region result words.new }
+pub fn sweep(words: &mut [u64], placed: PlacedRegion) -> u64
+    ensures { Swept words.old placed.region result words.new }
 {
-    let mut swept = 0;
-    let mut i = 0;
-    while i < words.len() {
-        if in_region(words[i], region) {
-            words[i] = 0;
-            swept += 1;
-        }
-        i += 1;
-    }
-    swept
+    table::wipe(words, |w| placed.has(w))
 }
 
 fn other_side(side: Side) -> Side
@@ -113,16 +86,15 @@ fn other_side(side: Side) -> Side
 }
 
 // Clears each page on which the VM has no claim left: it goes by the sets as they are before the removal.
-pub fn clear_pages(side: Side, sets: &[u64], memory: &mut [u64], region: Region)
-    requires { Placed region × (length sets.now ≡ SETS * SET_WORDS) × ((region.page.0 + region.count) * PAGE_WORDS ≤ length memory.old) }
-    ensures { memory.new ≡ cleared_pages (remove_clears side sets.now region) memory.old }
+#[tactic(auto, using(crate::specs::RegionLaws::clear_start, crate::specs::RegionLaws::clear_hit, crate::specs::RegionLaws::clear_miss, crate::specs::RegionLaws::clear_end))]
+pub fn clear_pages(side: Side, sets: &[u64], memory: &mut [u64], placed: PlacedRegion)
+    requires { (length sets.now ≡ SETS * SET_WORDS) × ((placed.region.page.0 + placed.region.count) * PAGE_WORDS ≤ length memory.old) }
+    ensures { memory.new ≡ cleared_pages (remove_clears side sets.now placed.region) memory.old }
 {
-    let mut k = 0;
-    while k < region.count {
-        let page = page_in(region, k);
-        if !views::claims(other_side(side), sets, region.vm, page) {
+    for k in 0..placed.region.count {
+        let page = placed.page(k);
+        if !views::claims(other_side(side), sets, placed.region.vm, page) {
             access::clear_page(memory, page);
         }
-        k += 1;
     }
 }

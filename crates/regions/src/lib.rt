@@ -6,9 +6,11 @@ ghost use Rattle.std.specs.Prelude.{◌≡◌};
 ghost use Rattle.model.specs.Regions.{region_early, insert_answer, remove_may, remove_answer};
 ghost use Rattle.regions.specs.Parts.{Sized, InsertReady, InsertDone, InsertLeft, RemoveSized, RemoveReady, RemoveDone, RemoveLeft};
 
+use crate::placed::PlacedRegion;
 use numbers::{ACCESSES, Answer, Refusal, Region, Side, VMS, accept, refuse};
 
 mod edits; // edits.rt: what the deeds change
+mod placed; // placed.rt: a region whose numbers are in range
 mod searches; // searches.rt: the lowest page of a region that fails a check
 
 // Early checks, of numbers alone. Spans are judged by refusal 3 and never by 2.
@@ -30,6 +32,7 @@ pub fn region_early(known: u64, pages: u64, region: Region) -> Answer
 // ---- Operations 11 and 13: insert.
 
 // Whether a region may be inserted; `unit`: whether it is a unit's for this side.
+#[tactic(auto, using(crate::specs::RegionLaws::failing_some, crate::specs::RegionLaws::failing_nothing), unfolding(model::specs::Regions::insert_answer))]
 pub fn insert_answer(
     side: Side,
     known: u64,
@@ -42,23 +45,18 @@ pub fn insert_answer(
     requires { Sized pages sets.now }
     ensures { result ≡ insert_answer side known pages unit sets.now map.now region }
 {
-    let early = region_early(known, pages, region);
-    if let Answer::Refused { refusal, index } = early {
-        return Answer::Refused { refusal, index };
-    }
+    region_early(known, pages, region)?;
     if !unit {
         return refuse(Refusal::NoSuchUnit, 0);
     }
-    let taken = searches::lowest_not_free(side, sets, region);
-    if taken < region.count {
+    let placed = PlacedRegion { region };
+    if let Some(taken) = searches::lowest_not_free(side, sets, placed) {
         return refuse(Refusal::PageNotHeld, taken);
     }
-    let mapped = searches::lowest_present(map, region);
-    if mapped < region.count {
+    if let Some(mapped) = searches::lowest_present(map, placed) {
         return refuse(Refusal::MappingPresent, mapped);
     }
-    let claimed = searches::lowest_claimed(side, sets, region);
-    if claimed < region.count {
+    if let Some(claimed) = searches::lowest_claimed(side, sets, placed) {
         return refuse(Refusal::PageClaimed, claimed);
     }
     if table::free_entries(map) < region.count {
@@ -72,9 +70,10 @@ pub fn insert_do(side: Side, sets: &mut [u64], map: &mut [u64], walker: &mut [u6
     requires { InsertReady sets.old region }
     ensures { InsertDone sets.old map.old walker.old side region sets.new map.new walker.new }
 {
-    edits::take_pages(side, sets, region);
-    edits::install(map, region);
-    edits::install(walker, region);
+    let placed = PlacedRegion { region };
+    edits::take_pages(side, sets, placed);
+    edits::install(map, placed);
+    edits::install(walker, placed);
 }
 
 pub fn insert_region(
@@ -91,17 +90,15 @@ pub fn insert_region(
     ensures { InsertLeft (insert_answer side known pages unit sets.old map.old region)
         sets.old map.old walker.old side region result sets.new map.new walker.new }
 {
-    let answer = insert_answer(side, known, pages, unit, sets, map, region);
-    if let Answer::Refused { refusal, index } = answer {
-        return Answer::Refused { refusal, index };
-    }
+    let accepted = insert_answer(side, known, pages, unit, sets, map, region)?;
     insert_do(side, sets, map, walker, region);
-    answer
+    Ok(accepted)
 }
 
 // ---- Operations 12 and 14: remove.
 
 // Whether a region may be removed.
+#[tactic(auto, using(crate::specs::RegionLaws::failing_some, crate::specs::RegionLaws::failing_nothing), unfolding(model::specs::Regions::remove_may))]
 pub fn remove_may(
     side: Side,
     known: u64,
@@ -115,23 +112,18 @@ pub fn remove_may(
     requires { Sized pages sets.now }
     ensures { result ≡ remove_may side known pages unit sets.now pairs.now map.now region }
 {
-    let early = region_early(known, pages, region);
-    if let Answer::Refused { refusal, index } = early {
-        return Answer::Refused { refusal, index };
-    }
+    region_early(known, pages, region)?;
     if !unit {
         return refuse(Refusal::NoSuchUnit, 0);
     }
-    let missing = searches::lowest_not_held(side, sets, region);
-    if missing < region.count {
+    let placed = PlacedRegion { region };
+    if let Some(missing) = searches::lowest_not_held(side, sets, placed) {
         return refuse(Refusal::PageNotHeld, missing);
     }
-    let other = searches::lowest_differs(map, region);
-    if other < region.count {
+    if let Some(other) = searches::lowest_differs(map, placed) {
         return refuse(Refusal::MappingDiffers, other);
     }
-    let used = searches::lowest_in_use(side, pairs, map, region);
-    if used < region.count {
+    if let Some(used) = searches::lowest_in_use(side, pairs, map, placed) {
         return refuse(Refusal::StillInUse, used);
     }
     accept(0)
@@ -152,13 +144,15 @@ pub fn remove_do(
     ensures { RemoveDone sets.old map.old walker.old cache.old memory.old side region result
         sets.new map.new walker.new cache.new memory.new }
 {
-    edits::clear_pages(side, sets, memory, region);
-    edits::return_pages(side, sets, region);
-    edits::sweep(map, region);
-    edits::sweep(walker, region);
-    edits::sweep(cache, region)
+    let placed = PlacedRegion { region };
+    edits::clear_pages(side, sets, memory, placed);
+    edits::return_pages(side, sets, placed);
+    edits::sweep(map, placed);
+    edits::sweep(walker, placed);
+    edits::sweep(cache, placed)
 }
 
+#[tactic(auto, unfolding(model::specs::Regions::remove_answer, model::specs::Effect::apply, model::specs::Effect::cleared_pages))]
 pub fn remove_region(
     side: Side,
     known: u64,
@@ -177,10 +171,6 @@ pub fn remove_region(
         sets.old map.old walker.old cache.old memory.old side region result
         sets.new map.new walker.new cache.new memory.new }
 {
-    let may = remove_may(side, known, pages, unit, sets, pairs, map, region);
-    if let Answer::Refused { refusal, index } = may {
-        return Answer::Refused { refusal, index };
-    }
-    let dropped = remove_do(side, sets, map, walker, cache, memory, region);
-    accept(dropped)
+    remove_may(side, known, pages, unit, sets, pairs, map, region)?;
+    accept(remove_do(side, sets, map, walker, cache, memory, region))
 }

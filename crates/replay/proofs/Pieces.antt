@@ -4,32 +4,33 @@ use Prim.Native.Nat.{ℕ, zero, suc, ◌+◌, ◌≤◌, ◌<◌}
 use mathlib.Core.List.{List}
 use mathlib.Core.Path.{◌≡◌, refl, sym, ap, ◌∙◌}
 use native.Mathlib.Omega.{arith}
+use Rattle.std.specs.Prelude.{Some, None, Ok, Err}
 use Rattle.model.specs.State.{State}
 use Rattle.model.specs.Valid.{Valid}
 use Rattle.model.specs.Entries.{valid, not_valid}
 use Rattle.model.specs.Sequence.{beginning, step_row}
 use Rattle.model.proofs.Kept.{row_valid}
-use Rattle.operation_log.specs.Log.{record_at}
-use Rattle.operation_log.specs.declared.Found.{Found}
-use Rattle.operation_log.specs.declared.Found.TheVariants.{Record, End, Refused}
+use Rattle.operation_log.specs.Log.{Read, record_at}
 use Rattle.operation_log.specs.declared.LogRefusal.{LogRefusal}
-use Rattle.replay.specs.Replay.{Course, Replayed, set_out, answered_at, onward, stopped, goes_on, replay_from, replay, replay_refused, JudgedReplay}
+use Rattle.operation_log.specs.declared.Taken.{Taken}
+use Rattle.replay.specs.Replay.{done, Course, Replayed, set_out, answered_at, onward, stopped, goes_on, replay_from, replay, replay_refused, JudgedReplay}
 use Rattle.replay.specs.Run.{course_of}
-use Rattle.replay.specs.declared.Stop.TheVariants.{Done, Unreadable, NotValid}
+use Rattle.replay.specs.declared.Stop.TheVariants.{Unreadable, NotValid}
 
 -- what holds where it stops and of the rest holds of a record more
-pub goes_on_lem : (P : Replayed → Type 0) (found : Found) (c : Course) (rest : Replayed) → P (stopped Done c) → ((why : LogRefusal) → P (stopped (Unreadable why) c)) → P rest → P (goes_on found c rest)
-goes_on_lem P Record c rest done unreadable on = on
-goes_on_lem P End c rest done unreadable on = done
-goes_on_lem P (Refused why) c rest done unreadable on = unreadable why
+pub goes_on_lem : (P : Replayed → Type 0) (read : Read) (c : Course) (rest : Taken → Replayed) → P (stopped done c) → ((why : LogRefusal) → P (stopped (Err (Unreadable why)) c)) →
+    ((taken : Taken) → read ≡ Ok (Some taken) → P (rest taken)) → P (goes_on read c rest)
+goes_on_lem P (Ok (Some taken)) c rest ended unreadable on = on taken refl
+goes_on_lem P (Ok None) c rest ended unreadable on = ended
+goes_on_lem P (Err why) c rest ended unreadable on = unreadable why
 
 -- ---- at most so many
 takes_from : (most : ℕ) (log : List ℕ) (c : Course) → (replay_from most log c).course.taken ≤ c.taken + most
 unfolding replay_from
 takes_from zero log c = omega arith
 takes_from (suc most) log c =
-    goes_on_lem (λ (r : Replayed). r.course.taken ≤ c.taken + suc most) (record_at log c.place).found c _ (omega arith) (λ why. omega arith)
-    (omega (arith, takes_from most log (onward c (record_at log c.place))))
+    goes_on_lem (λ (r : Replayed). r.course.taken ≤ c.taken + suc most) (record_at log c.place) c _ (omega arith) (λ why. omega arith)
+    (λ taken _. omega (arith, takes_from most log (onward c taken)))
 
 pub replay_takes : (s : State) (log : List ℕ) (place most : ℕ) (room : List ℕ) → (replay s log place most room).course.taken ≤ most
 replay_takes s log place most room = omega (arith, takes_from most log (set_out s room place))
@@ -39,25 +40,21 @@ valid_from : (most : ℕ) (log : List ℕ) (c : Course) → Valid c.state → Va
 unfolding replay_from
 valid_from zero log c v = v
 valid_from (suc most) log c v =
-    let taken = record_at log c.place in
-    goes_on_lem (λ (r : Replayed). Valid r.course.state) taken.found c _ v (λ why. v) (valid_from most log (onward c taken) (row_valid c.state v taken.row))
+    goes_on_lem (λ (r : Replayed). Valid r.course.state) (record_at log c.place) c _ v (λ why. v) (λ taken _. valid_from most log (onward c taken) (row_valid c.state v taken.row))
 
 pub replay_valid : (s : State) (log : List ℕ) (place most : ℕ) (room : List ℕ) → Valid s → Valid (replay s log place most room).course.state
 replay_valid s log place most room v = valid_from most log (set_out s room place) v
 
 -- ---- refused as a whole
-never_refused : (most : ℕ) (log : List ℕ) (c : Course) → (replay_from most log c).stop ≡ NotValid → ⊥
+never_refused : (most : ℕ) (log : List ℕ) (c : Course) → (replay_from most log c).stop ≡ Err NotValid → ⊥
 unfolding replay_from
-never_refused zero log c e = let z : ◌≡◌ {A = ℕ} 0 1 = cc in omega arith
+never_refused zero log c stop = cc
 never_refused (suc most) log c stop =
-    goes_on_lem (λ (r : Replayed). r.stop ≡ NotValid → ⊥) (record_at log c.place).found c _
-    (λ e. let z : ◌≡◌ {A = ℕ} 0 1 = cc in omega arith)
-    (λ why e. let z : ◌≡◌ {A = ℕ} 0 1 = cc in omega arith)
-    (never_refused most log (onward c (record_at log c.place))) stop
+    goes_on_lem (λ (r : Replayed). r.stop ≡ Err NotValid → ⊥) (record_at log c.place) c _ (λ e. cc) (λ why e. cc) (λ taken _. never_refused most log (onward c taken)) stop
 
 module _ (s : State) (log : List ℕ) (place most : ℕ) (room : List ℕ) (result : Replayed) where
   -- it stops so exactly at a state that is not valid, takes none, and leaves state, room and place
-  pub replay_refused_lem : JudgedReplay s log place most room result → result.stop ≡ NotValid → (Valid s → ⊥) × (result.course ≡ set_out s room place)
+  pub replay_refused_lem : JudgedReplay s log place most room result → result.stop ≡ Err NotValid → (Valid s → ⊥) × (result.course ≡ set_out s room place)
   replay_refused_lem (valid v e) stop = absurd (never_refused most log (set_out s room place) (ap (λ (r : Replayed). r.stop) (sym e) ∙ stop))
   replay_refused_lem (not_valid n e) stop = (n, ap (λ (r : Replayed). r.course) e)
 
@@ -72,13 +69,13 @@ unfolding replay_from
 replay_in_pieces zero n log c = let z : 0 + suc n ≡ suc n = omega arith in rw z
 replay_in_pieces (suc m) n log c =
     let z : suc m + suc n ≡ suc (m + suc n) = omega arith in
-    rw z (go (record_at log c.place).found refl _ (replay_in_pieces m n log (onward c (record_at log c.place))))
+    rw z (go (record_at log c.place) refl _ (λ taken. replay_in_pieces m n log (onward c taken)))
   where
-    go : (found : Found) → (record_at log c.place).found ≡ found → {all : Replayed} (some : Replayed) → all ≡ replay_from (suc n) log some.course →
-        goes_on found c all ≡ replay_from (suc n) log (goes_on found c some).course
-    go Record e some on = on
-    go End e some on = rw e
-    go (Refused why) e some on = rw e
+    go : (read : Read) → record_at log c.place ≡ read → {all : Taken → Replayed} (some : Taken → Replayed) → ((taken : Taken) → all taken ≡ replay_from (suc n) log (some taken).course) →
+        goes_on read c all ≡ replay_from (suc n) log (goes_on read c some).course
+    go (Ok (Some taken)) e some on = on taken
+    go (Ok None) e some on = rw e
+    go (Err why) e some on = rw e
 
 pub course_in_pieces : (m n : ℕ) (log : List ℕ) (c : Course) → (replay_from (m + n) log c).course ≡ (replay_from n log (replay_from m log c).course).course
 unfolding replay_from
@@ -97,14 +94,14 @@ same_end : (most : ℕ) (log : List ℕ) (s : State) (place : ℕ) (room room' :
 unfolding replay_from
 same_end zero log s place room room' k k' = record { stop = refl; state = refl; place = refl; taken = omega arith }
 same_end (suc most) log s place room room' k k' =
-    let taken = record_at log place in
-    let r = step_row s taken.row in
-    go taken.found (same_end most log r.state taken.next (answered_at room k r.answer) (answered_at room' k' r.answer) (k + 1) (k' + 1))
+    go (record_at log place)
+    (λ taken. let r = step_row s taken.row in same_end most log r.state taken.next (answered_at room k r.answer) (answered_at room' k' r.answer) (k + 1) (k' + 1))
   where
-    go : (found : Found) {a b : Replayed} → SameEnd (k + 1) (k' + 1) a b → SameEnd k k' (goes_on found (course_of (beginning s room) k place) a) (goes_on found (course_of (beginning s room') k' place) b)
-    go Record e = record { stop = e.stop; state = e.state; place = e.place; taken = omega (arith, e.taken) }
-    go End e = record { stop = refl; state = refl; place = refl; taken = omega arith }
-    go (Refused why) e = record { stop = refl; state = refl; place = refl; taken = omega arith }
+    go : (read : Read) {a b : Taken → Replayed} → ((taken : Taken) → SameEnd (k + 1) (k' + 1) (a taken) (b taken)) →
+        SameEnd k k' (goes_on read (course_of (beginning s room) k place) a) (goes_on read (course_of (beginning s room') k' place) b)
+    go (Ok (Some taken)) same = let e = same taken in record { stop = e.stop; state = e.state; place = e.place; taken = omega (arith, e.taken) }
+    go (Ok None) same = record { stop = refl; state = refl; place = refl; taken = omega arith }
+    go (Err why) same = record { stop = refl; state = refl; place = refl; taken = omega arith }
 
 pub record InPieces (n : ℕ) (first second whole : Replayed) : Type 0 where
   pub stop : 0 < n → second.stop ≡ whole.stop

@@ -11,27 +11,23 @@ use lib.ListN.{length, get_or, drop}
 use lib.Seq.{take_at, drop_at, drop-drop}
 use borrow.Author.Tests.{le-leb, leb-true}
 use Rattle.numbers.specs.CaseLaws.{equal}
-use Rattle.std.specs.Prelude.{if◌then◌else◌}
+use Rattle.std.specs.Prelude.{if◌then◌else◌, Some, None, Ok, Err}
 use Rattle.numbers.specs.Limits.{ROW_NUMBERS, ANSWER_NUMBERS}
-use Rattle.numbers.specs.Meaning.{answer_numbers}
-use Rattle.numbers.specs.declared.Answer.{Answer}
+use Rattle.numbers.specs.Meaning.{answer_numbers, Answer}
 use Rattle.table.specs.Scan.{repeat}
 use Rattle.model.specs.State.{State}
 use Rattle.model.specs.Sequence.{Progress, beginning, write_at, row_at, step_row, turn, after}
 use Rattle.model.specs.WriteLaws.{length-written, written_before, written_behind, written_here}
 use Rattle.model.proofs.Answers.{four}
 use Rattle.table.specs.RepeatLaws.{repeat_last}
-use Rattle.operation_log.specs.Log.{record_at}
+use Rattle.operation_log.specs.Log.{Read, record_at}
 use Rattle.operation_log.specs.LogLaws.{row_numbers}
-use Rattle.operation_log.specs.Logs.{Readings, read_all}
-use Rattle.operation_log.specs.declared.Found.{Found}
-use Rattle.operation_log.specs.declared.Found.TheVariants.{Record, End, Refused}
-use Rattle.operation_log.specs.declared.LogRefusal.{LogRefusal}
-use Rattle.replay.specs.Replay.{Course, Replayed, set_out, answered_at, onward, stopped, replay_from, replay}
+use Rattle.operation_log.specs.Logs.{Found, Record, End, Refused, Readings, ahead, read_on, read_all}
+use Rattle.operation_log.specs.declared.Taken.{Taken}
+use Rattle.replay.specs.Replay.{Ended, done, Course, Replayed, set_out, answered_at, onward, goes_on, replay_from, replay}
 use Rattle.replay.specs.Run.{carried}
 use Rattle.replay.specs.RunLaws.{length-answered}
-use Rattle.replay.specs.declared.Stop.{Stop}
-use Rattle.replay.specs.declared.Stop.TheVariants.{Done, Unreadable}
+use Rattle.replay.specs.declared.Stop.TheVariants.{Unreadable}
 
 -- ---- rows one behind the other, as the sequence takes them
 abbrev pub flat : List (List ℕ) → List ℕ
@@ -50,37 +46,11 @@ row_of (row ∷ rows) (suc k) (e, w) h =
     let z : suc k * ROW_NUMBERS ≡ ROW_NUMBERS + k * ROW_NUMBERS = omega arith in
     rw (z, ← drop-drop (k * ROW_NUMBERS) ROW_NUMBERS (row ++ flat rows), drop_at row (flat rows) ROW_NUMBERS e) (row_of rows k w (omega arith))
 
--- ---- a record more, in reading and in replaying
 -- why replay stops, from how reading ended
-abbrev pub stop_of : Found → Stop
-stop_of Record = Done
-stop_of End = Done
-stop_of (Refused why) = Unreadable why
-
-module _ (most : ℕ) (log : List ℕ) (c : Course) where
-  abbrev rest : Readings
-  rest = read_all most log (record_at log c.place).next
-
-  read_more : (record_at log c.place).found ≡ Record → read_all (suc most) log c.place ≡ record { rows = (record_at log c.place).row ∷ rest.rows; place = rest.place; found = rest.found }
-  read_more e = rw e
-
-  read_end : (record_at log c.place).found ≡ End → read_all (suc most) log c.place ≡ record { rows = []; place = c.place; found = End }
-  read_end e = rw e
-
-  read_refused : (why : LogRefusal) → (record_at log c.place).found ≡ Refused why → read_all (suc most) log c.place ≡ record { rows = []; place = c.place; found = Refused why }
-  read_refused why e = rw e
-
-  more : (record_at log c.place).found ≡ Record → replay_from (suc most) log c ≡ replay_from most log (onward c (record_at log c.place))
-  unfolding replay_from
-  more e = rw e
-
-  at_end : (record_at log c.place).found ≡ End → replay_from (suc most) log c ≡ stopped Done c
-  unfolding replay_from
-  at_end e = rw e
-
-  unreadable : (why : LogRefusal) → (record_at log c.place).found ≡ Refused why → replay_from (suc most) log c ≡ stopped (Unreadable why) c
-  unfolding replay_from
-  unreadable why e = rw e
+abbrev pub stop_of : Found → Ended
+stop_of Record = done
+stop_of End = done
+stop_of (Refused why) = Err (Unreadable why)
 
 -- ---- all of them, over any rows that hold those read from the course's place on
 abbrev carried_in : List ℕ → ℕ → Progress → Progress
@@ -96,9 +66,9 @@ record Reads (readings : Readings) (c : Course) (r : Replayed) : Type 0 where
 
 module _ (c : Course) (row : List ℕ) (next : ℕ) (e : length row ≡ ROW_NUMBERS) (readings : Readings) (r : Replayed) where
   abbrev on : Course
-  on = onward c (record { found = Record; row = row; next = next })
+  on = onward c (record { row = row; next = next })
 
-  reads_next : Reads readings on r → Reads (record { rows = row ∷ readings.rows; place = readings.place; found = readings.found }) c r
+  reads_next : Reads readings on r → Reads (ahead row readings) c r
   reads_next i =
       record {
         whole = (e, i.whole);
@@ -119,13 +89,13 @@ module _ (c : Course) (row : List ℕ) (next : ℕ) (e : length row ≡ ROW_NUMB
 reads : (most : ℕ) (log : List ℕ) (c : Course) → Reads (read_all most log c.place) c (replay_from most log c)
 unfolding replay_from
 reads zero log c = record { whole = tt; stop = refl; taken = omega arith; place = refl; progress = λ rows d. refl }
-reads (suc most) log c = go (record_at log c.place).found refl (reads most log (onward c (record_at log c.place)))
+reads (suc most) log c = go (record_at log c.place) refl (λ taken. reads most log (onward c taken))
   where
-    go : (found : Found) → (record_at log c.place).found ≡ found → Reads (rest most log c) (onward c (record_at log c.place)) (replay_from most log (onward c (record_at log c.place))) →
-        Reads (read_all (suc most) log c.place) c (replay_from (suc most) log c)
-    go Record e i = rw (read_more most log c e, more most log c e) (reads_next c (record_at log c.place).row (record_at log c.place).next (row_numbers log c.place) _ _ i)
-    go End e i = rw (read_end most log c e, at_end most log c e) (record { whole = tt; stop = refl; taken = omega arith; place = refl; progress = λ rows d. refl })
-    go (Refused why) e i = rw (read_refused most log c why e, unreadable most log c why e) (record { whole = tt; stop = refl; taken = omega arith; place = refl; progress = λ rows d. refl })
+    go : (read : Read) → record_at log c.place ≡ read → ((taken : Taken) → Reads (read_all most log taken.next) (onward c taken) (replay_from most log (onward c taken))) →
+        Reads (read_on read c.place (λ taken. read_all most log taken.next)) c (goes_on read c (λ taken. replay_from most log (onward c taken)))
+    go (Ok (Some taken)) e i = reads_next c taken.row taken.next (row_numbers log c.place taken e) _ _ (i taken)
+    go (Ok None) e i = record { whole = tt; stop = refl; taken = omega arith; place = refl; progress = λ rows d. refl }
+    go (Err why) e i = record { whole = tt; stop = refl; taken = omega arith; place = refl; progress = λ rows d. refl }
 
 -- ---- states do not look at the room
 same_states : (rows : List ℕ) (i n : ℕ) (p q : Progress) → p.state ≡ q.state → (repeat (carried_in rows) i n p).state ≡ (repeat (turn rows) i n q).state

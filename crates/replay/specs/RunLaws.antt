@@ -1,26 +1,24 @@
 -- What carrying out a record is in terms of the sequence, and what holds after some records: what is left to do from there, and that no
 -- list has changed its length.
-use Rattle.std.specs.Prelude.{ℕ, suc, ◌+◌, ◌*◌, ◌-◌, ◌/◌, ◌≤◌, ◌<◌, Bool, true, false, List, [], ◌∷◌, ◌++◌, ◌≡◌, refl, leb, length, set, take, drop}
+use Rattle.std.specs.Prelude.{ℕ, suc, ◌+◌, ◌*◌, ◌-◌, ◌/◌, ◌≤◌, ◌<◌, Bool, true, false, Some, None, Ok, Err, List, [], ◌∷◌, ◌++◌, ◌≡◌, refl, leb, length, set, take, drop}
 use Rattle.std.proofs.Common.{append-nil, ap, ◌∙◌, take-append-drop, length-drop, drop_of_length-le, take_all, le-leb}
 use native.Mathlib.Omega.{arith}
 use Rattle.std.proofs.lemmas.List.{take-set-le, drop-set-add}
 use Rattle.std.proofs.lemmas.Bool.{lt-leb}
 use Rattle.std.specs.Prelude.{if◌then◌else◌}
 use Rattle.numbers.specs.Limits.{ROW_NUMBERS, ANSWER_NUMBERS}
-use Rattle.numbers.specs.Meaning.{answer_numbers}
-use Rattle.numbers.specs.declared.Answer.{Answer}
+use Rattle.numbers.specs.Meaning.{answer_numbers, Answer}
 use Rattle.model.specs.State.{State}
 use Rattle.model.specs.Sequence.{Progress, beginning, write_at, operation_in, row_at, step_row, turn}
 use Rattle.model.specs.ShapeLaws.{SameSizes}
 use Rattle.model.specs.WriteLaws.{length-written}
 use Rattle.sequence.specs.RunLaws.{join_sizes, same_sizes, row_sizes}
-use Rattle.operation_log.specs.Log.{record_at}
-use Rattle.operation_log.specs.declared.Found.TheVariants.{Record, End, Refused}
+use Rattle.operation_log.specs.Log.{Read, record_at}
 use Rattle.operation_log.specs.declared.LogRefusal.{LogRefusal}
 use Rattle.operation_log.specs.declared.Taken.{Taken}
-use Rattle.replay.specs.Replay.{Course, set_out, answered_at, onward, stopped, replay_from}
+use Rattle.replay.specs.Replay.{done, Course, set_out, answered_at, onward, stopped, replay_from}
 use Rattle.replay.specs.Run.{carried, course_of}
-use Rattle.replay.specs.declared.Stop.TheVariants.{Done, Unreadable}
+use Rattle.replay.specs.declared.Stop.TheVariants.{Unreadable}
 
 -- ---- one record
 -- numbers written from the j-th on behind the first i
@@ -78,36 +76,36 @@ pub replay_start : (most : ℕ) (log : List ℕ) (s : State) (room : List ℕ) (
 replay_start most log s room place = record { within = omega arith; rest = let z : most - 0 ≡ most = omega arith in rw z; sizes = same_sizes s; room = refl }
 
 module _ {most : ℕ} {log : List ℕ} {start : Course} where
-  pub replay_end : (now : Course) → Replaying most log start now → most ≤ now.taken → stopped Done now ≡ replay_from most log start
+  pub replay_end : (now : Course) → Replaying most log start now → most ≤ now.taken → stopped done now ≡ replay_from most log start
   unfolding replay_from
   replay_end now r h =
       let z : most - now.taken ≡ 0 = omega arith in
       rw (r.rest, z)
 
   -- what was read at the course's place
-  module _ (now : Course) (read : Taken) (r : Replaying most log start now) (h : now.taken < most) (e : read ≡ record_at log now.place) where
+  module _ (now : Course) (read : Read) (r : Replaying most log start now) (h : now.taken < most) (e : read ≡ record_at log now.place) where
     less : most - now.taken ≡ suc (most - (now.taken + 1))
     less = omega arith
 
-    pub replay_out : read.found ≡ End → stopped Done now ≡ replay_from most log start
+    pub replay_out : read ≡ Ok None → stopped done now ≡ replay_from most log start
     unfolding replay_from
-    replay_out f = let g : (record_at log now.place).found ≡ End = rw e at f in rw (r.rest, less, g)
+    replay_out f = let g : record_at log now.place ≡ Ok None = rw e at f in rw (r.rest, less, g)
 
-    pub replay_unread : {why : LogRefusal} → read.found ≡ Refused why → stopped (Unreadable why) now ≡ replay_from most log start
+    pub replay_unread : {why : LogRefusal} → read ≡ Err why → stopped (Err (Unreadable why)) now ≡ replay_from most log start
     unfolding replay_from
-    replay_unread {why} f = let g : (record_at log now.place).found ≡ Refused why = rw e at f in rw (r.rest, less, g)
+    replay_unread {why} f = let g : record_at log now.place ≡ Err why = rw e at f in rw (r.rest, less, g)
 
-    on : read.found ≡ Record → replay_from (most - now.taken) log now ≡ replay_from (most - (now.taken + 1)) log (onward now read)
+    on : {taken : Taken} → read ≡ Ok (Some taken) → replay_from (most - now.taken) log now ≡ replay_from (most - (now.taken + 1)) log (onward now taken)
     unfolding replay_from
-    on f = let g : (record_at log now.place).found ≡ Record = rw e at f in rw (less, g, e)
+    on {taken} f = let g : record_at log now.place ≡ Ok (Some taken) = rw e at f in rw (less, g)
 
-    pub replay_next : (left : Progress) → read.found ≡ Record → left ≡ carried read.row now.taken (beginning now.state now.room) →
-        Replaying most log start (course_of left (now.taken + 1) read.next)
-    replay_next left f g =
-        let answer = (step_row now.state read.row).answer in
+    pub replay_next : {taken : Taken} (left : Progress) → read ≡ Ok (Some taken) → left ≡ carried taken.row now.taken (beginning now.state now.room) →
+        Replaying most log start (course_of left (now.taken + 1) taken.next)
+    replay_next {taken} left f g =
+        let answer = (step_row now.state taken.row).answer in
         record {
           within = omega arith;
           rest = r.rest ∙ on f ∙ rw g;
-          sizes = rw g (join_sizes r.sizes (row_shape now.state read.row));
+          sizes = rw g (join_sizes r.sizes (row_shape now.state taken.row));
           room = rw g (length-answered now.room now.taken answer ∙ r.room);
         }

@@ -1,195 +1,137 @@
 // Replay: the records of a log carried out one after the other, over a state that is judged once, before the first.
 #![tactic(auto)]
 
-ghost use Rattle.std.specs.Prelude.{◌≡◌};
-ghost use Rattle.model.specs.Header.{header_of, state_of};
+ghost use Rattle.std.specs.Prelude.{Err, ◌≡◌};
+ghost use Rattle.model.specs.Header.{header_of, lists, Same, state_of};
 ghost use Rattle.operate.specs.Fit.{Fit};
 ghost use Rattle.sequence.specs.Run.{progress};
 ghost use Rattle.replay.specs.Replay.{stop_number, set_out, replay_from, JudgedReplay};
-ghost use Rattle.replay.specs.Run.{carried, halted, came};
+ghost use Rattle.replay.specs.Run.{carried, came};
 
-use model::{Fixed, Machine, Registers};
+use model::{Fixed, Lent, Machine, Registers};
 use numbers::{ANSWER_NUMBERS, ROW_NUMBERS, Refusal};
-use operation_log::{Found, LogRefusal};
+use operation_log::{LogRefusal, Reader};
 
-// ---- Why it stopped.
-#[derive(Clone, Copy)]
+// ---- Why it stopped before as many records as were asked for were taken, or the log ended.
+#[derive(Clone, Copy, Debug, PartialEq, Eq)]
 pub enum Stop {
-    // As many records as were asked for are taken, or the log ended.
-    Done,
     Unreadable(LogRefusal),
     NotValid,
 }
 
-// How far it came: the header, how many records it took, and the place of the next.
+impl From<Stop> for u64 {
+    ghost from_gives = { λ stop number. number ≡ stop_number (Err stop) };
+
+    fn from(stop: Stop) -> u64 {
+        match stop {
+            Stop::Unreadable(why) => why.into(),
+            Stop::NotValid => Refusal::StateNotValid.into(),
+        }
+    }
+}
+
+// How it ended, how many records it took, and the place of the next.
 #[derive(Clone, Copy)]
 pub struct Replayed {
-    pub stop: Stop,
-    pub machine: Machine,
+    pub stop: Result<(), Stop>,
     pub taken: usize,
     pub place: usize,
 }
 
 // No answer of the machine carries a log's number.
-pub fn stop_number(stop: Stop) -> u64
+pub fn stop_number(stop: Result<(), Stop>) -> u64
     ensures { result ≡ stop_number stop }
 {
     match stop {
-        Stop::Done => 0,
-        Stop::Unreadable(why) => operation_log::log_refusal_number(why),
-        Stop::NotValid => numbers::refusal_number(Refusal::StateNotValid),
+        Ok(()) => 0,
+        Err(why) => why.into(),
     }
 }
 
 // A record's row carried out. Its answer goes to place k of the answer room, and where the room has not the whole of that, nowhere.
 fn carry(
-    fixed: Fixed,
-    registers: Registers,
-    sets: &mut [u64],
-    pairs: &mut [u64],
-    cpu_map: &mut [u64],
-    cpu_walker: &mut [u64],
-    cpu_cache: &mut [u64],
-    dma_map: &mut [u64],
-    dma_walker: &mut [u64],
-    dma_cache: &mut [u64],
-    memory: &mut [u64],
+    fixed: &Fixed,
+    registers: &mut Registers,
+    lent: &mut Lent<&mut [u64]>,
     row: [u64; ROW_NUMBERS],
     room: &mut [u64],
     k: usize,
-) -> Registers
-    requires { Fit fixed sets.old memory.old }
-    ensures { let before = progress (header_of fixed registers) sets.old pairs.old cpu_map.old cpu_walker.old cpu_cache.old
-        dma_map.old dma_walker.old dma_cache.old memory.old room.old in
-        let left = progress (header_of fixed result) sets.new pairs.new cpu_map.new cpu_walker.new cpu_cache.new
-        dma_map.new dma_walker.new dma_cache.new memory.new room.new in
-        left ≡ carried row k before }
+)
+    requires { Fit fixed.now lent.old.sets.now lent.old.memory.now }
+    ensures carried { progress (header_of fixed.now registers.new) (lists lent.new) room.new
+        ≡ carried row k (progress (header_of fixed.now registers.old) (lists lent.old) room.old) }
+    ensures same { Same lent.old lent.new }
 {
     if k < room.len() / ANSWER_NUMBERS {
         let at = k * ANSWER_NUMBERS;
-        return sequence::turn(
-            fixed,
-            registers,
-            sets,
-            pairs,
-            cpu_map,
-            cpu_walker,
-            cpu_cache,
-            dma_map,
-            dma_walker,
-            dma_cache,
-            memory,
-            &row,
-            &mut room[at..],
-            0,
-        );
-    }
-    let mut spare = [0; ANSWER_NUMBERS];
-    sequence::turn(
-        fixed, registers, sets, pairs, cpu_map, cpu_walker, cpu_cache, dma_map, dma_walker,
-        dma_cache, memory, &row, &mut spare, 0,
-    )
-}
-
-fn halt(stop: Stop, fixed: Fixed, registers: Registers, taken: usize, place: usize) -> Replayed
-    ensures { result ≡ halted stop (header_of fixed registers) taken place }
-{
-    Replayed {
-        stop,
-        machine: Machine { fixed, registers },
-        taken,
-        place,
+        sequence::turn(fixed, registers, lent, &row, &mut room[at..], 0);
+    } else {
+        let mut spare = [0; ANSWER_NUMBERS];
+        sequence::turn(fixed, registers, lent, &row, &mut spare, 0);
     }
 }
 
-// The records from a place on, at most `most` of them. From record to record only the registers are handed on.
+// The records from a place on, at most `most` of them.
 fn run(
-    fixed: Fixed,
-    registers: Registers,
-    sets: &mut [u64],
-    pairs: &mut [u64],
-    cpu_map: &mut [u64],
-    cpu_walker: &mut [u64],
-    cpu_cache: &mut [u64],
-    dma_map: &mut [u64],
-    dma_walker: &mut [u64],
-    dma_cache: &mut [u64],
-    memory: &mut [u64],
+    fixed: &Fixed,
+    registers: &mut Registers,
+    lent: &mut Lent<&mut [u64]>,
     log: &[u8],
     place: usize,
     most: usize,
     room: &mut [u64],
 ) -> Replayed
-    requires { Fit fixed sets.old memory.old }
-    ensures { let before = state_of (header_of fixed registers) sets.old pairs.old cpu_map.old cpu_walker.old cpu_cache.old
-        dma_map.old dma_walker.old dma_cache.old memory.old in
-        let left = came result.stop (progress result.machine sets.new pairs.new cpu_map.new cpu_walker.new cpu_cache.new
-        dma_map.new dma_walker.new dma_cache.new memory.new room.new) result.taken result.place in
-        left ≡ replay_from most log.now (set_out before room.old place) }
+    requires { Fit fixed.now lent.old.sets.now lent.old.memory.now }
+    ensures ran { came result.stop (progress (header_of fixed.now registers.new) (lists lent.new) room.new) result.taken result.place
+        ≡ replay_from most log.now (set_out (state_of (header_of fixed.now registers.old) (lists lent.old)) room.old place) }
+    ensures same { Same lent.old lent.new }
 {
-    let mut next = registers;
-    let mut at = place;
-    let mut taken = 0;
-    while taken < most {
-        let record = operation_log::read_at(log, at);
-        let found = record.found;
-        match found {
-            Found::Record => {}
-            Found::End => {
-                return halt(Stop::Done, fixed, next, taken, at);
+    let mut reader = Reader::new(log, place);
+    for taken in 0..most {
+        match reader.next() {
+            Ok(Some(record)) => carry(fixed, registers, lent, record.row, room, taken),
+            Ok(None) => {
+                return Replayed {
+                    stop: Ok(()),
+                    taken,
+                    place: reader.at,
+                };
             }
-            Found::Refused(why) => {
-                return halt(Stop::Unreadable(why), fixed, next, taken, at);
+            Err(why) => {
+                return Replayed {
+                    stop: Err(Stop::Unreadable(why)),
+                    taken,
+                    place: reader.at,
+                };
             }
         }
-        let row = record.row;
-        next = carry(
-            fixed, next, sets, pairs, cpu_map, cpu_walker, cpu_cache, dma_map, dma_walker,
-            dma_cache, memory, row, room, taken,
-        );
-        at = record.next;
-        taken += 1;
     }
-    halt(Stop::Done, fixed, next, taken, at)
+    Replayed {
+        stop: Ok(()),
+        taken: most,
+        place: reader.at,
+    }
 }
 
 // ---- The entry: it asks for nothing. A state that is not valid is refused, none taken, and left with all else as it was.
 pub fn replay(
-    m: Machine,
-    sets: &mut [u64],
-    pairs: &mut [u64],
-    cpu_map: &mut [u64],
-    cpu_walker: &mut [u64],
-    cpu_cache: &mut [u64],
-    dma_map: &mut [u64],
-    dma_walker: &mut [u64],
-    dma_cache: &mut [u64],
-    memory: &mut [u64],
+    m: &mut Machine,
+    lent: &mut Lent<&mut [u64]>,
     log: &[u8],
     place: usize,
     most: usize,
     room: &mut [u64],
 ) -> Replayed
-    ensures { let before = state_of m sets.old pairs.old cpu_map.old cpu_walker.old cpu_cache.old
-        dma_map.old dma_walker.old dma_cache.old memory.old in
-        let left = came result.stop (progress result.machine sets.new pairs.new cpu_map.new cpu_walker.new cpu_cache.new
-        dma_map.new dma_walker.new dma_cache.new memory.new room.new) result.taken result.place in
-        JudgedReplay before log.now place most room.old left }
+    ensures judged { JudgedReplay (state_of m.old (lists lent.old)) log.now place most room.old
+        (came result.stop (progress m.new (lists lent.new) room.new) result.taken result.place) }
+    ensures same { Same lent.old lent.new }
 {
-    if !judge::valid(
-        m, sets, pairs, cpu_map, cpu_walker, cpu_cache, dma_map, dma_walker, dma_cache, memory,
-    ) {
+    if !judge::valid(m, lent.seen()) {
         return Replayed {
-            stop: Stop::NotValid,
-            machine: m,
+            stop: Err(Stop::NotValid),
             taken: 0,
             place,
         };
     }
-    let fixed = m.fixed;
-    let registers = m.registers;
-    run(
-        fixed, registers, sets, pairs, cpu_map, cpu_walker, cpu_cache, dma_map, dma_walker,
-        dma_cache, memory, log, place, most, room,
-    )
+    run(&m.fixed, &mut m.registers, lent, log, place, most, room)
 }

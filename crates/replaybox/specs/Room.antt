@@ -1,16 +1,11 @@
 -- The log's buffer, and the text of a record.
-use Rattle.std.specs.Prelude.{ℕ, ◌+◌, ◌*◌, ◌≤◌}
+use Rattle.std.specs.Prelude.{ℕ, ◌+◌, ◌*◌}
 use Rattle.batch.specs.Room.{NUMBER_BYTES, ANSWER_BYTES}
 use Rattle.operation_log.specs.Log.{FIELDS}
 
 -- the buffer's bytes: the longest record has 65,537
 abbrev pub LOG_ROOM : ℕ
 LOG_ROOM = 131072
-
--- the next record stands within the bytes that were read, and these within the buffer
-pub record Inside (place filled : ℕ) : Type 0 where
-  pub read : place ≤ filled
-  pub held : filled ≤ LOG_ROOM
 
 -- the most bytes of a record's numbers: the kind and its arguments, each with the byte after it, and a blank
 abbrev pub ROW_BYTES : ℕ

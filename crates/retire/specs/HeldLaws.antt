@@ -1,10 +1,8 @@
--- Laws of the loop that clears the pages of a VM, and of the search for the next of them.
-use Prim.Native.Nat.{ℕ, zero, suc, ◌+◌, ◌*◌, ◌-◌, ◌/◌, ◌%◌, ◌≤◌, ◌<◌}
-use Rattle.std.specs.Prelude.{true, false, ◌||◌, List, ◌≡◌, refl, ltb, length}
-use Rattle.std.proofs.Common.{⊎_elim, ap, ◌∙◌, ltb-true, ltb-false}
+-- Laws of the loops that clear the pages of a VM, and of those that are passed over.
+use Rattle.std.specs.Prelude.{ℕ, zero, suc, ◌+◌, ◌-◌, ◌*◌, ◌/◌, ◌≤◌, ◌<◌, min, true, false, ◌||◌, List, ◌≡◌, refl, length}
+use Rattle.std.proofs.Common.{ap, ◌∙◌}
 use Rattle.std.proofs.Math.Numerals.{add-one}
 use native.Mathlib.Omega.{arith}
-use Rattle.numbers.specs.CaseLaws.{cases}
 use Rattle.pages.specs.Columns.{column_word}
 use Rattle.pages.specs.PourLaws.{holds_none}
 use Rattle.pages.specs.Rows.{cpu_row, dma_row}
@@ -60,17 +58,14 @@ module _ (sets : List ℕ) (pages vm : ℕ) (start : List ℕ) where
   unfolding cleared_pages
   clear_end now k r h = let z : pages - k ≡ 0 = omega arith in rw (r.rest, z)
 
--- ---- the search for the next page that is held
+-- ---- 64 pages at once
 module _ (sets : List ℕ) (pages vm : ℕ) where
-  pub unheld_start : (k : ℕ) → k ≤ pages → Unheld sets pages vm k k
-  unheld_start k l = record { later = omega arith; within = l; none = λ page a b. absurd (omega arith) }
-
-  -- a word of both sets is 0
-  pub unheld_next : (k next : ℕ) → Unheld sets pages vm k next → next % 64 ≡ 0 → next + 64 ≤ pages → column_word sets (cpu_row vm) (next / 64) ≡ 0 → column_word sets (dma_row vm) (next / 64) ≡ 0 →
-      Unheld sets pages vm k (next + 64)
-  unheld_next k next u whole l c d = record { later = omega (arith, u.later); within = l; none = λ page a b. ⊎_elim (λ t. u.none page a (ltb-true page next t)) (λ f. beside page (ltb-false page next f) b) (cases (ltb page next)) }
+  -- a word of both its sets is 0
+  pub unheld_block : (block : ℕ) → column_word sets (cpu_row vm) (block * 64 / 64) ≡ 0 → column_word sets (dma_row vm) (block * 64 / 64) ≡ 0 →
+      Unheld sets pages vm (min (block * 64) pages) (min ((block + 1) * 64) pages)
+  unheld_block block c d = record { later = omega arith; within = omega arith; none = beside }
     where
-      beside : (page : ℕ) → next ≤ page → page < next + 64 → (owns sets vm page || holds_dma sets vm page) ≡ false
+      beside : (page : ℕ) → min (block * 64) pages ≤ page → page < min ((block + 1) * 64) pages → (owns sets vm page || holds_dma sets vm page) ≡ false
       beside page a b =
-          let e : page / 64 ≡ next / 64 = omega (arith, whole) in
+          let e : page / 64 ≡ block * 64 / 64 = omega arith in
           rw (holds_none page sets (cpu_row vm) (rw e c), holds_none page sets (dma_row vm) (rw e d))

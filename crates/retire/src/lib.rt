@@ -4,13 +4,13 @@
 ghost use Rattle.std.specs.Prelude.{◌≡◌, ◌*◌, ◌<◌, ◌≤◌, length};
 ghost use Rattle.numbers.specs.Limits.{PAGES, PAGE_WORDS, VMS, SETS, SET_WORDS};
 ghost use Rattle.model.specs.Effect.{cleared_pages};
+ghost use Rattle.model.specs.Header.{Same, lists};
 ghost use Rattle.model.specs.Retire.{onto_its, goes, retire_may, retire_answer, retire_pairs, retire_sets, retire_clears};
-ghost use Rattle.retire.specs.HeldLaws.{Unheld};
 ghost use Rattle.retire.specs.Parts.{Ready, Swept, RouteSwept, Done, Left};
 
 use ledger::vm_early;
+use model::Lent;
 use numbers::{Answer, PAGES, PORTS, PhysPage, Refusal, Side, VmId, accept, refuse};
-use views::Test;
 
 // ---- Maps and caches.
 
@@ -22,10 +22,7 @@ fn onto_its(side: Side, sets: &[u64], vm: VmId, w: u64) -> bool
     match side {
         Side::Cpu => {
             let page = numbers::page_of(w);
-            if page.0 < PAGES {
-                return pages::holds(sets, pages::cpu_row(vm), page);
-            }
-            false
+            page.0 < PAGES && pages::holds(sets, pages::cpu_row(vm), page)
         }
         Side::Dma => false,
     }
@@ -36,13 +33,7 @@ fn goes(side: Side, sets: &[u64], vm: VmId, w: u64) -> bool
     requires { (vm.0 < VMS) × (length sets.now ≡ SETS * SET_WORDS) }
     ensures { result ≡ goes side sets.now vm.0 w }
 {
-    if numbers::filled_of(w) != 1 {
-        return false;
-    }
-    if numbers::vm_of(w).0 == vm.0 {
-        return true;
-    }
-    onto_its(side, sets, vm, w)
+    numbers::filled_of(w) == 1 && (numbers::vm_of(w).0 == vm.0 || onto_its(side, sets, vm, w))
 }
 
 // One pass over a map or a cache: empties every word that goes, and answers how many there were.
@@ -50,16 +41,7 @@ fn sweep(side: Side, sets: &[u64], vm: VmId, words: &mut [u64]) -> u64
     requires { (vm.0 < VMS) × (length sets.now ≡ SETS * SET_WORDS) }
     ensures { Swept side sets.now vm.0 words.old result words.new }
 {
-    let mut swept = 0;
-    let mut i = 0;
-    while i < words.len() {
-        if goes(side, sets, vm, words[i]) {
-            words[i] = 0;
-            swept += 1;
-        }
-        i += 1;
-    }
-    swept
+    table::wipe(words, |w| goes(side, sets, vm, w))
 }
 
 // All tables of a side. Answers how many slots there were.
@@ -85,49 +67,29 @@ fn sweep_side(
 fn drop_pairs(pairs: &mut [u64], vm: VmId)
     ensures { pairs.new ≡ retire_pairs pairs.old vm.0 }
 {
-    let mut i = 0;
-    while i < pairs.len() {
-        if views::joins(pairs[i], vm) {
-            pairs[i] = 0;
-        }
-        i += 1;
-    }
+    table::wipe(pairs, |w| views::joins(w, vm));
 }
 
-// A page up to which, from the given one on, the VM holds none: 64 pages a step, for as long as a whole word of both its sets is 0.
-fn past_unheld(sets: &[u64], pages: u64, vm: VmId, page: u64) -> u64
-    requires { (vm.0 < VMS) × (pages ≤ PAGES) × (page ≤ pages) × (length sets.now ≡ SETS * SET_WORDS) }
-    ensures { Unheld sets.now pages vm.0 page result }
-{
-    let mut next = page;
-    while next + 64 <= pages {
-        if next % 64 != 0 {
-            return next;
-        }
-        if !pages::none_beside(sets, pages::cpu_row(vm), PhysPage(next)) {
-            return next;
-        }
-        if !pages::none_beside(sets, pages::dma_row(vm), PhysPage(next)) {
-            return next;
-        }
-        next += 64;
-    }
-    next
-}
-
-// Clears every page that the VM owns or holds for DMA: it goes by the sets as they are before the pages are given back.
+// Clears every page that the VM owns or holds for DMA: it goes by the sets as they are before the pages are given back. 64 pages are
+// passed over at once where a whole word of both its sets is 0.
 fn clear_held(sets: &[u64], memory: &mut [u64], pages: u64, vm: VmId)
     requires { Ready pages sets.now memory.old vm.0 }
     ensures { memory.new ≡ cleared_pages (retire_clears sets.now pages vm.0) memory.old }
 {
-    let mut page = past_unheld(sets, pages, vm, 0);
-    while page < pages {
-        if views::claims(Side::Cpu, sets, vm, PhysPage(page))
-            | views::claims(Side::Dma, sets, vm, PhysPage(page))
+    for block in 0..pages.div_ceil(64) {
+        let first = block * 64;
+        if pages::none_beside(sets, pages::cpu_row(vm), PhysPage(first))
+            && pages::none_beside(sets, pages::dma_row(vm), PhysPage(first))
         {
-            access::clear_page(memory, PhysPage(page));
+            continue;
         }
-        page = past_unheld(sets, pages, vm, page + 1);
+        for page in first..pages.min(first + 64) {
+            if views::claims(Side::Cpu, sets, vm, PhysPage(page))
+                | views::claims(Side::Dma, sets, vm, PhysPage(page))
+            {
+                access::clear_page(memory, PhysPage(page));
+            }
+        }
     }
 }
 
@@ -151,84 +113,58 @@ pub fn retire_may(
 ) -> Answer
     ensures { result ≡ retire_may known cpus devices vm.0 }
 {
-    let early = vm_early(known, vm);
-    if let Answer::Refused { refusal, index } = early {
-        return Answer::Refused { refusal, index };
-    }
-    if views::any(&cpus, Test::Runs(vm)) | views::any(&devices, Test::Runs(vm)) {
+    vm_early(known, vm)?;
+    if table::any(&cpus, |on| on == vm.0) | table::any(&devices, |on| on == vm.0) {
         return refuse(Refusal::VmBusy, 0);
     }
     accept(0)
 }
 
 // What retiring a VM does to the lists; the page sets, by which the rest goes, come last. Answers how many slots went.
-pub fn retire_do(
-    pages: u64,
-    sets: &mut [u64],
-    pairs: &mut [u64],
-    cpu_map: &mut [u64],
-    cpu_walker: &mut [u64],
-    cpu_cache: &mut [u64],
-    dma_map: &mut [u64],
-    dma_walker: &mut [u64],
-    dma_cache: &mut [u64],
-    memory: &mut [u64],
-    vm: VmId,
-) -> u64
-    requires { Ready pages sets.old memory.old vm.0 }
-    ensures { Done pages vm.0 sets.old pairs.old cpu_map.old cpu_walker.old cpu_cache.old
-        dma_map.old dma_walker.old dma_cache.old memory.old
-        result sets.new pairs.new cpu_map.new cpu_walker.new cpu_cache.new
-        dma_map.new dma_walker.new dma_cache.new memory.new }
+pub fn retire_do(pages: u64, lent: &mut Lent<&mut [u64]>, vm: VmId) -> u64
+    requires { Ready pages lent.old.sets.now lent.old.memory.now vm.0 }
+    ensures done { Done pages vm.0 (lists lent.old) result (lists lent.new) }
+    ensures same { Same lent.old lent.new }
 {
-    let cpu = sweep_side(Side::Cpu, sets, vm, cpu_map, cpu_walker, cpu_cache);
-    let dma = sweep_side(Side::Dma, sets, vm, dma_map, dma_walker, dma_cache);
-    drop_pairs(pairs, vm);
-    clear_held(sets, memory, pages, vm);
+    let sets = &mut *lent.sets;
+    let cpu = sweep_side(
+        Side::Cpu,
+        sets,
+        vm,
+        lent.cpu_map,
+        lent.cpu_walker,
+        lent.cpu_cache,
+    );
+    let dma = sweep_side(
+        Side::Dma,
+        sets,
+        vm,
+        lent.dma_map,
+        lent.dma_walker,
+        lent.dma_cache,
+    );
+    drop_pairs(lent.pairs, vm);
+    clear_held(sets, lent.memory, pages, vm);
     give_back(sets, vm);
     cpu + dma
 }
 
-#[derive(Clone, Copy)]
-pub struct Retired {
-    pub answer: Answer,
-    pub known: u64,
-}
-
-// Operation 27. Gives the answer and the known VMs that it leaves.
+// Operation 27.
 pub fn retire_vm(
-    known: u64,
+    known: &mut u64,
     pages: u64,
     cpus: [u64; PORTS as usize],
     devices: [u64; PORTS as usize],
-    sets: &mut [u64],
-    pairs: &mut [u64],
-    cpu_map: &mut [u64],
-    cpu_walker: &mut [u64],
-    cpu_cache: &mut [u64],
-    dma_map: &mut [u64],
-    dma_walker: &mut [u64],
-    dma_cache: &mut [u64],
-    memory: &mut [u64],
+    lent: &mut Lent<&mut [u64]>,
     vm: VmId,
-) -> Retired
-    requires { (pages ≤ PAGES) × (length sets.old ≡ SETS * SET_WORDS) × (length memory.old ≡ PAGE_WORDS * pages) }
-    ensures { Left (retire_answer known sets.old cpu_cache.old dma_cache.old cpus devices vm.0) pages vm.0
-        known sets.old pairs.old cpu_map.old cpu_walker.old cpu_cache.old
-        dma_map.old dma_walker.old dma_cache.old memory.old
-        result.answer result.known sets.new pairs.new cpu_map.new cpu_walker.new cpu_cache.new
-        dma_map.new dma_walker.new dma_cache.new memory.new }
+) -> Answer
+    requires { (pages ≤ PAGES) × (length lent.old.sets.now ≡ SETS * SET_WORDS) × (length lent.old.memory.now ≡ PAGE_WORDS * pages) }
+    ensures left { Left (retire_answer known.old lent.old.sets.now lent.old.cpu_cache.now lent.old.dma_cache.now cpus devices vm.0) pages vm.0
+        known.old (lists lent.old) result known.new (lists lent.new) }
+    ensures same { Same lent.old lent.new }
 {
-    let may = retire_may(known, cpus, devices, vm);
-    if let Answer::Refused { refusal, index } = may {
-        let answer = Answer::Refused { refusal, index };
-        return Retired { answer, known };
-    }
-    let dropped = retire_do(
-        pages, sets, pairs, cpu_map, cpu_walker, cpu_cache, dma_map, dma_walker, dma_cache, memory,
-        vm,
-    );
-    let answer = accept(dropped);
-    let known = ledger::vms::remove_vm_do(known, vm);
-    Retired { answer, known }
+    retire_may(*known, cpus, devices, vm)?;
+    let dropped = retire_do(pages, lent, vm);
+    *known = ledger::vms::remove_vm_do(*known, vm);
+    accept(dropped)
 }

@@ -1,3 +1,2 @@
 -- What decoding a row gives.
-pub mod Decoded
 pub mod RowLaws

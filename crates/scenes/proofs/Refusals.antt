@@ -14,7 +14,8 @@ use Rattle.numbers.specs.declared.Side.TheVariants.{Cpu, Dma}
 use Rattle.model.specs.State.{State}
 use Rattle.model.specs.Views.{knows, may_map}
 use Rattle.model.specs.Effect.{accepted}
-use Rattle.model.specs.Start.{Told, Lent, start_answer, start}
+use Rattle.model.specs.Start.{Told, start_answer, start}
+use Rattle.model.specs.Header.{Lists}
 use Rattle.model.specs.Sequence.{step_row}
 use Rattle.model.specs.Valid.{Valid}
 use Rattle.model.proofs.Computes.{computes}
@@ -68,7 +69,7 @@ sixteen_pages =
     }
 
 -- what the worked table's machine is lent, with memory for sixteen pages
-abbrev pub sixteen_lent : Lent
+abbrev pub sixteen_lent : Lists
 sixteen_lent =
     record {
       sets = lent.sets;

@@ -5,15 +5,13 @@ use Prim.Native.Nat.{ℕ, zero, suc, ◌*◌, ◌<◌}
 use mathlib.Core.Bool.{Bool, true, true≢false}
 use mathlib.Core.List.{List, [], ◌∷◌}
 use mathlib.Core.Logic.{inl, inr}
-use mathlib.Core.Option.{Option, none, some}
+use Rattle.std.specs.Prelude.{Option, None, Some, Ok, Err}
 use mathlib.Core.Path.{◌≡◌, refl, sym, ap, ◌∙◌}
 use native.Mathlib.Omega.{arith}
 use lib.Dec.{eqb, lit<}
 use lib.ListN.{length, get_or, replicate, length-set, length-replicate}
 use Rattle.numbers.specs.Limits.{PAGE_WORDS, WRITE}
-use Rattle.numbers.specs.declared.Answer.{Answer}
-use Rattle.numbers.specs.declared.Answer.TheVariants.{Accepted, Refused}
-use Rattle.numbers.specs.Meaning.{operation_number}
+use Rattle.numbers.specs.Meaning.{Answer, accept, answer_numbers, operation_number}
 use Rattle.numbers.specs.declared.Operation.{Operation}
 use Rattle.numbers.specs.declared.Side.TheVariants.{Cpu}
 use Rattle.model.specs.State.{Tables, State}
@@ -24,7 +22,7 @@ use Rattle.model.specs.Step.{control}
 use Rattle.model.specs.Sequence.{operation_in, row_at, after, beginning}
 use Rattle.model.specs.Valid.{ValidTables, Valid}
 use Rattle.model.specs.Good.{StoreOn, Touches, Reaches, MayReach}
-use Rattle.model.specs.Secrecy.{PrivateTo, Private, effect_in, without_value_in, NearStores, stop, same, other, Near, alike, stores, Differ, Alike, Asked, Premise, StayAlike, SharesEqual}
+use Rattle.model.specs.Secrecy.{PrivateTo, effect_in, without_value_in, NearStores, stop, same, other, Near, alike, stores, Differ, Alike, Asked, Premise, StayAlike, SharesEqual}
 use Rattle.model.proofs.Computes.{computes}
 use Rattle.model.proofs.Worked.{started}
 use Rattle.model.proofs.Kept.{good, after_valid}
@@ -64,8 +62,8 @@ pub with_all : Statement (λ s s'. Valid s × AlikeOne s s') All
 with_all s s' (v, like) rows rows' count given = secrecy_one 1 (beginning s []) (beginning s' []) rows rows' count v like given
 
 -- two answers to a read that are not the same
-unequal : (a b : ℕ) → (a ≡ b → ⊥) → Accepted 0 a ≡ Accepted 0 b → ⊥
-unequal a b n e = n (cc)
+unequal : (a b : ℕ) → (a ≡ b → ⊥) → accept 0 a ≡ accept 0 b → ⊥
+unequal a b n e = n (ap (λ (x : Answer). get_or (answer_numbers x) 3 0) e)
 
 -- ---- without `Valid`: a device of VM 2 reads VM 1's value by a slot that was left
 incident_rows : ℕ → List ℕ
@@ -162,8 +160,8 @@ size_needed all =
 
 -- ---- without `shape`: a barrier in one run, "add VM 3" in the other, and then "add VM 3" in both
 quiet_kept : (x : Answer) → kept x quiet quiet ≡ quiet
-quiet_kept (Accepted dropped word) = refl
-quiet_kept (Refused refusal index) = refl
+quiet_kept (Ok ok) = refl
+quiet_kept (Err err) = refl
 
 -- they are near, whatever the tables, and no two values of one operation
 pub barrier_near : (members : ℕ → Bool) (Secret : Tables → ℕ → Type 0) (t : Tables) → Near members Secret t (effect_in t (operation_in barrier)) (effect_in t (operation_in add_third))
@@ -172,8 +170,8 @@ barrier_near members Secret t = rw (quiet_kept (add_vm_answer t.known 3)) alike
 
 -- the number of a row's operation
 abbrev number_in : Option Operation → ℕ
-number_in none = 0
-number_in (some operation) = operation_number operation
+number_in None = 0
+number_in (Some operation) = operation_number operation
 
 pub barrier_unlike : without_value_in (operation_in barrier) ≡ without_value_in (operation_in add_third) → ⊥
 unfolding operation_in
@@ -251,8 +249,8 @@ module _ (t : Tables) (v : ValidTables t) where
   own_effect r (stores {vm = vm} near) = stores (own_stores vm (λ page o. (r WRITE vm page (refl, refl, o)).may) near)
 
   reached : (found : Option Operation) (bit vm page : ℕ) → Touches bit (effect_in t found) vm page → Reaches bit t vm page
-  reached none bit vm page z = absurd z
-  reached (some operation) bit vm page z = (good t v operation).reach bit vm page z
+  reached None bit vm page z = absurd z
+  reached (Some operation) bit vm page z = (good t v operation).reach bit vm page z
 
 pub writer_follows : Statement (λ s s'. Valid s × AlikeOne s s') (λ s s' r r'. (without_value_in (operation_in r) ≡ without_value_in (operation_in r')) × NearBy (λ who. true) s r r' × SharesEqual (eqb 1) s.tables (operation_in r) s.memory s'.memory)
 writer_follows s s' (v, like) rows rows' count given = with_all s s' (v, like) rows rows' count asked

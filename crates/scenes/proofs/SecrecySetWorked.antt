@@ -3,14 +3,14 @@
 use Prim.Native.Nat.{ℕ, zero, suc}
 use mathlib.Core.Bool.{Bool, true, false, not, ◌&&◌, ◌||◌, true≢false}
 use mathlib.Core.List.{List, [], ◌∷◌, map}
-use mathlib.Core.Option.{Option, none, some}
+use Rattle.std.specs.Prelude.{Option, None, Some}
 use mathlib.Core.Path.{◌≡◌, refl, sym, ap}
 use native.Mathlib.Omega.{arith}
 use lib.Dec.{eqb, ltb, lit<}
 use lib.ListN.{get_or}
 use borrow.Author.Tests.{ltb-true, not-false}
 use Rattle.numbers.specs.Limits.{VMS}
-use Rattle.numbers.specs.Packing.{left_of, right_of, filled_of, page_of}
+use Rattle.numbers.specs.Packing.{left_of, right_of, filled_of}
 use Rattle.numbers.specs.declared.Side.TheVariants.{Cpu}
 use Rattle.table.specs.Scan.{any}
 use Rattle.table.specs.ScanLaws.{any_false}
@@ -156,8 +156,8 @@ private_first = private_in 1 0 begun_set.state.tables (λ w h. (begun_set_valid.
 
 -- the VM that a page is shared with
 abbrev right_shared : Option Sharing → ℕ
-right_shared none = 0
-right_shared (some shared) = shared.right
+right_shared None = 0
+right_shared (Some shared) = shared.right
 
 -- of a share between two members nothing is asked
 asked_share : (s s' : State) → Asked one_or_two (Private one_or_two) s s' (5 ∷ 1 ∷ 2 ∷ 0 ∷ 0 ∷ 0 ∷ 0 ∷ 0 ∷ []) (5 ∷ 1 ∷ 2 ∷ 0 ∷ 0 ∷ 0 ∷ 0 ∷ 0 ∷ [])

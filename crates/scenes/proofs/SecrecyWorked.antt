@@ -3,17 +3,16 @@
 use Prim.Native.Nat.{ℕ, zero, suc, ◌*◌, ◌<◌}
 use mathlib.Core.Bool.{Bool, true, false}
 use mathlib.Core.List.{List, [], ◌∷◌, map}
-use mathlib.Core.Option.{Option, none, some}
+use Rattle.std.specs.Prelude.{Option, None, Some}
 use mathlib.Core.Path.{◌≡◌, refl, sym, ap, ◌∙◌}
 use native.Mathlib.Omega.{arith}
 use lib.Dec.{eqb, ltb, lit<}
-use lib.ListN.{get_or, set, replicate}
+use lib.ListN.{set, replicate}
 use borrow.Author.Tests.{ltb-true}
 use Rattle.numbers.specs.CaseLaws.{none_some}
 use Rattle.numbers.specs.Limits.{VMS, PAGE_WORDS, WRITE, IDLE}
 use Rattle.numbers.specs.Packing.{entry, slot_word, map_word, filled_of}
-use Rattle.numbers.specs.declared.Answer.{Answer}
-use Rattle.numbers.specs.declared.Answer.TheVariants.{Refused}
+use Rattle.numbers.specs.Meaning.{refuse}
 use Rattle.numbers.specs.declared.Refusal.TheVariants.{VmUnknown}
 use Rattle.numbers.specs.declared.Operation.TheVariants as op
 use Rattle.numbers.specs.declared.SideOperation.TheVariants as sided
@@ -31,7 +30,7 @@ use Rattle.model.specs.Sequence.{guest_page, operation_in, step_row, Progress, a
 use Rattle.model.specs.Valid.{Valid}
 use Rattle.model.specs.Good.{holds_page, Sharing}
 use Rattle.model.specs.Access.{access_answer, access_place}
-use Rattle.model.specs.Secrecy.{PrivateTo, answer_in, sharing_in, Shared, stop, other, Near, alike, stores, Differ, Alike, Asked, Premise, StayAlike, SharesEqual}
+use Rattle.model.specs.Secrecy.{PrivateTo, answer_in, sharing_in, stop, other, Near, alike, stores, Differ, Alike, Asked, Premise, StayAlike, SharesEqual}
 use Rattle.model.proofs.Computes.{computes}
 use Rattle.model.proofs.Worked.{Line, row, ◌⟼◌, heard_in, answers, eight_pages, lent, started}
 use Rattle.model.proofs.ViewLaws.{no_edge_on}
@@ -304,7 +303,7 @@ write_row Cpu port guest word value = 23 ∷ port ∷ guest ∷ word ∷ value �
 write_row Dma port guest word value = 24 ∷ port ∷ guest ∷ word ∷ value ∷ 0 ∷ 0 ∷ 0 ∷ []
 
 -- a row that shares nothing
-pub no_share : (members : ℕ → Bool) (a b : State) (ns : List ℕ) → sharing_in (operation_in ns) ≡ none → SharesEqual members a.tables (operation_in ns) a.memory b.memory
+pub no_share : (members : ℕ → Bool) (a b : State) (ns : List ℕ) → sharing_in (operation_in ns) ≡ None → SharesEqual members a.tables (operation_in ns) a.memory b.memory
 no_share members a b ns n left right page word e = absurd (none_some (sym n ∙ e.share))
 
 -- a member on the port may write the word, and it lies in this page
@@ -326,7 +325,7 @@ itself members Secret s = record { tables = refl; size = refl; words = λ page w
 
 module _ (members : ℕ → Bool) (Secret : Tables → ℕ → Type 0) where
   -- of a row that is the same in both runs and shares nothing, nothing is asked
-  pub asked_same : (a b : State) (ns : List ℕ) → sharing_in (operation_in ns) ≡ none → Asked members Secret a b ns ns
+  pub asked_same : (a b : State) (ns : List ℕ) → sharing_in (operation_in ns) ≡ None → Asked members Secret a b ns ns
   asked_same a b ns n = record { differ = record { shape = refl; near = alike }; shares_equal = no_share members a b ns n }
 
   -- two values that a member writes to a private page, by CPU or by DMA
@@ -347,7 +346,7 @@ module _ (members : ℕ → Bool) (Secret : Tables → ℕ → Type 0) where
   asked_write side s s' port guest word page a b w private =
       record { differ = differ_write side s.tables port guest word page a b w private; shares_equal = no_share members s s' (write_row side port guest word a) (unlike side) }
     where
-      unlike : (which : Side) → sharing_in (operation_in (write_row which port guest word a)) ≡ none
+      unlike : (which : Side) → sharing_in (operation_in (write_row which port guest word a)) ≡ None
       unlike Cpu = refl
       unlike Dma = refl
 
@@ -441,8 +440,8 @@ private_late = private_to 1 1 begun.state.tables (λ w l. (begun_valid.tables.pa
 
 -- the page that is shared
 abbrev page_shared : Option Sharing → ℕ
-page_shared none = 0
-page_shared (some shared) = shared.page
+page_shared None = 0
+page_shared (Some shared) = shared.page
 
 -- of page 0 the write changes no word
 stays_late : (value word : ℕ) → word < PAGE_WORDS → word_in (step_row begun.state (write_row Cpu 0 17 0 value)).state.memory 0 word ≡ word_in begun.state.memory 0 word
@@ -463,7 +462,7 @@ late_tables : (value : ℕ) → (after (late_rows value) 2 begun).state.tables �
 late_tables value =
     ((secrecy_one 1 begun begun (late_rows value) (late_rows 0) 2 begun_valid (itself (eqb 1) (PrivateTo 1) begun.state) (asked_early value 0)).states 2 (omega arith)).tables
 
-refused_late : answer_in (after (late_rows 0) 2 begun).state.tables (operation_in (5 ∷ 1 ∷ 3 ∷ 1 ∷ 0 ∷ 0 ∷ 0 ∷ 0 ∷ [])) ≡ Refused VmUnknown 0
+refused_late : answer_in (after (late_rows 0) 2 begun).state.tables (operation_in (5 ∷ 1 ∷ 3 ∷ 1 ∷ 0 ∷ 0 ∷ 0 ∷ 0 ∷ [])) ≡ refuse VmUnknown 0
 unfolding computes
 refused_late = refl
 

@@ -2,31 +2,21 @@
 // The reader keeps no text: only the numbers so far, and what the word under way may still become.
 #![tactic(auto)]
 
-ghost use Rattle.std.specs.Prelude.{◌≡◌, true, ◌-◌, ◌<◌};
-ghost use Rattle.script.specs.Lines.{is_digit, is_blank, takes_idle, line_of};
-ghost use Rattle.script.specs.Steps.{first_part, more_digits, more_letters, lengthened, begun, said, spoilt, pushed, is_empty, is_row, opened, with_number, may_idle, with_idle, added, ended, line_from, taken, arrived, fed_with, line_start, line_end, is_spoilt, is_strange, is_bad};
+ghost use Rattle.std.specs.Prelude.{◌≡◌};
+ghost use Rattle.script.specs.Lines.{is_blank, takes_idle, line_of};
+ghost use Rattle.script.specs.Steps.{first_part, more_digits, more_letters, lengthened, said, spoilt, pushed, opened, with_number, may_idle, with_idle, added, ended, line_from, taken, arrived, fed_with, line_start, line_end, is_bad};
 
 use numbers::{IDLE, ROW_NUMBERS};
 
-// ---- Bytes and numbers that the format names.
+// ---- The letters after the first of box, unit, free and idle, the next one in the low byte.
 
-const TAB: u8 = 9;
+const OX: u64 = b'o' as u64 + b'x' as u64 * 256;
 
-const RETURN: u8 = 13;
+const NIT: u64 = b'n' as u64 + (b'i' as u64 + b't' as u64 * 256) * 256;
 
-const BLANK: u8 = 32;
+const REE: u64 = b'r' as u64 + (b'e' as u64 + b'e' as u64 * 256) * 256;
 
-const HASH: u8 = 35;
-// The largest number of 64 bits.
-const LARGEST: u64 = 18446744073709551615;
-// The letters after the first of box, unit, free and idle, the next one in the low byte.
-const OX: u64 = 111 + 120 * 256;
-
-const NIT: u64 = 110 + (105 + 116 * 256) * 256;
-
-const REE: u64 = 114 + (101 + 101 * 256) * 256;
-
-const DLE: u64 = 100 + (108 + 101 * 256) * 256;
+const DLE: u64 = b'd' as u64 + (b'l' as u64 + b'e' as u64 * 256) * 256;
 
 // ---- What a whole line says.
 #[derive(Clone, Copy)]
@@ -71,7 +61,7 @@ pub enum Word {
 }
 
 // ---- What the bytes of a word so far can become. Letters are the beginning of a known word, whose other letters are rest:
-// the next one in the low byte, 0 after the last.
+// the next one in the low byte, 0 after the last. A number and no slice: `packed` and `letters_read` speak of it.
 #[derive(Clone, Copy)]
 pub enum Part {
     Nothing,
@@ -81,7 +71,7 @@ pub enum Part {
 }
 
 // ---- What the words so far can become.
-#[derive(Clone, Copy)]
+#[derive(Clone, Copy, PartialEq, Eq)]
 pub enum Kind {
     NoWords,
     BoxLine,
@@ -91,7 +81,7 @@ pub enum Kind {
     BadLine,
 }
 
-// The words so far: count numbers, and 0 in the other places.
+// The words so far: count numbers, and 0 in the other places. No heap here, and `line_by` and `push_room` speak of both fields.
 #[derive(Clone, Copy)]
 pub struct Words {
     pub kind: Kind,
@@ -116,95 +106,52 @@ pub struct Reader {
 
 // ---- Bytes.
 
-fn is_digit(byte: u8) -> bool
-    ensures { result ≡ is_digit byte }
-{
-    if byte < b'0' {
-        return false;
-    }
-    byte <= b'9'
-}
-
-fn digit(byte: u8) -> u64
-    requires { is_digit byte ≡ true }
-    ensures { (result ≡ byte - 48) × (result < 10) }
-{
-    (byte - b'0') as u64
-}
-
 fn is_blank(byte: u8) -> bool
     ensures { result ≡ is_blank byte }
 {
-    if byte == BLANK {
-        return true;
-    }
-    byte == TAB
+    matches!(byte, b' ' | b'\t')
 }
 
 // ---- The word under way.
 
+#[tactic(auto, unfolding(crate::specs::Steps::first_part))]
 fn first_part(byte: u8) -> Part
     ensures { result ≡ first_part byte }
 {
-    if is_digit(byte) {
-        return Part::Digits(digit(byte));
-    }
-    if byte == b'b' {
-        return Part::Letters {
-            word: Word::BoxWord,
-            rest: OX,
-        };
-    }
-    if byte == b'u' {
-        return Part::Letters {
-            word: Word::UnitWord,
-            rest: NIT,
-        };
-    }
-    if byte == b'f' {
-        return Part::Letters {
-            word: Word::FreeWord,
-            rest: REE,
-        };
-    }
-    if byte == b'i' {
-        return Part::Letters {
-            word: Word::IdleWord,
-            rest: DLE,
-        };
-    }
-    Part::Strange
+    let (word, rest) = match byte {
+        b'0'..=b'9' => return Part::Digits(u64::from(byte - b'0')),
+        b'b' => (Word::BoxWord, OX),
+        b'u' => (Word::UnitWord, NIT),
+        b'f' => (Word::FreeWord, REE),
+        b'i' => (Word::IdleWord, DLE),
+        _ => return Part::Strange,
+    };
+    Part::Letters { word, rest }
 }
 
 // A number stays one while 64 bits hold it.
+#[tactic(auto, unfolding(crate::specs::Steps::more_digits))]
 fn more_digits(value: u64, byte: u8) -> Part
     ensures { result ≡ more_digits value byte }
 {
-    if is_digit(byte) {
-        let next = digit(byte);
-        if value <= (LARGEST - next) / 10 {
-            return Part::Digits(value * 10 + next);
-        }
+    if !byte.is_ascii_digit() {
         return Part::Strange;
     }
-    Part::Strange
+    let next = u64::from(byte - b'0');
+    let longer = value.checked_mul(10).and_then(|n| n.checked_add(next));
+    match longer {
+        Some(value) => Part::Digits(value),
+        None => Part::Strange,
+    }
 }
 
-fn wide(byte: u8) -> u64
-    ensures { result ≡ byte }
-{
-    byte as u64
-}
-
+#[tactic(auto, unfolding(crate::specs::Steps::more_letters))]
 fn more_letters(word: Word, rest: u64, byte: u8) -> Part
     ensures { result ≡ more_letters word rest byte }
 {
-    if rest == 0 {
-        return Part::Strange;
-    }
-    if wide(byte) == rest % 256 {
+    if rest != 0 && u64::from(byte) == rest % 256 {
         return Part::Letters {
-            word: word,
+            word,
             rest: rest / 256,
         };
     }
@@ -222,32 +169,14 @@ pub fn lengthened(part: Part, byte: u8) -> Part
     }
 }
 
-// Whether there is a word at all.
-fn begun(part: Part) -> bool
-    ensures { result ≡ begun part }
-{
-    match part {
-        Part::Nothing => false,
-        Part::Digits(_) => true,
-        Part::Letters { word: _, rest: _ } => true,
-        Part::Strange => true,
-    }
-}
-
 // What the word says if it ends here.
 fn said(part: Part) -> Word
     ensures { result ≡ said part }
 {
     match part {
-        Part::Nothing => Word::OtherWord,
         Part::Digits(value) => Word::Number(value),
-        Part::Letters { word, rest } => {
-            if rest == 0 {
-                return word;
-            }
-            Word::OtherWord
-        }
-        Part::Strange => Word::OtherWord,
+        Part::Letters { word, rest: 0 } => word,
+        _ => Word::OtherWord,
     }
 }
 
@@ -256,69 +185,37 @@ fn said(part: Part) -> Word
 fn spoilt(words: Words) -> Words
     ensures { result ≡ spoilt words }
 {
-    let numbers = words.numbers;
     Words {
         kind: Kind::BadLine,
-        count: words.count,
-        numbers: numbers,
+        ..words
     }
 }
 
 // One number more, of at most eight.
+#[tactic(auto, unfolding(crate::specs::Steps::pushed))]
 fn pushed(words: Words, kind: Kind, number: u64) -> Words
     ensures { result ≡ pushed words kind number }
 {
     let count = words.count;
-    let mut numbers = words.numbers;
     if count < ROW_NUMBERS {
+        let mut numbers = words.numbers;
         numbers[count] = number;
         return Words {
-            kind: kind,
+            kind,
             count: count + 1,
-            numbers: numbers,
+            numbers,
         };
     }
     spoilt(words)
 }
 
-fn no_words(kind: Kind) -> bool
-    ensures { result ≡ is_empty kind }
-{
-    match kind {
-        Kind::NoWords => true,
-        Kind::BoxLine => false,
-        Kind::UnitLine => false,
-        Kind::RowLine => false,
-        Kind::FreeLine => false,
-        Kind::BadLine => false,
-    }
-}
-
-fn is_row(kind: Kind) -> bool
-    ensures { result ≡ is_row kind }
-{
-    match kind {
-        Kind::NoWords => false,
-        Kind::BoxLine => false,
-        Kind::UnitLine => false,
-        Kind::RowLine => true,
-        Kind::FreeLine => false,
-        Kind::BadLine => false,
-    }
-}
-
 // A keyword stands first.
+#[tactic(auto, unfolding(crate::specs::Steps::opened))]
 fn opened(words: Words, kind: Kind) -> Words
     ensures { result ≡ opened words kind }
 {
-    let before = words.kind;
-    let numbers = words.numbers;
-    if no_words(before) {
-        return Words {
-            kind: kind,
-            count: words.count,
-            numbers: numbers,
-        };
+    if words.kind == Kind::NoWords {
+        return Words { kind, ..words };
     }
     spoilt(words)
 }
@@ -326,42 +223,28 @@ fn opened(words: Words, kind: Kind) -> Words
 fn with_number(words: Words, number: u64) -> Words
     ensures { result ≡ with_number words number }
 {
-    let kind = words.kind;
-    match kind {
+    match words.kind {
         Kind::NoWords => pushed(words, Kind::RowLine, number),
-        Kind::BoxLine => pushed(words, Kind::BoxLine, number),
-        Kind::UnitLine => pushed(words, Kind::UnitLine, number),
-        Kind::RowLine => pushed(words, Kind::RowLine, number),
-        Kind::FreeLine => spoilt(words),
-        Kind::BadLine => spoilt(words),
+        Kind::FreeLine | Kind::BadLine => spoilt(words),
+        kind => pushed(words, kind, number),
     }
 }
 
 fn takes_idle(operation: u64) -> bool
     ensures { result ≡ takes_idle operation }
 {
-    if operation == 15 {
-        return true;
-    }
-    operation == 16
+    matches!(operation, 15 | 16)
 }
 
 // Only operations 15 and 16 take idle, and only as the second number after the operation.
+#[tactic(auto, unfolding(crate::specs::Steps::may_idle))]
 fn may_idle(words: Words) -> bool
     ensures { result ≡ may_idle words }
 {
-    let kind = words.kind;
-    let count = words.count;
-    let operation = words.numbers[0];
-    if is_row(kind) {
-        if count == 2 {
-            return takes_idle(operation);
-        }
-        return false;
-    }
-    false
+    words.kind == Kind::RowLine && words.count == 2 && takes_idle(words.numbers[0])
 }
 
+#[tactic(auto, unfolding(crate::specs::Steps::with_idle))]
 fn with_idle(words: Words) -> Words
     ensures { result ≡ with_idle words }
 {
@@ -385,100 +268,82 @@ fn added(words: Words, word: Word) -> Words
 }
 
 // The word under way, if there is one, ends.
-fn ended(words: Words, part: Part) -> Words
-    ensures { result ≡ ended words part }
+#[tactic(auto, unfolding(crate::specs::Steps::ended))]
+fn ended(text: Text) -> Words
+    ensures { result ≡ ended text.words text.part }
 {
-    if begun(part) {
-        return added(words, said(part));
+    match text.part {
+        Part::Nothing => text.words,
+        part => added(text.words, said(part)),
     }
-    words
 }
 
 fn line_from(words: Words) -> Line
     ensures { result ≡ line_from words }
 {
-    let kind = words.kind;
-    let count = words.count;
-    let n = words.numbers;
-    match kind {
+    match words.kind {
         Kind::NoWords => Line::Blank,
-        Kind::BoxLine => {
-            if count == 3 {
-                return Line::Box {
-                    pages: n[0],
-                    base: n[1],
-                    count: n[2],
-                };
-            }
-            Line::Unreadable
+        Kind::BoxLine if words.count == 3 => {
+            let [pages, base, count, ..] = words.numbers;
+            Line::Box { pages, base, count }
         }
-        Kind::UnitLine => {
-            if count == 6 {
-                return Line::Unit {
-                    vm: n[0],
-                    guest: n[1],
-                    page: n[2],
-                    count: n[3],
-                    access: n[4],
-                    mark: n[5],
-                };
+        Kind::UnitLine if words.count == 6 => {
+            let [vm, guest, page, count, access, mark, ..] = words.numbers;
+            Line::Unit {
+                vm,
+                guest,
+                page,
+                count,
+                access,
+                mark,
             }
-            Line::Unreadable
         }
-        Kind::RowLine => Line::Row {
-            operation: n[0],
-            a: n[1],
-            b: n[2],
-            c: n[3],
-            d: n[4],
-            e: n[5],
-            f: n[6],
-            g: n[7],
-        },
+        Kind::RowLine => {
+            let [operation, a, b, c, d, e, f, g] = words.numbers;
+            Line::Row {
+                operation,
+                a,
+                b,
+                c,
+                d,
+                e,
+                f,
+                g,
+            }
+        }
         Kind::FreeLine => Line::Free,
-        Kind::BadLine => Line::Unreadable,
+        _ => Line::Unreadable,
     }
 }
 
 // ---- Bytes of the text, and of the line.
 
+#[tactic(auto, unfolding(crate::specs::Steps::taken))]
 fn taken(text: Text, byte: u8) -> Text
     ensures { result ≡ taken text byte }
 {
-    let words = text.words;
-    let part = text.part;
     if text.comment {
         return text;
     }
-    if byte == HASH {
+    if byte == b'#' || is_blank(byte) {
         return Text {
-            words: ended(words, part),
+            words: ended(text),
             part: Part::Nothing,
-            comment: true,
-        };
-    }
-    if is_blank(byte) {
-        return Text {
-            words: ended(words, part),
-            part: Part::Nothing,
-            comment: false,
+            comment: byte == b'#',
         };
     }
     Text {
-        words: words,
-        part: lengthened(part, byte),
-        comment: false,
+        part: lengthened(text.part, byte),
+        ..text
     }
 }
 
+#[tactic(auto, unfolding(crate::specs::Steps::arrived))]
 fn arrived(text: Text, byte: u8) -> Reader
     ensures { result ≡ arrived text byte }
 {
-    if byte == RETURN {
-        return Reader {
-            text: text,
-            cr: true,
-        };
+    if byte == b'\r' {
+        return Reader { text, cr: true };
     }
     Reader {
         text: taken(text, byte),
@@ -505,38 +370,14 @@ pub fn line_start() -> Reader
 }
 
 // One byte more, other than the LF that ends the line.
+#[tactic(auto, unfolding(crate::specs::Steps::fed_with))]
 pub fn feed(reader: Reader, byte: u8) -> Reader
     ensures { result ≡ fed_with reader byte }
 {
-    let text = reader.text;
     if reader.cr {
-        return arrived(taken(text, RETURN), byte);
+        return arrived(taken(reader.text, b'\r'), byte);
     }
-    arrived(text, byte)
-}
-
-fn is_spoilt(kind: Kind) -> bool
-    ensures { result ≡ is_spoilt kind }
-{
-    match kind {
-        Kind::NoWords => false,
-        Kind::BoxLine => false,
-        Kind::UnitLine => false,
-        Kind::RowLine => false,
-        Kind::FreeLine => false,
-        Kind::BadLine => true,
-    }
-}
-
-fn is_strange(part: Part) -> bool
-    ensures { result ≡ is_strange part }
-{
-    match part {
-        Part::Nothing => false,
-        Part::Digits(_) => false,
-        Part::Letters { word: _, rest: _ } => false,
-        Part::Strange => true,
-    }
+    arrived(reader.text, byte)
 }
 
 // Whether a byte came with which the line cannot be understood, however it goes on.
@@ -544,34 +385,25 @@ pub fn is_bad(reader: Reader) -> bool
     ensures { result ≡ is_bad reader }
 {
     let text = reader.text;
-    let words = text.words;
-    let kind = words.kind;
-    let part = text.part;
-    if is_spoilt(kind) {
-        return true;
-    }
-    is_strange(part)
+    text.words.kind == Kind::BadLine || matches!(text.part, Part::Strange)
 }
 
 // What the line says, now that it ends.
+#[tactic(auto, unfolding(crate::specs::Steps::text_end))]
 pub fn line_end(reader: Reader) -> Line
     ensures { result ≡ line_end reader }
 {
-    let text = reader.text;
-    let words = text.words;
-    let part = text.part;
-    line_from(ended(words, part))
+    line_from(ended(reader.text))
 }
 
 // A whole line, without its LF.
+#[tactic(auto, using(crate::specs::LineLaws::read_end))]
 pub fn read_line(bytes: &[u8]) -> Line
     ensures { result ≡ line_of bytes.now }
 {
     let mut reader = line_start();
-    let mut i = 0;
-    while i < bytes.len() {
-        reader = feed(reader, bytes[i]);
-        i += 1;
+    for &byte in bytes {
+        reader = feed(reader, byte);
     }
     line_end(reader)
 }

@@ -2,16 +2,15 @@
 use Rattle.std.specs.Prelude.{ℕ, ◌*◌, ◌/◌, ◌%◌, not, List, eqb, leb}
 use Rattle.std.specs.Prelude.{if◌then◌else◌}
 use Rattle.numbers.specs.Limits.{ROW_NUMBERS, ANSWER_NUMBERS}
-use Rattle.numbers.specs.declared.Answer.{Answer}
+use Rattle.numbers.specs.Meaning.{Answer}
 use Rattle.numbers.specs.declared.Refusal.TheVariants.{OutOfRange}
 use Rattle.model.specs.Effect.{accepted, refused}
-use Rattle.model.specs.Header.{state_of}
+use Rattle.model.specs.Header.{Lists, state_of}
 use Rattle.model.specs.Sequence.{Progress, Sequenced}
 use Rattle.model.specs.declared.Machine.{Machine}
 
-abbrev pub progress : Machine → List ℕ → List ℕ → List ℕ → List ℕ → List ℕ → List ℕ → List ℕ → List ℕ → List ℕ → List ℕ → Progress
-progress m sets pairs cpu_map cpu_walker cpu_cache dma_map dma_walker dma_cache memory room =
-    record { state = state_of m sets pairs cpu_map cpu_walker cpu_cache dma_map dma_walker dma_cache memory; room = room }
+abbrev pub progress : Machine → Lists → List ℕ → Progress
+progress m l room = record { state = state_of m l; room = room }
 
 abbrev pub ran : Answer → Progress → Sequenced
 ran answer p = record { answer = answer; progress = p }

@@ -1,25 +1,22 @@
 -- What holds after some rows of a sequence: where it stands, and that no list has changed its length.
-use Rattle.std.specs.Prelude.{ℕ, ◌+◌, ◌*◌, ◌/◌, ◌%◌, ◌≤◌, ◌<◌, not, List, ◌≡◌, refl, eqb, leb, length}
-use Rattle.std.proofs.Math.Option.{Option, none, some}
+use Rattle.std.specs.Prelude.{ℕ, ◌+◌, ◌*◌, ◌/◌, ◌%◌, ◌≤◌, ◌<◌, not, List, ◌≡◌, refl, eqb, leb, length, Option, None, Some}
 use Rattle.std.proofs.Math.Path.{sym}
 use Rattle.std.proofs.Common.{ap, ◌∙◌, leb-true}
 use Rattle.std.proofs.lemmas.Bool.{not-false}
 use Rattle.numbers.specs.Limits.{ROW_NUMBERS, ANSWER_NUMBERS}
-use Rattle.numbers.specs.Meaning.{answer_numbers}
+use Rattle.numbers.specs.Meaning.{answer_numbers, Answer, accept, refuse}
 use Rattle.numbers.specs.declared.Operation.{Operation}
 use Rattle.table.specs.Loops.{Repeating, repeat_start, repeat_next, repeat_end}
+use Rattle.std.specs.Borrow.{MutBor}
+use Rattle.model.specs.Header.{Same}
 use Rattle.model.specs.State.{State, Tables, Route}
+use Rattle.model.specs.declared.Lent.{Lent}
 use Rattle.model.specs.declared.Fixed.{Fixed}
 use Rattle.operate.specs.Fit.{Fit}
-use Rattle.numbers.specs.declared.Answer.{Answer}
-use Rattle.numbers.specs.declared.Answer.TheVariants.{Accepted, Refused}
 use Rattle.numbers.specs.declared.Refusal.{Refusal}
 use Rattle.numbers.specs.declared.Refusal.TheVariants.{OutOfRange}
 use Rattle.model.specs.Effect.{refused}
 use Rattle.model.specs.Step.{Stepped, step}
-use Rattle.rows.specs.Decoded.{known}
-use Rattle.rows.specs.declared.Decoded.{Decoded}
-use Rattle.rows.specs.declared.Decoded.TheVariants.{Known, Unknown}
 use Rattle.model.specs.Sequence.{Progress, turn, after, step_row, step_known, operation_in, row_at, recorded, shape_answer, sequence}
 use Rattle.model.specs.WriteLaws.{length-written}
 use Rattle.model.specs.EarlyLaws.{past}
@@ -48,8 +45,8 @@ same_sizes s =
     }
 
 pub row_sizes : (s : State) (o : Option Operation) → SameSizes s (step_known s o).state
-row_sizes s none = same_sizes s
-row_sizes s (some operation) = step_sizes s operation
+row_sizes s None = same_sizes s
+row_sizes s (Some operation) = step_sizes s operation
 
 turn_sizes : (rows : List ℕ) (k : ℕ) (p : Progress) → SameSizes p.state (turn rows k p).state
 unfolding step_row
@@ -57,6 +54,10 @@ turn_sizes rows k p = row_sizes p.state (operation_in (row_at rows k))
 
 turn_room : (rows : List ℕ) (k : ℕ) (p : Progress) → length (turn rows k p).room ≡ length p.room
 turn_room rows k p = length-written p.room (k * ANSWER_NUMBERS) (answer_numbers (step_row p.state (row_at rows k)).answer)
+
+-- ---- the slices that were lent are lent on
+pub same_join : (a b c : Lent (MutBor (List ℕ))) → Same a b → Same b c → Same a c
+same_join a b c p q = (q.0 ∙ p.0, q.1 ∙ p.1, q.2 ∙ p.2, q.3 ∙ p.3, q.4 ∙ p.4, q.5 ∙ p.5, q.6 ∙ p.6, q.7 ∙ p.7, q.8 ∙ p.8)
 
 -- ---- after k of n rows
 pub record Running (rows : List ℕ) (n : ℕ) (start now : Progress) (k : ℕ) : Type 0 where
@@ -81,27 +82,27 @@ module _ (rows : List ℕ) (n : ℕ) (start : Progress) where
   run_end now k r h = repeat_end (turn rows) n start now k r.steps h
 
 -- ---- one row, from what decoding it and carrying it out gave
-pub row_done : (s : State) (row : List ℕ) (d : Decoded) (operation : Operation) (r : Stepped) → known d ≡ operation_in row → d ≡ Known operation → r ≡ step s operation → r ≡ step_row s row
+pub row_done : (s : State) (row : List ℕ) (decoded : Option Operation) (operation : Operation) (r : Stepped) → decoded ≡ operation_in row → decoded ≡ Some operation → r ≡ step s operation → r ≡ step_row s row
 unfolding step_row
-row_done s row d operation r e f g =
-    let o : operation_in row ≡ some operation = sym e ∙ ap known f in
+row_done s row decoded operation r e f g =
+    let o : operation_in row ≡ Some operation = sym e ∙ f in
     rw (o, g)
 
-pub row_unknown : (s : State) (row : List ℕ) (d : Decoded) → known d ≡ operation_in row → d ≡ Unknown → record { answer = refused OutOfRange; state = s } ≡ step_row s row
+pub row_unknown : (s : State) (row : List ℕ) (decoded : Option Operation) → decoded ≡ operation_in row → decoded ≡ None → record { answer = refused OutOfRange; state = s } ≡ step_row s row
 unfolding step_row
-row_unknown s row d e f =
-    let o : operation_in row ≡ none = sym e ∙ ap known f in
+row_unknown s row decoded e f =
+    let o : operation_in row ≡ None = sym e ∙ f in
     rw o
 
 pub turn_done :
-    (rows : List ℕ) (k : ℕ) (p : Progress) (d : Decoded) (operation : Operation) (r : Stepped) →
-    known d ≡ operation_in (row_at rows k) → d ≡ Known operation → r ≡ step p.state operation → recorded r k p.room ≡ turn rows k p
-turn_done rows k p d operation r e f g = ap (λ (x : Stepped). recorded x k p.room) (row_done p.state (row_at rows k) d operation r e f g)
+    (rows : List ℕ) (k : ℕ) (p : Progress) (decoded : Option Operation) (operation : Operation) (r : Stepped) →
+    decoded ≡ operation_in (row_at rows k) → decoded ≡ Some operation → r ≡ step p.state operation → recorded r k p.room ≡ turn rows k p
+turn_done rows k p decoded operation r e f g = ap (λ (x : Stepped). recorded x k p.room) (row_done p.state (row_at rows k) decoded operation r e f g)
 
 pub turn_unknown :
-    (rows : List ℕ) (k : ℕ) (p : Progress) (d : Decoded) →
-    known d ≡ operation_in (row_at rows k) → d ≡ Unknown → recorded (record { answer = refused OutOfRange; state = p.state }) k p.room ≡ turn rows k p
-turn_unknown rows k p d e f = ap (λ (x : Stepped). recorded x k p.room) (row_unknown p.state (row_at rows k) d e f)
+    (rows : List ℕ) (k : ℕ) (p : Progress) (decoded : Option Operation) →
+    decoded ≡ operation_in (row_at rows k) → decoded ≡ None → recorded (record { answer = refused OutOfRange; state = p.state }) k p.room ≡ turn rows k p
+turn_unknown rows k p decoded e f = ap (λ (x : Stepped). recorded x k p.room) (row_unknown p.state (row_at rows k) decoded e f)
 
 -- ---- what the joined operation asks for still holds
 pub fit_kept :
@@ -112,19 +113,19 @@ fit_kept fixed sets memory sets' memory' f l n =
     record { sized = record { few_pages = s.few_pages; sets_length = l ∙ s.sets_length; memory_length = n ∙ s.memory_length }; few_units = f.few_units }
 
 -- ---- the whole sequence, from what its shape said
-pub shape_room : (rows room : ℕ) (a : Answer) {dropped word : ℕ} → a ≡ shape_of rows room → a ≡ Accepted dropped word → rows / ROW_NUMBERS * ANSWER_NUMBERS ≤ room
+pub shape_room : (rows room : ℕ) (a : Answer) {dropped word : ℕ} → a ≡ shape_of rows room → a ≡ accept dropped word → rows / ROW_NUMBERS * ANSWER_NUMBERS ≤ room
 shape_room rows room a e f =
     let b = past (not (eqb (rows % ROW_NUMBERS) 0)) _ _ _ (sym e ∙ f) in
     let c = past (not (leb (rows / ROW_NUMBERS * ANSWER_NUMBERS) room)) _ _ _ b.1 in
     leb-true _ _ (not-false _ c.0)
 
 module _ (s : State) (rows room : List ℕ) (a : Answer) (e : a ≡ shape_of (length rows) (length room)) where
-  pub sequence_refused_lem : {refusal : Refusal} {index : ℕ} → a ≡ Refused refusal index → ran (Refused refusal index) (record { state = s; room = room }) ≡ sequence s rows room
+  pub sequence_refused_lem : {refusal : Refusal} {index : ℕ} → a ≡ refuse refusal index → ran (refuse refusal index) (record { state = s; room = room }) ≡ sequence s rows room
   unfolding sequence shape_answer
-  sequence_refused_lem {refusal} {index} f = let g : shape_of (length rows) (length room) ≡ Refused refusal index = sym e ∙ f in rw g
+  sequence_refused_lem {refusal} {index} f = let g : shape_of (length rows) (length room) ≡ refuse refusal index = sym e ∙ f in rw g
 
-  pub sequence_done : {dropped word : ℕ} (p : Progress) → a ≡ Accepted dropped word → p ≡ after rows (length rows / ROW_NUMBERS) (record { state = s; room = room }) → ran a p ≡ sequence s rows room
+  pub sequence_done : {dropped word : ℕ} (p : Progress) → a ≡ accept dropped word → p ≡ after rows (length rows / ROW_NUMBERS) (record { state = s; room = room }) → ran a p ≡ sequence s rows room
   unfolding sequence shape_answer
   sequence_done {dropped} {word} p f g =
-      let h : shape_of (length rows) (length room) ≡ Accepted dropped word = sym e ∙ f in
+      let h : shape_of (length rows) (length room) ≡ accept dropped word = sym e ∙ f in
       rw (f, h, g)

@@ -1,13 +1,11 @@
 -- What each operation of a side leaves, list by list: a list that an accepted operation replaces is `kept` by a refused one.
-use Rattle.std.specs.Prelude.{ℕ, Bool, List, [], ◌∷◌, ◌≡◌}
+use Rattle.std.specs.Prelude.{ℕ, Bool, List, [], ◌∷◌, ◌≡◌, Ok, Err, Option}
 use Rattle.std.proofs.Math.Path.{refl}
 use Rattle.numbers.specs.Limits.{READ, WRITE}
-use Rattle.numbers.specs.declared.Answer.{Answer}
-use Rattle.numbers.specs.declared.Answer.TheVariants.{Accepted, Refused}
+use Rattle.numbers.specs.Meaning.{Answer}
 use Rattle.numbers.specs.declared.Region.{Region}
 use Rattle.numbers.specs.declared.Side.{Side}
 use Rattle.numbers.specs.declared.SideOperation.TheVariants.{MapPage, UnmapPage, InsertRegion, RemoveRegion, GivePort, FillSlot, EmptySlot, ReadWord, WriteWord}
-use Rattle.numbers.specs.declared.Target.{Target}
 use Rattle.numbers.specs.declared.VmId.{VmId}
 use Rattle.numbers.specs.declared.GuestPage.{GuestPage}
 use Rattle.numbers.specs.declared.PhysPage.{PhysPage}
@@ -37,8 +35,8 @@ module _ (sets map walker cache : List ℕ) (hand : ℕ) (ports memory : List �
       side_stepped a (sight sets (kept a map map') (kept a walker walker') (kept a cache cache') hand ports memory)
       ≡ side_decided before a sets (with_maps before.route map' walker' cache') quiet
   unfolding apply cleared_pages
-  maps_change (Accepted dropped word) map' walker' cache' = refl
-  maps_change (Refused refusal index) map' walker' cache' = refl
+  maps_change (Ok ok) map' walker' cache' = refl
+  maps_change (Err err) map' walker' cache' = refl
 
   -- an accepted insertion keeps the cache as well
   insert_change :
@@ -46,47 +44,47 @@ module _ (sets map walker cache : List ℕ) (hand : ℕ) (ports memory : List �
       side_stepped a (sight (kept a sets sets') (kept a map map') (kept a walker walker') cache hand ports memory)
       ≡ side_decided before a sets' (with_maps before.route map' walker' cache) quiet
   unfolding apply cleared_pages
-  insert_change (Accepted dropped word) sets' map' walker' = refl
-  insert_change (Refused refusal index) sets' map' walker' = refl
+  insert_change (Ok ok) sets' map' walker' = refl
+  insert_change (Err err) sets' map' walker' = refl
 
   remove_change :
       (a : Answer) (sets' map' walker' cache' pages : List ℕ) →
       side_stepped a (sight (kept a sets sets') (kept a map map') (kept a walker walker') (kept a cache cache') hand ports (apply (kept a quiet (clears pages)) memory))
       ≡ side_decided before a sets' (with_maps before.route map' walker' cache') (clears pages)
-  remove_change (Accepted dropped word) sets' map' walker' cache' pages = refl
-  remove_change (Refused refusal index) sets' map' walker' cache' pages = refl
+  remove_change (Ok ok) sets' map' walker' cache' pages = refl
+  remove_change (Err err) sets' map' walker' cache' pages = refl
 
   ports_change : (a : Answer) (ports' : List ℕ) → side_stepped a (sight sets map walker cache hand (kept a ports ports') memory) ≡ side_decided before a sets (with_ports before.route ports') quiet
   unfolding apply cleared_pages
-  ports_change (Accepted dropped word) ports' = refl
-  ports_change (Refused refusal index) ports' = refl
+  ports_change (Ok ok) ports' = refl
+  ports_change (Err err) ports' = refl
 
   fill_change :
       (a : Answer) (cache' : List ℕ) (hand' : ℕ) →
       side_stepped a (sight sets map walker (kept a cache cache') (kept a hand hand') ports memory) ≡ side_decided before a sets (with_cache before.route cache' hand') quiet
   unfolding apply cleared_pages
-  fill_change (Accepted dropped word) cache' hand' = refl
-  fill_change (Refused refusal index) cache' hand' = refl
+  fill_change (Ok ok) cache' hand' = refl
+  fill_change (Err err) cache' hand' = refl
 
   -- a hand that stays
   empty_change : (a : Answer) (cache' : List ℕ) → side_stepped a (sight sets map walker (kept a cache cache') hand ports memory) ≡ side_decided before a sets (with_cache before.route cache' hand) quiet
   unfolding apply cleared_pages
-  empty_change (Accepted dropped word) cache' = refl
-  empty_change (Refused refusal index) cache' = refl
+  empty_change (Ok ok) cache' = refl
+  empty_change (Err err) cache' = refl
 
   -- an access changes no table
   read_change :
       (a : Answer) (vm : ℕ) (places : List Place) →
       side_stepped (answer_with (kept a quiet (reads vm places)) memory a) before ≡ side_decided before a sets before.route (reads vm places)
   unfolding apply cleared_pages
-  read_change (Accepted dropped word) vm places = refl
-  read_change (Refused refusal index) vm places = refl
+  read_change (Ok ok) vm places = refl
+  read_change (Err err) vm places = refl
 
   write_change :
       (a : Answer) (vm : ℕ) (stores : List Store) →
       side_stepped a (sight sets map walker cache hand ports (apply (kept a quiet (writes vm stores)) memory)) ≡ side_decided before a sets before.route (writes vm stores)
-  write_change (Accepted dropped word) vm stores = refl
-  write_change (Refused refusal index) vm stores = refl
+  write_change (Ok ok) vm stores = refl
+  write_change (Err err) vm stores = refl
 
   -- ---- each operation
   module _ (side : Side) (pages : ℕ) (unit : Bool) (known : ℕ) (pairs : List ℕ) where
@@ -119,7 +117,7 @@ module _ (sets map walker cache : List ℕ) (hand : ℕ) (ports memory : List �
     remove_arm region = remove_change _ _ _ _ _ _
 
     pub give_arm :
-        (port : ℕ) (target : Target) → let a = port_answer known port target in
+        (port : ℕ) (target : Option VmId) → let a = port_answer known port target in
         side_stepped a (sight sets map walker cache hand (kept a ports (port_ports ports port target)) memory) ≡ side_step side pages unit known pairs before (GivePort port target)
     unfolding side_step
     give_arm port target = ports_change _ _

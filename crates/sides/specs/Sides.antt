@@ -1,7 +1,7 @@
 -- A step over the tables of one side, in the model's words for an operation of a side.
 use Rattle.std.specs.Prelude.{ℕ, ◌*◌, ◌≤◌, Bool, List, ◌≡◌, length}
 use Rattle.numbers.specs.Limits.{PAGES, PAGE_WORDS, SETS, SET_WORDS}
-use Rattle.numbers.specs.declared.Answer.{Answer}
+use Rattle.numbers.specs.Meaning.{Answer}
 use Rattle.numbers.specs.declared.Side.{Side}
 use Rattle.numbers.specs.declared.SideOperation.{SideOperation}
 use Rattle.model.specs.State.{Route}

@@ -1,8 +1,9 @@
 -- What a search answers, and how the calls over words are those over slots.
-use Rattle.std.specs.Prelude.{ℕ, zero, suc, ◌+◌, ◌^◌, ◌<◌, ◌≤◌, Bool, false, ◌&&◌, List, map, ◌≡◌, refl, eqb, ltb, length, get_or, set}
-use Rattle.std.proofs.Math.Bool.{true}
-use Rattle.std.proofs.Common.{true≢false, ◌∙◌, length-set, get_or-set_same, get_or-set_other, ext_get_or, ltb-true, eqb-true}
+use Rattle.std.specs.Prelude.{ℕ, zero, suc, ◌+◌, ◌^◌, ◌<◌, ◌≤◌, Bool, true, false, ◌&&◌, List, map, ◌≡◌, refl, eqb, ltb, length, get_or, set, Option, Some, None, Result, Ok, Err}
+use Rattle.std.proofs.Common.{true≢false, ◌∙◌, length-set, get_or-set_same, get_or-set_other, ext_get_or, ltb-true, ltb-false, lt-ltb, eqb-true, ne_eqb}
 use Rattle.std.proofs.Math.Logic.{⊎_elim}
+use Rattle.std.specs.Option.{unwrap_or}
+use Rattle.std.specs.Result.{is_ok}
 use Rattle.std.proofs.Math.Path.{sym, ap}
 use native.Mathlib.Omega.{arith}
 use Rattle.std.proofs.lemmas.List.{length-map, get_or-replicate}
@@ -12,19 +13,20 @@ use Rattle.numbers.specs.Decides.{Decides}
 use Rattle.numbers.specs.DecidesLaws.{decides_as, decides_and, decides_equal, decides_less, refutes}
 use Rattle.numbers.specs.Limits.{SLOTS, PORTS, VMS, GUEST_PAGES, PAGES, ACCESSES, GENERATIONS}
 use Rattle.numbers.specs.Meaning.{refusal_number}
+use Rattle.numbers.specs.MeaningLaws.{refusal_above}
 use Rattle.numbers.specs.Packing.{PORT_FIELD, VM_FIELD, GUEST_FIELD, entry, slot_word, slot_key, port_of, vm_of, guest_of, entry_of, filled_of, key_of, WordFits}
 use Rattle.numbers.specs.PackingLaws.{word_port, word_filled, word_key, word_whole, key_whole, key_vm, key_guest, parts_fit}
+use Rattle.numbers.specs.declared.Refusal.{Refusal}
 use Rattle.numbers.specs.declared.Refusal.TheVariants.{StateNotValid, OutOfRange}
 use Rattle.table.specs.Scan.{lowest, lowest_from}
 use Rattle.numbers.specs.CaseLaws.{cases, equal}
 use Rattle.table.specs.ScanLaws.{lowest_within, lowest_found, lowest_none}
 use Rattle.table.specs.Table.{find}
 use Rattle.table.specs.TableLaws.{find_at, find_none}
-use Rattle.table.specs.declared.Found.TheVariants.{At, Nothing}
 use Rattle.pages.specs.BitLaws.{below_or}
 use Rattle.model.specs.EarlyLaws.{both}
 use Rattle.model.specs.Views.{is_vm, is_guest, is_access, is_generation, is_port, is_slot, is_page}
-use Rattle.slots.specs.Calls.{holds, find_slot, HoldsAt, Searched, lowest_held, none_held, Change, change, change_at, fill_in_range, fill_slot, fill_word, empty_slot, empty_word}
+use Rattle.slots.specs.Calls.{holds, find_slot, found, HoldsAt, Searched, lowest_held, none_held, Change, change, change_number, change_at, fill_in_range, fill_slot, fill_word, empty_slot, empty_word}
 use Rattle.slots.specs.SlotLaws.{slot_of_word, turns_there, length-laid, word_laid, stored_whole, stored_none}
 use Rattle.slots.specs.Slots.{word_of, slot_of, empty, turns_of, Fitting, laid, loaded, stored}
 use Rattle.slots.specs.declared.Slot.{Slot}
@@ -91,6 +93,20 @@ module _ (slots : List Slot) (port vm guest : ℕ) where
   searched_find r (lowest_held l h b) = lowest_is test SLOTS r l ((tells r).complete h) (λ k g. fails k (b k g))
   searched_find r (none_held e n) = e ∙ sym (lowest_lacks test SLOTS (λ k h. fails k (n k h)))
 
+-- ---- the place that a search answers
+pub found_within : (i : ℕ) → i < SLOTS → found i ≡ Some i
+found_within i h = rw (lt-ltb i SLOTS h)
+
+pub find_within : (slots : List Slot) (port vm guest : ℕ) → find_slot slots port vm guest ≤ SLOTS
+unfolding find_slot
+find_within slots port vm guest = lowest_within (λ i. holds port vm guest (get_or slots i empty)) SLOTS
+
+-- what was found, and SLOTS where nothing was, is what the search answers
+pub found_or : (slots : List Slot) (port vm guest : ℕ) → unwrap_or (found (find_slot slots port vm guest)) SLOTS ≡ find_slot slots port vm guest
+found_or slots port vm guest =
+    let r = find_slot slots port vm guest in
+    ⊎_elim (λ t. rw t) (λ f. rw f (omega (arith, ltb-false r SLOTS f, find_within slots port vm guest))) (cases (ltb r SLOTS))
+
 -- ---- the search over words, by their keys
 -- numbers that fit the fields of a slot
 abbrev pub InFields : ℕ → ℕ → ℕ → Type 0
@@ -144,17 +160,27 @@ module _ (ws : List ℕ) (port vm guest : ℕ) where
         }
 
     module _ (n : length ws ≡ SLOTS) where
-      pub key_found : (i : ℕ) → find key_of ws (slot_key port vm guest) ≡ At i → i ≡ find_slot (map slot_of ws) port vm guest
+      pub key_found : (i : ℕ) → find key_of ws (slot_key port vm guest) ≡ Some i → i ≡ find_slot (map slot_of ws) port vm guest
       key_found i e =
           let f = find_at key_of ws (slot_key port vm guest) i e in
           searched_find (map slot_of ws) port vm guest i
           (lowest_held (omega (arith, f.within)) (key_holds i f.within (eqb-true _ _ f.passes))
           (λ k l h. eqb-false _ _ (f.before k l) (holds_key k h)))
 
-      pub key_nowhere : find key_of ws (slot_key port vm guest) ≡ Nothing → SLOTS ≡ find_slot (map slot_of ws) port vm guest
+      pub key_nowhere : find key_of ws (slot_key port vm guest) ≡ None → SLOTS ≡ find_slot (map slot_of ws) port vm guest
       key_nowhere e =
           searched_find (map slot_of ws) port vm guest SLOTS
           (none_held refl (λ k l h. find_none key_of ws (slot_key port vm guest) e k (omega arith) (holds_key k h)))
+
+      -- found by its key or nowhere, a word's slot is what the search answers
+      pub key_searched : find key_of ws (slot_key port vm guest) ≡ found (find_slot (map slot_of ws) port vm guest)
+      key_searched = searched _ refl
+        where
+          searched : (o : Option ℕ) → find key_of ws (slot_key port vm guest) ≡ o → o ≡ found (find_slot (map slot_of ws) port vm guest)
+          searched (Some i) e =
+              let f = find_at key_of ws (slot_key port vm guest) i e in
+              sym (found_within i (omega (arith, f.within))) ∙ ap found (key_found i e)
+          searched None e = ap found (key_nowhere e)
 
 -- ---- slots that were loaded are those of the words
 laid_beyond : (slots : List Slot) (k i : ℕ) → k ≤ i → i < SLOTS → get_or (laid slots k) i 0 ≡ 0
@@ -182,7 +208,7 @@ module _ (slots : List Slot) (wanted : ℕ) (there : length slots ≡ wanted) (f
       (λ k h. ap (holds port vm guest) (slot_at (loaded wanted slots) port vm guest k ∙ loaded_slot k h)))
 
 -- one word of a whole cache, set and stored, sets its slot
-stored_set : (slots : List Slot) → length slots ≡ SLOTS → Fitting SLOTS slots → (place w : ℕ) → stored 0 (set (loaded SLOTS slots) place w) slots ≡ set slots place (slot_of w)
+stored_set : (slots : List Slot) → length slots ≡ SLOTS → Fitting SLOTS slots → (place w : ℕ) → stored true (set (loaded SLOTS slots) place w) slots ≡ set slots place (slot_of w)
 stored_set slots n fit place w =
     stored_whole ws slots m n ∙ ext_get_or empty (map slot_of ws) (set slots place (slot_of w)) (all ∙ sym (length-set slots place (slot_of w) ∙ n)) (λ i h. get_or-map slot_of ws i 0 ∙ word i (omega (arith, h, all)))
   where
@@ -218,8 +244,13 @@ fill_numbers place port vm guest page access generation r =
     let f = both (is_slot place) (is_port port) e.0 in
     (ltb-true _ _ f.0, ltb-true _ _ f.1, ltb-true _ _ e.1, ltb-true _ _ d.1, ltb-true _ _ c.1, ltb-true _ _ b.1, ltb-true _ _ a.1)
 
+-- ---- what is accepted has the number 0
+pub accepted_number : {A : Type 0} → (answer : Result A Refusal) → is_ok answer ≡ eqb (change_number answer) 0
+accepted_number (Ok done) = refl
+accepted_number (Err refusal) = sym (ne_eqb (refusal_number refusal) 0 (λ e. omega (arith, refusal_above refusal, e)))
+
 -- ---- a change of one word is a change of its slot, and a refusal stores nothing
-module _ (slots : List Slot) (ws : List ℕ) (c : (ws ≡ loaded SLOTS slots) × Fitting SLOTS slots) (number : ℕ) (left : List ℕ) (after : List Slot) (s : after ≡ stored number left slots) where
+module _ (slots : List Slot) (ws : List ℕ) (c : (ws ≡ loaded SLOTS slots) × Fitting SLOTS slots) (number : ℕ) (left : List ℕ) (after : List Slot) (s : after ≡ stored (eqb number 0) left slots) where
   refused_slots : (k : ℕ) → 0 < k → change number left ≡ change k ws → change number after ≡ change k slots
   refused_slots k h e =
       let a : number ≡ k = ap (λ (d : Change ℕ). d.number) e in
@@ -230,7 +261,7 @@ module _ (slots : List Slot) (ws : List ℕ) (c : (ws ≡ loaded SLOTS slots) ×
   accepted_slots n place w e =
       let a : number ≡ 0 = ap (λ (d : Change ℕ). d.number) e in
       let b : left ≡ set (loaded SLOTS slots) place w = ap (λ (d : Change ℕ). d.left) e ∙ ap (λ (l : List ℕ). set l place w) c.0 in
-      let z : after ≡ set slots place (slot_of w) = s ∙ (λ i. stored (a i) (b i) slots) ∙ stored_set slots n c.1 place w in
+      let z : after ≡ set slots place (slot_of w) = s ∙ (λ i. stored (eqb (a i) 0) (b i) slots) ∙ stored_set slots n c.1 place w in
       λ i. change (a i) (z i)
 
   changed_slots : (in_range : Bool) (place w : ℕ) (slot : Slot) → (in_range ≡ true → slot_of w ≡ slot)

@@ -1,9 +1,10 @@
 -- What the functions over one cache give, as include/tiligormis.h says it: a slot searched, filled, emptied.
-use Rattle.std.specs.Prelude.{ℕ, ◌<◌, Bool, not, ◌&&◌, List, ◌≡◌, eqb, length, get_or, set}
+use Rattle.std.specs.Prelude.{ℕ, ◌<◌, Bool, not, ◌&&◌, List, ◌≡◌, eqb, ltb, length, get_or, set, Option, Some, None, Result, Ok, Err}
 use Rattle.std.specs.Prelude.{if◌then◌else◌}
 use Rattle.numbers.specs.Limits.{SLOTS, PAGES}
 use Rattle.numbers.specs.Meaning.{refusal_number}
 use Rattle.numbers.specs.Packing.{entry, slot_word, filled_of}
+use Rattle.numbers.specs.declared.Refusal.{Refusal}
 use Rattle.numbers.specs.declared.Refusal.TheVariants.{StateNotValid, OutOfRange}
 use Rattle.table.specs.Scan.{lowest}
 use Rattle.model.specs.Views.{is_vm, is_guest, is_access, is_generation, is_port, is_slot, is_page, is_filled}
@@ -18,6 +19,10 @@ holds port vm guest slot = is_filled slot.entry && eqb slot.port port && eqb slo
 -- the lowest such slot of the first SLOTS, SLOTS where there is none; a slot past the last counts as empty
 unfoldable pub find_slot : List Slot → ℕ → ℕ → ℕ → ℕ
 find_slot slots port vm guest = lowest (λ i. holds port vm guest (get_or slots i empty)) SLOTS
+
+-- the place that a search answered, and none where it answered SLOTS
+abbrev pub found : ℕ → Option ℕ
+found place = if ltb place SLOTS then Some place else None
 
 -- slot i is there, filled, and holds the three numbers
 pub record HoldsAt (slots : List Slot) (port vm guest i : ℕ) : Type 0 where
@@ -40,6 +45,11 @@ pub record Change (A : Type 0) : Type 0 where
 
 abbrev pub change : {A : Type 0} → ℕ → List A → Change A
 change number left = record { number = number; left = left }
+
+-- the number of what a change answers: 0, or a refusal's
+abbrev pub change_number : {A : Type 0} → Result A Refusal → ℕ
+change_number (Ok done) = 0
+change_number (Err refusal) = refusal_number refusal
 
 -- refused, it changes nothing: with 1 where the cache has not SLOTS slots, with 2 where a number is out of range
 abbrev pub change_at : {A : Type 0} → ℕ → Bool → List A → ℕ → A → Change A

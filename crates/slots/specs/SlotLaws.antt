@@ -1,5 +1,5 @@
 -- Packing loses nothing; a whole cache is loaded as its words and stored as their slots, and a refusal stores nothing.
-use Rattle.std.specs.Prelude.{ℕ, zero, suc, ◌+◌, ◌<◌, ◌≤◌, List, ◌≡◌, refl, eqb, ltb, length, get_or, set}
+use Rattle.std.specs.Prelude.{ℕ, zero, suc, ◌+◌, ◌<◌, ◌≤◌, Bool, true, false, List, ◌≡◌, refl, eqb, ltb, length, get_or, set}
 use Rattle.std.proofs.Common.{⊎_elim, sym, ◌∙◌, subst, arith, length-set, get_or-set_same, get_or-set_other, ext_get_or, ltb-true, ltb-false, eq-eqb, ne_eqb}
 use Rattle.std.proofs.lemmas.List.{length-replicate, length-map}
 use Rattle.std.proofs.Math.ListN.{get_or-map}
@@ -32,8 +32,9 @@ first_within count = ⊎_elim (λ t. rw t (omega arith, omega (arith, ltb-true c
 pub turns_within : (count wanted : ℕ) → (turns_of count wanted ≤ count) × (turns_of count wanted ≤ SLOTS)
 turns_within count wanted = ⊎_elim (λ t. rw t (first_within count)) (λ f. rw f (omega arith, omega arith)) (cases (eqb count wanted))
 
-pub stores_within : (count number : ℕ) → (stores_of count number ≤ count) × (stores_of count number ≤ SLOTS)
-stores_within count number = ⊎_elim (λ t. rw t (turns_within count SLOTS)) (λ f. rw f (omega arith, omega arith)) (cases (eqb number 0))
+pub stores_within : (count : ℕ) (accepted : Bool) → (stores_of count accepted ≤ count) × (stores_of count accepted ≤ SLOTS)
+stores_within count true = turns_within count SLOTS
+stores_within count false = (omega arith, omega arith)
 
 pub turns_whole : (count : ℕ) → count ≡ SLOTS → turns_of count SLOTS ≡ SLOTS
 turns_whole count e = rw e
@@ -90,13 +91,13 @@ slot_over ws slots (suc k) i h l =
     s = slot_of (get_or ws k 0)
 
 -- 64 words that were accepted are stored into a cache of 64 slots as their slots
-pub stored_whole : (ws : List ℕ) (slots : List Slot) → length ws ≡ SLOTS → length slots ≡ SLOTS → stored 0 ws slots ≡ slots_of ws
+pub stored_whole : (ws : List ℕ) (slots : List Slot) → length ws ≡ SLOTS → length slots ≡ SLOTS → stored true ws slots ≡ slots_of ws
 stored_whole ws slots e f =
     let t : turns_of (length slots) SLOTS ≡ SLOTS = turns_whole (length slots) f in
-    let m : length (stored 0 ws slots) ≡ length slots = length_over ws slots (turns_of (length slots) SLOTS) in
-    ext_get_or empty (stored 0 ws slots) (slots_of ws) (m ∙ f ∙ sym (length-map ws slot_of ∙ e))
+    let m : length (stored true ws slots) ≡ length slots = length_over ws slots (turns_of (length slots) SLOTS) in
+    ext_get_or empty (stored true ws slots) (slots_of ws) (m ∙ f ∙ sym (length-map ws slot_of ∙ e))
     (λ i h. slot_over ws slots (turns_of (length slots) SLOTS) i (omega arith) (omega arith) ∙ sym (get_or-map slot_of ws i 0))
 
--- a refusal stores nothing
-pub stored_none : (number : ℕ) (ws : List ℕ) (slots : List Slot) → 0 < number → stored number ws slots ≡ slots
+-- a refusal, its number not 0, stores nothing
+pub stored_none : (number : ℕ) (ws : List ℕ) (slots : List Slot) → 0 < number → stored (eqb number 0) ws slots ≡ slots
 stored_none number ws slots h = rw (ne_eqb number 0 (λ e. omega (arith, h, e)))

@@ -1,5 +1,5 @@
 -- A slot record and its packed word, and a cache of slots as the words of the core.
-use Rattle.std.specs.Prelude.{ℕ, zero, suc, ◌<◌, not, List, map, eqb, ltb, length, get_or, set, replicate}
+use Rattle.std.specs.Prelude.{ℕ, zero, suc, ◌<◌, Bool, not, List, map, eqb, ltb, length, get_or, set, replicate}
 use Rattle.std.specs.Prelude.{if◌then◌else◌}
 use Rattle.numbers.specs.Limits.{SLOTS}
 use Rattle.numbers.specs.Packing.{PORT_FIELD, VM_FIELD, GUEST_FIELD, GUEST_BIT, slot_word, port_of, vm_of, guest_of, entry_of}
@@ -46,14 +46,14 @@ loaded wanted slots = laid slots (turns_of (length slots) wanted)
 abbrev pub Fitting : ℕ → List Slot → Type 0
 Fitting wanted slots = (i : ℕ) → i < turns_of (length slots) wanted → Fits (get_or slots i empty)
 
--- ---- storing: a number that is not 0 is a refusal's, and then nothing is stored
-abbrev pub stores_of : ℕ → ℕ → ℕ
-stores_of count number = if not (eqb number 0) then 0 else turns_of count SLOTS
+-- ---- storing: where the call was refused, nothing is stored
+abbrev pub stores_of : ℕ → Bool → ℕ
+stores_of count accepted = if not accepted then 0 else turns_of count SLOTS
 
 -- the first k slots replaced by those of the words
 abbrev pub over : List ℕ → List Slot → ℕ → List Slot
 over ws slots zero = slots
 over ws slots (suc k) = set (over ws slots k) k (slot_of (get_or ws k 0))
 
-abbrev pub stored : ℕ → List ℕ → List Slot → List Slot
-stored number ws slots = over ws slots (stores_of (length slots) number)
+abbrev pub stored : Bool → List ℕ → List Slot → List Slot
+stored accepted ws slots = over ws slots (stores_of (length slots) accepted)

@@ -1,17 +1,14 @@
 // Slot records, and one cache of them as the words of the core: loaded, stored, and one slot searched, filled and emptied.
 #![tactic(auto)]
 
-ghost use Rattle.std.specs.Prelude.{◌≡◌, map, replicate};
-ghost use Rattle.numbers.specs.Limits.{SLOTS};
-ghost use Rattle.numbers.specs.Meaning.{refusal_number};
-ghost use Rattle.slots.specs.Calls.{find_slot, change, fill_word, empty_word};
-ghost use Rattle.slots.specs.Slots.{Fits, word_of, slot_of, turns_of, loaded, Fitting, stores_of, stored};
+ghost use Rattle.std.specs.Prelude.{◌≡◌, map};
+ghost use Rattle.slots.specs.Calls.{found, find_slot, change, change_number, fill_word, empty_word};
+ghost use Rattle.slots.specs.Slots.{Fits, word_of, slot_of, loaded, Fitting, stored};
 
 use numbers::{
     ACCESSES, GENERATIONS, GUEST_FIELD, GUEST_PAGES, GuestPage, PAGES, PORT_FIELD, PORTS, PhysPage,
     Refusal, SLOTS, VM_FIELD, VMS, VmId,
 };
-use table::Found;
 
 // ---- A slot of a translation cache. Its numbers fill 64 bits, so that any record is the slot of one word.
 #[repr(C)]
@@ -23,121 +20,76 @@ pub struct Slot {
     pub entry: u32,
 }
 
-pub fn word_of(slot: Slot) -> u64
-    ensures word { result ≡ word_of slot }
-    ensures fits { Fits slot }
-{
-    let vm = VmId(slot.vm as u64);
-    let guest = GuestPage(slot.guest as u64);
-    numbers::slot_word(slot.port as u64, vm, guest, slot.entry as u64)
+impl From<Slot> for u64 {
+    ghost from_gives = { λ slot word. (word ≡ word_of slot) × Fits slot };
+
+    fn from(slot: Slot) -> u64 {
+        let vm = VmId(slot.vm.into());
+        let guest = GuestPage(slot.guest.into());
+        numbers::slot_word(slot.port.into(), vm, guest, slot.entry.into())
+    }
 }
 
-pub fn slot_of(word: u64) -> Slot
-    ensures { result ≡ slot_of word }
-{
-    let vm = numbers::vm_of(word);
-    let guest = numbers::guest_of(word);
-    Slot {
-        port: numbers::port_of(word) as u8,
-        vm: vm.0 as u8,
-        guest: guest.0 as u16,
-        entry: numbers::entry_of(word) as u32,
+impl From<u64> for Slot {
+    ghost from_gives = { λ word slot. slot ≡ slot_of word };
+
+    fn from(word: u64) -> Slot {
+        Slot {
+            port: numbers::port_of(word) as u8,
+            vm: numbers::vm_of(word).0 as u8,
+            guest: numbers::guest_of(word).0 as u16,
+            entry: numbers::entry_of(word) as u32,
+        }
     }
 }
 
 // ---- A cache as the words of the core, by value.
-
-fn no_words() -> [u64; SLOTS as usize]
-    ensures { result ≡ replicate SLOTS 0 }
-{
-    [0; SLOTS as usize]
-}
-
-// How many slots of a cache are gone through: its first 64, and none of a cache that has not as many slots as are wanted.
-fn turns(count: usize, wanted: usize) -> usize
-    ensures { result ≡ turns_of count wanted }
-{
-    if count != wanted {
-        return 0;
-    }
-    if count < SLOTS as usize {
-        count
-    } else {
-        SLOTS as usize
-    }
-}
 
 // The words of the first 64 slots of a cache that has as many as are wanted, 0 where there are fewer. Of another cache no
 // slot is looked at, and all words are 0. It tells as well that every number of a slot that was loaded is within its field.
 pub fn load(slots: &[Slot], wanted: usize) -> [u64; SLOTS as usize]
     ensures { (result ≡ loaded wanted slots.now) × Fitting wanted slots.now }
 {
-    let count = turns(slots.len(), wanted);
-    let mut words = no_words();
-    let mut i = 0;
-    while i < count {
-        words[i] = word_of(slots[i]);
-        i += 1;
+    let mut words = [0; SLOTS as usize];
+    if slots.len() == wanted {
+        let first = &slots[..slots.len().min(SLOTS as usize)];
+        // By index, as in `store`: of what a zip with `words.iter_mut()` leaves, a proof knows no word.
+        for (i, slot) in first.iter().enumerate() {
+            words[i] = u64::from(*slot);
+        }
     }
     words
 }
 
-// How many slots are stored: all of a whole cache where the call was accepted, none where it was refused.
-fn stores(count: usize, number: u64) -> usize
-    ensures { result ≡ stores_of count number }
+// The slots of the words that a call left. One that was refused stores nothing; nor is a cache changed that has not 64 slots.
+pub fn store(slots: &mut [Slot], words: &[u64; SLOTS as usize], accepted: bool)
+    ensures { slots.new ≡ stored accepted words.now slots.old }
 {
-    if number != 0 {
-        return 0;
-    }
-    turns(count, SLOTS as usize)
-}
-
-// The slots of the words that a call left. One that was refused, its number not 0, stores nothing; nor is a cache changed
-// that has not 64 slots.
-pub fn store(slots: &mut [Slot], words: [u64; SLOTS as usize], number: u64)
-    ensures { slots.new ≡ stored number words slots.old }
-{
-    let count = stores(slots.len(), number);
-    let mut i = 0;
-    while i < count {
-        slots[i] = slot_of(words[i]);
-        i += 1;
+    if accepted & (slots.len() == SLOTS as usize) {
+        for (i, slot) in slots.iter_mut().enumerate() {
+            *slot = Slot::from(words[i]);
+        }
     }
 }
 
 // ---- The search. No slot holds a number that is too large for its field.
-pub fn find(words: [u64; SLOTS as usize], port: u64, vm: u64, guest: u64) -> usize
-    ensures { result ≡ find_slot (map slot_of words) port vm guest }
+pub fn find(words: &[u64; SLOTS as usize], port: u64, vm: u64, guest: u64) -> Option<usize>
+    ensures { result ≡ found (find_slot (map slot_of words.now) port vm guest) }
 {
     if !((port < PORT_FIELD) & (vm < VM_FIELD) & (guest < GUEST_FIELD)) {
-        return SLOTS as usize;
+        return None;
     }
-    let cache = words;
-    let there = table::find(&cache, numbers::slot_key(port, VmId(vm), GuestPage(guest)));
-    match there {
-        Found::At(place) => place,
-        Found::Nothing => SLOTS as usize,
-    }
+    table::find(words, numbers::slot_key(port, VmId(vm), GuestPage(guest)))
 }
 
-// ---- A change of one slot: the words as it leaves them, and its number, 0 or a refusal's.
-#[derive(Clone, Copy)]
-pub struct Changed {
-    pub words: [u64; SLOTS as usize],
-    pub number: u64,
-}
+// ---- A change of one slot. C names its numbers one by one, and lends a cache of any length: `count` says how many slots it has,
+// where its words are always 64.
 
-fn refused(words: [u64; SLOTS as usize], refusal: Refusal) -> Changed
-    ensures { (result.words ≡ words) × (result.number ≡ refusal_number refusal) }
-{
-    let number = numbers::refusal_number(refusal);
-    Changed { words, number }
-}
-
-// Fills slot `place` of a cache that has `count` slots, or says why not.
+// Fills slot `place`, or says why not.
+#[tactic(auto, unfolding(crate::specs::Calls::fill_word))]
 pub fn fill(
     count: usize,
-    words: [u64; SLOTS as usize],
+    words: &mut [u64; SLOTS as usize],
     place: u64,
     port: u64,
     vm: u64,
@@ -145,11 +97,11 @@ pub fn fill(
     page: u64,
     access: u64,
     generation: u64,
-) -> Changed
-    ensures { change result.number result.words ≡ fill_word count words place port vm guest page access generation }
+) -> Result<(), Refusal>
+    ensures { change (change_number result) words.new ≡ fill_word count words.old place port vm guest page access generation }
 {
     if count != SLOTS as usize {
-        return refused(words, Refusal::StateNotValid);
+        return Err(Refusal::StateNotValid);
     }
     if !((place < SLOTS)
         & (port < PORTS)
@@ -159,31 +111,24 @@ pub fn fill(
         & (access < ACCESSES)
         & (generation < GENERATIONS))
     {
-        return refused(words, Refusal::OutOfRange);
+        return Err(Refusal::OutOfRange);
     }
     let low = numbers::entry(PhysPage(page), access, generation);
-    let mut all = words;
-    all[place as usize] = numbers::slot_word(port, VmId(vm), GuestPage(guest), low);
-    Changed {
-        words: all,
-        number: 0,
-    }
+    words[place as usize] = numbers::slot_word(port, VmId(vm), GuestPage(guest), low);
+    Ok(())
 }
 
-// Empties slot `place` of a cache that has `count` slots, or says why not.
-pub fn empty(count: usize, words: [u64; SLOTS as usize], place: u64) -> Changed
-    ensures { change result.number result.words ≡ empty_word count words place }
+// Empties slot `place`, or says why not.
+#[tactic(auto, unfolding(crate::specs::Calls::empty_word))]
+pub fn empty(count: usize, words: &mut [u64; SLOTS as usize], place: u64) -> Result<(), Refusal>
+    ensures { change (change_number result) words.new ≡ empty_word count words.old place }
 {
     if count != SLOTS as usize {
-        return refused(words, Refusal::StateNotValid);
+        return Err(Refusal::StateNotValid);
     }
     if !(place < SLOTS) {
-        return refused(words, Refusal::OutOfRange);
+        return Err(Refusal::OutOfRange);
     }
-    let mut all = words;
-    all[place as usize] = 0;
-    Changed {
-        words: all,
-        number: 0,
-    }
+    words[place as usize] = 0;
+    Ok(())
 }

@@ -1,10 +1,11 @@
--- The model's records of what start is told, is lent and leaves, and the two headers that it gives.
-use Rattle.std.specs.Prelude.{ℕ, List, length, replicate}
+-- The model's records of what start is told and leaves, and the two headers that it gives.
+use Rattle.std.specs.Prelude.{ℕ, ◌<◌, List, [], ◌≡◌, length, get_or, replicate, Result, Ok, Err}
 use Rattle.numbers.specs.Limits.{PORTS, UNITS, IDLE}
-use Rattle.numbers.specs.declared.Answer.{Answer}
+use Rattle.numbers.specs.Meaning.{accept}
+use Rattle.numbers.specs.declared.Refused.{Refused}
 use Rattle.units.specs.Units.{no_unit}
-use Rattle.model.specs.Header.{state_of}
-use Rattle.model.specs.Start.{Told, Lent, Started, count_told, units_told}
+use Rattle.model.specs.Header.{state_of, Lists}
+use Rattle.model.specs.Start.{Told, Started, UNIT_NUMBERS, count_told, number_told, units_told}
 use Rattle.model.specs.declared.SideRegisters.{SideRegisters}
 use Rattle.model.specs.declared.Registers.{Registers}
 use Rattle.model.specs.declared.Machine.{Machine}
@@ -12,24 +13,10 @@ use Rattle.model.specs.declared.Machine.{Machine}
 abbrev pub told : ℕ → ℕ → ℕ → List ℕ → Told
 told pages shared_base shared_count units = record { pages = pages; shared_base = shared_base; shared_count = shared_count; units = units }
 
-abbrev pub lent : List ℕ → List ℕ → List ℕ → List ℕ → List ℕ → List ℕ → List ℕ → List ℕ → List ℕ → Lent
-lent sets pairs cpu_map cpu_walker cpu_cache dma_map dma_walker dma_cache memory =
-    record {
-      sets = sets;
-      pairs = pairs;
-      cpu_map = cpu_map;
-      cpu_walker = cpu_walker;
-      cpu_cache = cpu_cache;
-      dma_map = dma_map;
-      dma_walker = dma_walker;
-      dma_cache = dma_cache;
-      memory = memory;
-    }
-
--- the answer, and the header with the lists as they are left
-abbrev pub began : Answer → Machine → List ℕ → List ℕ → List ℕ → List ℕ → List ℕ → List ℕ → List ℕ → List ℕ → List ℕ → Started
-began answer m sets pairs cpu_map cpu_walker cpu_cache dma_map dma_walker dma_cache memory =
-    record { answer = answer; state = state_of m sets pairs cpu_map cpu_walker cpu_cache dma_map dma_walker dma_cache memory }
+-- the numbers of each unit that is told, in its place
+pub record Sixes (sixes : List (List ℕ)) (numbers : List ℕ) : Type 0 where
+  pub count : length sixes ≡ count_told numbers
+  pub each : (k field : ℕ) → k < count_told numbers → field < UNIT_NUMBERS → get_or (get_or sixes k []) field 0 ≡ number_told numbers k field
 
 -- as many words, all of them 0
 abbrev pub zeros : List ℕ → List ℕ
@@ -63,3 +50,8 @@ empty_header =
       fixed = record { pages = 0; shared_base = 0; shared_count = 0; units = replicate UNITS no_unit; unit_count = 0 };
       registers = fresh_registers;
     }
+
+-- the answer, and the header with the lists as they are left: the empty header where start is refused
+abbrev pub began : Result Machine Refused → Lists → Started
+began (Ok m) l = record { answer = accept 0 0; state = state_of m l }
+began (Err refused) l = record { answer = Err refused; state = state_of empty_header l }

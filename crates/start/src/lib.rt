@@ -5,14 +5,17 @@ ghost use Rattle.std.specs.Prelude.{◌≡◌, ◌&&◌, ◌+◌, ◌*◌, ◌<�
 ghost use Rattle.numbers.specs.Limits.{PAGES, SETS, SET_WORDS, UNITS};
 ghost use Rattle.table.specs.Scan.{any_below, repeat};
 ghost use Rattle.units.specs.Units.{no_unit};
-ghost use Rattle.model.specs.Start.{UNIT_NUMBERS, count_told, number_told, unit_told, units_told, bad_field, bad_span, lengths_good, start_answer, first_home, start};
-ghost use Rattle.start.specs.Begun.{told, lent, began, zeros, fresh_registers, fresh_header, empty_header};
+ghost use Rattle.model.specs.Header.{Same, lists, seen_lists};
+ghost use Rattle.model.specs.Start.{UNIT_NUMBERS, count_told, unit_told, units_told, bad_field, bad_span, lengths_good, start_answer, first_home, start};
+ghost use Rattle.model.specs.ToldLaws.{up_to};
+ghost use Rattle.start.specs.Begun.{Sixes, told, began, zeros, fresh_registers, fresh_header, empty_header};
 
-use model::{Fixed, Machine, Registers, SideRegisters};
+use model::{Fixed, Lent, Machine, Registers, SideRegisters};
 use numbers::{
     ACCESSES, Answer, ENTRIES, GuestPage, IDLE, PAGE_WORDS, PAGES, PAIRS, PORTS, PhysPage, Refusal,
-    Region, SET_WORDS, SETS, SLOTS, UNITS, VMS, VmId,
+    Refused, Region, SET_WORDS, SETS, SLOTS, UNITS, VMS, VmId, accept, refuse,
 };
+use std::array;
 use units::{Mark, Unit};
 
 // ---- The units that start is told.
@@ -20,214 +23,129 @@ use units::{Mark, Unit};
 // Numbers of a unit: VM, guest page, page, count, access, mark.
 pub const UNIT_NUMBERS: usize = 6;
 
-fn number_told(units: &[u64], k: usize, field: usize) -> u64
-    requires { k * UNIT_NUMBERS + field < length units.now }
-    ensures { result ≡ number_told units.now k field }
+// The numbers, six by six; fewer than six after the last unit are no unit.
+fn sixes(units: &[u64]) -> &[[u64; UNIT_NUMBERS]]
+    ensures { Sixes result.now units.now }
 {
-    units[k * UNIT_NUMBERS + field]
+    units.as_chunks().0
 }
 
-// Unit k. A number that is no mark's reads as CPU, which `bad_field` tells apart.
-fn unit_told(units: &[u64], k: usize) -> Unit
-    requires { k < count_told units.now }
-    ensures { result ≡ unit_told units.now k }
+// A number that is no mark's reads as CPU, which `bad_field` tells apart.
+fn unit_told(six: [u64; UNIT_NUMBERS]) -> Unit
+    ensures { result ≡ unit_told six 0 }
 {
-    let vm = VmId(number_told(units, k, 0));
-    let guest = GuestPage(number_told(units, k, 1));
-    let page = PhysPage(number_told(units, k, 2));
-    let count = number_told(units, k, 3);
-    let access = number_told(units, k, 4);
-    let mark = units::mark_of(number_told(units, k, 5));
+    let [vm, guest, page, count, access, mark] = six;
     Unit {
-        vm,
-        guest,
-        page,
-        count,
-        access,
-        mark,
+        region: Region {
+            vm: VmId(vm),
+            guest: GuestPage(guest),
+            page: PhysPage(page),
+            count,
+            access,
+        },
+        mark: units::mark_of(mark),
     }
 }
 
-fn no_units() -> [Unit; UNITS]
-    ensures { result ≡ replicate UNITS no_unit }
+fn no_unit() -> Unit
+    ensures { result ≡ no_unit }
 {
-    let unit = Unit {
-        vm: VmId(0),
-        guest: GuestPage(0),
-        page: PhysPage(0),
-        count: 0,
-        access: 0,
+    Unit {
+        region: Region {
+            vm: VmId(0),
+            guest: GuestPage(0),
+            page: PhysPage(0),
+            count: 0,
+            access: 0,
+        },
         mark: Mark::Cpu,
-    };
-    [unit; UNITS]
+    }
 }
 
-// The units that are told, and no unit past them.
+// Unit k of those that are told, and no unit past them.
+fn unit_at(units: &[u64], k: usize) -> Unit
+    ensures { result ≡ up_to units.now (count_told units.now) k }
+{
+    match sixes(units).get(k) {
+        Some(six) => unit_told(*six),
+        None => no_unit(),
+    }
+}
+
+// Room for as many units as there may be.
 pub fn units_told(units: &[u64]) -> [Unit; UNITS]
-    requires { count_told units.now ≤ UNITS }
     ensures { result ≡ units_told units.now }
 {
-    let count = units.len() / UNIT_NUMBERS;
-    let mut all = no_units();
-    let mut k = 0;
-    while k < count {
-        let unit = unit_told(units, k);
-        all[k] = unit;
-        k += 1;
-    }
-    all
+    array::from_fn(|k| unit_at(units, k))
 }
 
 // ---- What may be wrong with a unit: a field, by refusal 2, or its span, by 3.
 
-fn bad_field(units: &[u64], k: usize) -> bool
-    requires { k < count_told units.now }
-    ensures { result ≡ bad_field units.now k }
+fn bad_field(six: [u64; UNIT_NUMBERS]) -> bool
+    ensures { result ≡ bad_field six 0 }
 {
-    let vm = number_told(units, k, 0);
-    let access = number_told(units, k, 4);
-    let mark = number_told(units, k, 5);
-    !((vm < VMS) & (access < ACCESSES) & units::is_mark(mark))
+    let [vm, _, _, _, access, mark] = six;
+    vm >= VMS || access >= ACCESSES || !units::is_mark(mark)
 }
 
 fn any_bad_field(units: &[u64]) -> bool
     ensures { result ≡ any_below (bad_field units.now) (count_told units.now) }
 {
-    let count = units.len() / UNIT_NUMBERS;
-    let mut k = 0;
-    while k < count {
-        if bad_field(units, k) {
-            return true;
-        }
-        k += 1;
-    }
-    false
+    sixes(units).iter().any(|six| bad_field(*six))
 }
 
-fn bad_span(pages: u64, units: &[u64], k: usize) -> bool
-    requires { k < count_told units.now }
-    ensures { result ≡ bad_span pages units.now k }
+fn bad_span(pages: u64, six: [u64; UNIT_NUMBERS]) -> bool
+    ensures { result ≡ bad_span pages six 0 }
 {
-    let unit = unit_told(units, k);
-    let vm = unit.vm;
-    let guest = unit.guest;
-    let page = unit.page;
-    let region = Region {
-        vm,
-        guest,
-        page,
-        count: unit.count,
-        access: unit.access,
-    };
-    !units::region_span(region, pages)
+    !units::region_span(unit_told(six).region, pages)
 }
 
 fn any_bad_span(pages: u64, units: &[u64]) -> bool
     ensures { result ≡ any_below (bad_span pages units.now) (count_told units.now) }
 {
-    let count = units.len() / UNIT_NUMBERS;
-    let mut k = 0;
-    while k < count {
-        if bad_span(pages, units, k) {
-            return true;
-        }
-        k += 1;
-    }
-    false
+    sixes(units).iter().any(|six| bad_span(pages, *six))
 }
 
 // ---- The refusals.
 
 // What refusal 1 asks: N and every length. N is judged first, so that its words can be counted.
-fn lengths_good(
-    sets: &[u64],
-    pairs: &[u64],
-    cpu_map: &[u64],
-    cpu_walker: &[u64],
-    cpu_cache: &[u64],
-    dma_map: &[u64],
-    dma_walker: &[u64],
-    dma_cache: &[u64],
-    memory: &[u64],
-    pages: u64,
-    units: &[u64],
-) -> bool
-    ensures { result ≡ (lengths_good (told pages 0 0 units.now)
-        (lent sets.now pairs.now cpu_map.now cpu_walker.now cpu_cache.now dma_map.now dma_walker.now dma_cache.now memory.now)
-        && ltb 0 pages && leb pages PAGES) }
+fn lengths_good(seen: Lent<&[u64]>, pages: u64, units: &[u64]) -> bool
+    ensures { result ≡ (lengths_good (told pages 0 0 units.now) (seen_lists seen.entry) && ltb 0 pages && leb pages PAGES) }
 {
-    if !((0 < pages) & (pages <= PAGES)) {
-        return false;
-    }
-    (memory.len() as u64 == PAGE_WORDS * pages)
-        & (sets.len() == SETS * SET_WORDS)
-        & (pairs.len() == PAIRS)
-        & (cpu_map.len() == ENTRIES)
-        & (cpu_walker.len() == ENTRIES)
-        & (cpu_cache.len() == SLOTS as usize)
-        & (dma_map.len() == ENTRIES)
-        & (dma_walker.len() == ENTRIES)
-        & (dma_cache.len() == SLOTS as usize)
-        & (units.len() % UNIT_NUMBERS == 0)
+    (1..=PAGES).contains(&pages)
+        && seen.memory.len() as u64 == PAGE_WORDS * pages
+        && seen.sets.len() == SETS * SET_WORDS
+        && seen.pairs.len() == PAIRS
+        && seen.cpu_map.len() == ENTRIES
+        && seen.cpu_walker.len() == ENTRIES
+        && seen.cpu_cache.len() == SLOTS as usize
+        && seen.dma_map.len() == ENTRIES
+        && seen.dma_walker.len() == ENTRIES
+        && seen.dma_cache.len() == SLOTS as usize
+        && units.len() % UNIT_NUMBERS == 0
 }
 
 // Every field is judged before any span.
+#[tactic(auto, unfolding(model::specs::Start::start_answer))]
 fn start_answer(
-    sets: &[u64],
-    pairs: &[u64],
-    cpu_map: &[u64],
-    cpu_walker: &[u64],
-    cpu_cache: &[u64],
-    dma_map: &[u64],
-    dma_walker: &[u64],
-    dma_cache: &[u64],
-    memory: &[u64],
+    seen: Lent<&[u64]>,
     pages: u64,
     shared_base: u64,
     shared_count: u64,
     units: &[u64],
 ) -> Answer
-    ensures { result ≡ start_answer (told pages shared_base shared_count units.now)
-        (lent sets.now pairs.now cpu_map.now cpu_walker.now cpu_cache.now dma_map.now dma_walker.now dma_cache.now memory.now) }
+    ensures { result ≡ start_answer (told pages shared_base shared_count units.now) (seen_lists seen.entry) }
 {
-    let good = lengths_good(
-        sets, pairs, cpu_map, cpu_walker, cpu_cache, dma_map, dma_walker, dma_cache, memory, pages,
-        units,
-    );
-    if !good {
-        return Answer::Refused {
-            refusal: Refusal::StateNotValid,
-            index: 0,
-        };
+    if !lengths_good(seen, pages, units) {
+        return refuse(Refusal::StateNotValid, 0);
     }
-    if !(units.len() / UNIT_NUMBERS <= UNITS) {
-        return Answer::Refused {
-            refusal: Refusal::OutOfRange,
-            index: 0,
-        };
+    if units.len() / UNIT_NUMBERS > UNITS || any_bad_field(units) {
+        return refuse(Refusal::OutOfRange, 0);
     }
-    if any_bad_field(units) {
-        return Answer::Refused {
-            refusal: Refusal::OutOfRange,
-            index: 0,
-        };
+    if any_bad_span(pages, units) || !units::span_within(shared_base, shared_count, pages) {
+        return refuse(Refusal::BadSpan, 0);
     }
-    if any_bad_span(pages, units) {
-        return Answer::Refused {
-            refusal: Refusal::BadSpan,
-            index: 0,
-        };
-    }
-    if !units::span_within(shared_base, shared_count, pages) {
-        return Answer::Refused {
-            refusal: Refusal::BadSpan,
-            index: 0,
-        };
-    }
-    Answer::Accepted {
-        dropped: 0,
-        word: 0,
-    }
+    accept(0)
 }
 
 // ---- The fresh page sets.
@@ -237,11 +155,12 @@ fn first_home(sets: &mut [u64], shared_base: u64, shared_count: u64, page: PhysP
     requires { (shared_base + shared_count ≤ PAGES) × (page.0 < PAGES) × (length sets.old ≡ SETS * SET_WORDS) }
     ensures { sets.new ≡ first_home shared_base shared_count page.0 sets.old }
 {
-    if (shared_base <= page.0) & (page.0 < shared_base + shared_count) {
-        pages::add(sets, pages::SHARED, page);
-        return;
-    }
-    pages::add(sets, pages::POOL, page);
+    let row = if (shared_base..shared_base + shared_count).contains(&page.0) {
+        pages::SHARED
+    } else {
+        pages::POOL
+    };
+    pages::add(sets, row, page);
 }
 
 fn fresh_sets(sets: &mut [u64], pages: u64, shared_base: u64, shared_count: u64)
@@ -249,10 +168,8 @@ fn fresh_sets(sets: &mut [u64], pages: u64, shared_base: u64, shared_count: u64)
     ensures { sets.new ≡ repeat (first_home shared_base shared_count) 0 pages (zeros sets.old) }
 {
     table::clear_words(sets);
-    let mut page = 0;
-    while page < pages {
+    for page in 0..pages {
         first_home(sets, shared_base, shared_count, PhysPage(page));
-        page += 1;
     }
 }
 
@@ -283,92 +200,54 @@ fn fresh_registers() -> Registers
 }
 
 fn fresh_machine(pages: u64, shared_base: u64, shared_count: u64, units: &[u64]) -> Machine
-    requires { count_told units.now ≤ UNITS }
     ensures { result ≡ fresh_header (told pages shared_base shared_count units.now) }
 {
-    let all = units_told(units);
-    let registers = fresh_registers();
-    let fixed = Fixed {
-        pages,
-        shared_base,
-        shared_count,
-        units: all,
-        unit_count: (units.len() / UNIT_NUMBERS) as u64,
-    };
-    Machine { fixed, registers }
+    Machine {
+        fixed: Fixed {
+            pages,
+            shared_base,
+            shared_count,
+            units: units_told(units),
+            unit_count: (units.len() / UNIT_NUMBERS) as u64,
+        },
+        registers: fresh_registers(),
+    }
 }
 
 // The machine of no pages, which is never valid.
 pub fn empty_machine() -> Machine
     ensures { result ≡ empty_header }
 {
-    let none = no_units();
-    let registers = fresh_registers();
-    let fixed = Fixed {
-        pages: 0,
-        shared_base: 0,
-        shared_count: 0,
-        units: none,
-        unit_count: 0,
-    };
-    Machine { fixed, registers }
+    Machine {
+        fixed: Fixed {
+            pages: 0,
+            shared_base: 0,
+            shared_count: 0,
+            units: [no_unit(); UNITS],
+            unit_count: 0,
+        },
+        registers: fresh_registers(),
+    }
 }
 
 // ---- Start.
 
-#[derive(Clone, Copy)]
-pub struct Started {
-    pub answer: Answer,
-    pub machine: Machine,
-}
-
-// Refused, it touches nothing and gives the empty machine; accepted, every word that it was lent is made anew.
+// Refused, it touches nothing; accepted, every word that it was lent is made anew.
 pub fn start(
-    sets: &mut [u64],
-    pairs: &mut [u64],
-    cpu_map: &mut [u64],
-    cpu_walker: &mut [u64],
-    cpu_cache: &mut [u64],
-    dma_map: &mut [u64],
-    dma_walker: &mut [u64],
-    dma_cache: &mut [u64],
-    memory: &mut [u64],
+    lent: &mut Lent<&mut [u64]>,
     pages: u64,
     shared_base: u64,
     shared_count: u64,
     units: &[u64],
-) -> Started
-    ensures { began result.answer result.machine sets.new pairs.new cpu_map.new cpu_walker.new cpu_cache.new dma_map.new dma_walker.new dma_cache.new memory.new
-        ≡ start (told pages shared_base shared_count units.now)
-        (lent sets.old pairs.old cpu_map.old cpu_walker.old cpu_cache.old dma_map.old dma_walker.old dma_cache.old memory.old) }
+) -> Result<Machine, Refused>
+    ensures begun { began result (lists lent.new) ≡ start (told pages shared_base shared_count units.now) (lists lent.old) }
+    ensures same { Same lent.old lent.new }
 {
-    let answer = start_answer(
-        sets,
-        pairs,
-        cpu_map,
-        cpu_walker,
-        cpu_cache,
-        dma_map,
-        dma_walker,
-        dma_cache,
-        memory,
-        pages,
-        shared_base,
-        shared_count,
-        units,
-    );
-    if let Answer::Refused { refusal, index } = answer {
-        let machine = empty_machine();
-        return Started {
-            answer: Answer::Refused { refusal, index },
-            machine,
-        };
-    }
-    fresh_sets(sets, pages, shared_base, shared_count);
-    table::clear_words(pairs);
-    clear_route(cpu_map, cpu_walker, cpu_cache);
-    clear_route(dma_map, dma_walker, dma_cache);
-    table::clear_words(memory);
-    let machine = fresh_machine(pages, shared_base, shared_count, units);
-    Started { answer, machine }
+    start_answer(lent.seen(), pages, shared_base, shared_count, units)?;
+    fresh_sets(lent.sets, pages, shared_base, shared_count);
+    table::clear_words(lent.pairs);
+    clear_route(lent.cpu_map, lent.cpu_walker, lent.cpu_cache);
+    clear_route(lent.dma_map, lent.dma_walker, lent.dma_cache);
+    table::clear_words(lent.memory);
+    Ok(fresh_machine(pages, shared_base, shared_count, units))
 }

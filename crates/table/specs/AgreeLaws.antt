@@ -1,6 +1,6 @@
 -- Two tables that are equal as maps, in whatever order their words stand: one has room where the other has, and the same
 -- edit of both keeps them equal.
-use Rattle.std.specs.Prelude.{ℕ, suc, ◌+◌, ◌≤◌, ◌<◌, Bool, false, ◌≡◌, refl, length, get_or, set}
+use Rattle.std.specs.Prelude.{ℕ, suc, ◌+◌, ◌≤◌, ◌<◌, Bool, false, ◌≡◌, refl, length, get_or, set, Some, None}
 use mathlib.Core.List.{List, [], ◌∷◌}
 use Rattle.std.proofs.Common.{sym, ap, ◌∙◌, inl}
 use Rattle.std.proofs.Math.Logic.{⊎_elim}
@@ -12,7 +12,6 @@ use Rattle.table.specs.Scan.{cleared, wipe}
 use Rattle.table.specs.ScanLaws.{count_most, has_wipe_inv, has_wipe_keep}
 use Rattle.table.specs.Table.{is_empty, free_entries, Has, find, lookup, place, put, Distinct}
 use Rattle.table.specs.TableLaws.{free_set, has_set_keep, has_lookup, lookup_has, lookup_nothing, place_room, room_place, lookup_put_same, lookup_put_other, distinct_wipe}
-use Rattle.table.specs.declared.Found.TheVariants.{At, Nothing}
 
 -- ---- words of a list that begins with w
 has_here : (w : ℕ) (ws : List ℕ) → (w ≡ 0 → ⊥) → Has (w ∷ ws) w
@@ -86,18 +85,18 @@ module _ (key_of : ℕ → ℕ) where
   -- ---- where the empty word has key 0
   module _ (empty : key_of 0 ≡ 0) where
     -- a key that the second lacks the first lacks
-    pub agree_none : (ws vs : List ℕ) (k : ℕ) → 0 < k → Agree ws vs → find key_of vs k ≡ Nothing → find key_of ws k ≡ Nothing
+    pub agree_none : (ws vs : List ℕ) (k : ℕ) → 0 < k → Agree ws vs → find key_of vs k ≡ None → find key_of ws k ≡ None
     unfolding lookup
     agree_none ws vs k o same e = lookup_nothing key_of empty ws k o (same k o ∙ rw e)
 
     -- the second has a place for a key where the first has one
-    pub agree_place : (ws vs : List ℕ) (k i : ℕ) → 0 < k → length vs ≡ length ws → Keyed vs → Distinct key_of vs → Agree ws vs → place key_of ws k ≡ At i → (j : ℕ) × (place key_of vs k ≡ At j)
+    pub agree_place : (ws vs : List ℕ) (k i : ℕ) → 0 < k → length vs ≡ length ws → Keyed vs → Distinct key_of vs → Agree ws vs → place key_of ws k ≡ Some i → (j : ℕ) × (place key_of vs k ≡ Some j)
     agree_place ws vs k i o l keys d same p =
         place_room key_of vs k
         (λ e. let room = room_place key_of ws k i p (agree_none ws vs k o same e) in omega (arith, agree_free ws vs l keys d same))
 
     -- ---- the same edit of both
-    pub agree_put : (ws vs : List ℕ) (k w i j : ℕ) → key_of w ≡ k → place key_of ws k ≡ At i → place key_of vs k ≡ At j → Agree ws vs → Agree (put key_of ws k w) (put key_of vs k w)
+    pub agree_put : (ws vs : List ℕ) (k w i j : ℕ) → key_of w ≡ k → place key_of ws k ≡ Some i → place key_of vs k ≡ Some j → Agree ws vs → Agree (put key_of ws k w) (put key_of vs k w)
     agree_put ws vs k w i j e p q same other o =
         ⊎_elim (λ s. rw (← s, lookup_put_same key_of ws k w i e p, lookup_put_same key_of vs k w j e q))
         (λ n. rw (lookup_put_other key_of empty ws k w other e o n, lookup_put_other key_of empty vs k w other e o n) (same other o))

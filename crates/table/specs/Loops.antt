@@ -1,11 +1,10 @@
 -- What holds at the head of a loop, a record for each shape of loop: how it begins, what a turn keeps, and what it gives where the loop is left.
-use Rattle.std.specs.Prelude.{ℕ, suc, ◌+◌, ◌-◌, ◌≤◌, ◌<◌, Bool, true, false, List, [], ◌∷◌, ◌++◌, map, ◌≡◌, refl, length, get_or, set, take, drop, replicate}
+use Rattle.std.specs.Prelude.{ℕ, suc, ◌+◌, ◌-◌, ◌≤◌, ◌<◌, Bool, true, false, List, [], ◌∷◌, ◌++◌, map, ◌≡◌, refl, length, get_or, set, take, drop, replicate, Some, None}
 use Rattle.std.proofs.Common.{append-nil, sym, ap, ◌∙◌, add-one, arith, length-set, drop_of_length-le, drop-cons, take-suc, take_all, length-take-le}
 use Rattle.std.proofs.lemmas.List.Edits.{fill_none, fill_more}
 use Rattle.std.proofs.lemmas.List.{length-map, get_or_at, set_at}
 use Rattle.std.proofs.Math.Seq.{drop-length, append_snoc}
 use Rattle.table.specs.Scan.{first, first_from, any, lowest, lowest_from, count, cleared, wipe, repeat, any_from, any_below}
-use Rattle.table.specs.declared.Found.TheVariants.{At, Nothing}
 
 less : (n i : ℕ) → i < n → n - i ≡ suc (n - (i + 1))
 less n i h = omega arith
@@ -25,10 +24,10 @@ module _ (p : ℕ → Bool) (ws : List ℕ) where
   pub seek_next : (i : ℕ) → Seeking p ws i → i < length ws → p (get_or ws i 0) ≡ false → Seeking p ws (i + 1)
   seek_next i r h e = record { place = omega arith; rest = r.rest ∙ rw (drop-cons ws i 0 h, e, add-one i) }
 
-  pub seek_found : (i : ℕ) → Seeking p ws i → i < length ws → p (get_or ws i 0) ≡ true → At i ≡ first p ws
+  pub seek_found : (i : ℕ) → Seeking p ws i → i < length ws → p (get_or ws i 0) ≡ true → Some i ≡ first p ws
   seek_found i r h e = rw (r.rest, drop-cons ws i 0 h, e)
 
-  pub seek_none : (i : ℕ) → Seeking p ws i → length ws ≤ i → Nothing ≡ first p ws
+  pub seek_none : (i : ℕ) → Seeking p ws i → length ws ≤ i → None ≡ first p ws
   seek_none i r h = rw (r.rest, drop_of_length-le ws h)
 
 -- ---- asks whether a word passes

@@ -1,15 +1,13 @@
 -- Searches, for any test: over the words of a table, and over the numbers below a bound.
-use Rattle.std.specs.Prelude.{ℕ, zero, suc, ◌+◌, Bool, true, false, List, [], ◌∷◌, map}
+use Rattle.std.specs.Prelude.{ℕ, zero, suc, ◌+◌, Bool, true, false, List, [], ◌∷◌, map, Option, Some, None}
 use Rattle.std.specs.Prelude.{if◌then◌else◌}
-use Rattle.table.specs.declared.Found.{Found}
-use Rattle.table.specs.declared.Found.TheVariants.{At, Nothing}
 
 -- the lowest place at i or later whose word passes, where ws are the words from i on
-abbrev pub first_from : (ℕ → Bool) → ℕ → List ℕ → Found
-first_from p i [] = Nothing
-first_from p i (w ∷ ws) = if p w then At i else first_from p (suc i) ws
+abbrev pub first_from : (ℕ → Bool) → ℕ → List ℕ → Option ℕ
+first_from p i [] = None
+first_from p i (w ∷ ws) = if p w then Some i else first_from p (suc i) ws
 
-abbrev pub first : (ℕ → Bool) → List ℕ → Found
+abbrev pub first : (ℕ → Bool) → List ℕ → Option ℕ
 first p ws = first_from p 0 ws
 
 -- whether a word passes

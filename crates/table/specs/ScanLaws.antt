@@ -1,17 +1,21 @@
 -- What a search tells, and what tells a search.
-use Rattle.std.specs.Prelude.{ℕ, zero, suc, ◌+◌, ◌≤◌, ◌<◌, Bool, true, false, List, [], ◌∷◌, map, ◌≡◌, refl, length, get_or, set}
+use Rattle.std.specs.Prelude.{ℕ, zero, suc, ◌+◌, ◌≤◌, ◌<◌, Bool, true, false, List, [], ◌∷◌, map, ◌≡◌, refl, length, get_or, set, Some, None, count_by}
 use Rattle.std.proofs.Common.{true≢false, sym, ap, ◌∙◌, ⊎_elim, arith, ext_get_or}
 use Rattle.std.proofs.lemmas.List.{length-map}
+use Rattle.std.proofs.lemmas.List.Recursion.{is_count_by}
 use Rattle.std.proofs.Math.ListN.{get_or-map}
 use Rattle.numbers.specs.CaseLaws.{cases, equal}
 use Rattle.std.specs.Prelude.{if◌then◌else◌}
 use Rattle.numbers.specs.Decides.{Decides}
 use Rattle.table.specs.Scan.{first, first_from, any, count, cleared, wipe, lowest, lowest_from, any_from, any_below}
 use Rattle.table.specs.Table.{Has}
-use Rattle.table.specs.declared.Found.TheVariants.{At, Nothing}
 
-pub found_never : (i : ℕ) → At i ≡ Nothing → ⊥
+pub found_never : (i : ℕ) → Some i ≡ None → ⊥
 found_never i e = let z : ◌≡◌ {A = ℕ} 0 1 = cc in omega arith
+
+-- what counting the words of a filter gives
+pub count_by_is : (p : ℕ → Bool) (ws : List ℕ) → count p ws ≡ count_by p ws
+count_by_is p ws = is_count_by (count p) p refl (λ w rest. ⊎_elim (λ t. rw t (omega arith)) (λ f. rw f) (cases (p w))) ws
 
 -- ---- the first word that passes
 -- i is the first place whose word passes
@@ -22,10 +26,10 @@ pub record IsFirst (p : ℕ → Bool) (ws : List ℕ) (i : ℕ) : Type 0 where
 
 module _ (p : ℕ → Bool) where
   -- each law first for the words from o on
-  from_at : (o : ℕ) (ws : List ℕ) (i : ℕ) → first_from p o ws ≡ At i → (j : ℕ) × (i ≡ o + j) × IsFirst p ws j
+  from_at : (o : ℕ) (ws : List ℕ) (i : ℕ) → first_from p o ws ≡ Some i → (j : ℕ) × (i ≡ o + j) × IsFirst p ws j
   from_at o [] i e = absurd (found_never i (sym e))
   from_at o (w ∷ ws) i e =
-      ⊎_elim (λ t. let z : At o ≡ At i = rw t at e in let q : o ≡ i = cc in (0, omega arith, record { within = omega arith; passes = t; before = λ k h. absurd (omega arith) }))
+      ⊎_elim (λ t. let z : Some o ≡ Some i = rw t at e in let q : o ≡ i = cc in (0, omega arith, record { within = omega arith; passes = t; before = λ k h. absurd (omega arith) }))
       (λ f. let (j, s, r) = from_at (suc o) ws i (rw f at e) in (suc j, omega arith, record { within = omega arith; passes = r.passes; before = earlier j f r.before }))
       (cases (p w))
     where
@@ -33,32 +37,32 @@ module _ (p : ℕ → Bool) where
       earlier j f b zero h = f
       earlier j f b (suc k) h = b k (omega arith)
 
-  pub first_at : (ws : List ℕ) (i : ℕ) → first p ws ≡ At i → IsFirst p ws i
+  pub first_at : (ws : List ℕ) (i : ℕ) → first p ws ≡ Some i → IsFirst p ws i
   first_at ws i e = let (j, s, r) = from_at 0 ws i e in let z : i ≡ j = omega arith in rw z r
 
-  from_none : (o : ℕ) (ws : List ℕ) → first_from p o ws ≡ Nothing → (k : ℕ) → k < length ws → p (get_or ws k 0) ≡ false
+  from_none : (o : ℕ) (ws : List ℕ) → first_from p o ws ≡ None → (k : ℕ) → k < length ws → p (get_or ws k 0) ≡ false
   from_none o [] e k h = absurd (omega arith)
   from_none o (w ∷ ws) e zero h = ⊎_elim (λ t. absurd (found_never o (rw t at e))) (λ f. f) (cases (p w))
   from_none o (w ∷ ws) e (suc k) h =
       ⊎_elim (λ t. absurd (found_never o (rw t at e))) (λ f. from_none (suc o) ws (rw f at e) k (omega arith)) (cases (p w))
 
-  pub first_none : (ws : List ℕ) → first p ws ≡ Nothing → (k : ℕ) → k < length ws → p (get_or ws k 0) ≡ false
+  pub first_none : (ws : List ℕ) → first p ws ≡ None → (k : ℕ) → k < length ws → p (get_or ws k 0) ≡ false
   first_none ws e = from_none 0 ws e
 
-  from_is : (o : ℕ) (ws : List ℕ) (i : ℕ) → IsFirst p ws i → first_from p o ws ≡ At (o + i)
+  from_is : (o : ℕ) (ws : List ℕ) (i : ℕ) → IsFirst p ws i → first_from p o ws ≡ Some (o + i)
   from_is o [] i r = absurd (omega arith)
-  from_is o (w ∷ ws) zero r = rw r.passes (ap At (omega arith))
+  from_is o (w ∷ ws) zero r = rw r.passes (ap Some (omega arith))
   from_is o (w ∷ ws) (suc i) r =
-      rw (r.before 0 (omega arith), from_is (suc o) ws i (record { within = omega arith; passes = r.passes; before = λ k h. r.before (suc k) (omega arith) })) (ap At (omega arith))
+      rw (r.before 0 (omega arith), from_is (suc o) ws i (record { within = omega arith; passes = r.passes; before = λ k h. r.before (suc k) (omega arith) })) (ap Some (omega arith))
 
-  pub first_is : (ws : List ℕ) (i : ℕ) → IsFirst p ws i → first p ws ≡ At i
-  first_is ws i r = from_is 0 ws i r ∙ ap At (omega arith)
+  pub first_is : (ws : List ℕ) (i : ℕ) → IsFirst p ws i → first p ws ≡ Some i
+  first_is ws i r = from_is 0 ws i r ∙ ap Some (omega arith)
 
-  from_lacks : (o : ℕ) (ws : List ℕ) → ((k : ℕ) → k < length ws → p (get_or ws k 0) ≡ false) → first_from p o ws ≡ Nothing
+  from_lacks : (o : ℕ) (ws : List ℕ) → ((k : ℕ) → k < length ws → p (get_or ws k 0) ≡ false) → first_from p o ws ≡ None
   from_lacks o [] h = refl
   from_lacks o (w ∷ ws) h = rw (h 0 (omega arith)) (from_lacks (suc o) ws (λ k l. h (suc k) (omega arith)))
 
-  pub first_lacks : (ws : List ℕ) → ((k : ℕ) → k < length ws → p (get_or ws k 0) ≡ false) → first p ws ≡ Nothing
+  pub first_lacks : (ws : List ℕ) → ((k : ℕ) → k < length ws → p (get_or ws k 0) ≡ false) → first p ws ≡ None
   first_lacks ws h = from_lacks 0 ws h
 
   -- a store that neither brings nor takes a word that passes changes no search
@@ -229,11 +233,11 @@ module _ (p : ℕ → Bool) where
   count_set (x ∷ ws) zero w h = omega (arith, count_cons w ws, count_cons x ws)
   count_set (x ∷ ws) (suc i) w h = omega (arith, count_set ws i w (omega arith), count_cons x (set ws i w), count_cons x ws)
 
-  count_from : (o : ℕ) (ws : List ℕ) → 0 < count p ws → (i : ℕ) × (first_from p o ws ≡ At i)
+  count_from : (o : ℕ) (ws : List ℕ) → 0 < count p ws → (i : ℕ) × (first_from p o ws ≡ Some i)
   count_from o [] h = absurd (omega arith)
   count_from o (w ∷ ws) h = ⊎_elim (λ t. (o, rw t)) (λ f. let (i, e) = count_from (suc o) ws (rw f at h) in (i, rw f e)) (cases (p w))
 
-  pub count_found : (ws : List ℕ) → 0 < count p ws → (i : ℕ) × (first p ws ≡ At i)
+  pub count_found : (ws : List ℕ) → 0 < count p ws → (i : ℕ) × (first p ws ≡ Some i)
   count_found ws h = count_from 0 ws h
 
   pub found_count : (ws : List ℕ) (i : ℕ) → i < length ws → p (get_or ws i 0) ≡ true → 0 < count p ws

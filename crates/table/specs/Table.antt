@@ -1,15 +1,13 @@
 -- A bounded table: words, of which 0 is an empty place and any other is filed under a key.
 -- Over any way of reading a word's key, since maps, caches and pairs are keyed differently (docs/MACHINE.md, 3).
-use Rattle.std.specs.Prelude.{ℕ, ◌<◌, Bool, List, ◌≡◌, eqb, leb, length, get_or, set}
+use Rattle.std.specs.Prelude.{ℕ, ◌<◌, Bool, List, ◌≡◌, eqb, leb, length, get_or, set, Option, Some, None}
 use Rattle.table.specs.Scan.{first, count, wipe}
-use Rattle.table.specs.declared.Found.{Found}
-use Rattle.table.specs.declared.Found.TheVariants.{At, Nothing}
 
 -- ---- empty places
 abbrev pub is_empty : ℕ → Bool
 is_empty w = eqb w 0
 
-unfoldable pub lowest_free : List ℕ → Found
+unfoldable pub lowest_free : List ℕ → Option ℕ
 lowest_free ws = first is_empty ws
 
 unfoldable pub free_entries : List ℕ → ℕ
@@ -20,21 +18,21 @@ abbrev pub room_for : List ℕ → ℕ → Bool
 room_for ws n = leb n (free_entries ws)
 
 -- ---- what a place gives
-abbrev pub or_else : Found → Found → Found
-or_else (At i) other = At i
-or_else Nothing other = other
+abbrev pub or_else : Option ℕ → Option ℕ → Option ℕ
+or_else (Some i) other = Some i
+or_else None other = other
 
-abbrev pub is_found : Found → Bool
-is_found (At i) = Bool.true
-is_found Nothing = Bool.false
+abbrev pub is_found : Option ℕ → Bool
+is_found (Some i) = Bool.true
+is_found None = Bool.false
 
-abbrev pub set_at : List ℕ → Found → ℕ → List ℕ
-set_at ws (At i) w = set ws i w
-set_at ws Nothing w = ws
+abbrev pub set_at : List ℕ → Option ℕ → ℕ → List ℕ
+set_at ws (Some i) w = set ws i w
+set_at ws None w = ws
 
-abbrev pub word_at : List ℕ → Found → ℕ
-word_at ws (At i) = get_or ws i 0
-word_at ws Nothing = 0
+abbrev pub word_at : List ℕ → Option ℕ → ℕ
+word_at ws (Some i) = get_or ws i 0
+word_at ws None = 0
 
 -- ---- the word is filled, and stands in the table
 pub record Has (ws : List ℕ) (w : ℕ) : Type 0 where
@@ -48,7 +46,7 @@ module _ (key_of : ℕ → ℕ) where
   abbrev pub has_key : ℕ → ℕ → Bool
   has_key k w = eqb (key_of w) k
 
-  unfoldable pub find : List ℕ → ℕ → Found
+  unfoldable pub find : List ℕ → ℕ → Option ℕ
   find ws k = first (has_key k) ws
 
   -- the word of this key, 0 where there is none
@@ -56,7 +54,7 @@ module _ (key_of : ℕ → ℕ) where
   lookup ws k = word_at ws (find ws k)
 
   -- where a word of this key goes: over the one that is there, else into the lowest empty place
-  unfoldable pub place : List ℕ → ℕ → Found
+  unfoldable pub place : List ℕ → ℕ → Option ℕ
   place ws k = or_else (find ws k) (lowest_free ws)
 
   -- where there is no place the table stays as it is

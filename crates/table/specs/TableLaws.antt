@@ -1,5 +1,5 @@
 -- Laws of tables, for any way of reading a word's key, any capacity and any place.
-use Rattle.std.specs.Prelude.{ℕ, ◌+◌, ◌≤◌, ◌<◌, Bool, true, List, ◌≡◌, ◌⊎◌, ltb, length, get_or, set}
+use Rattle.std.specs.Prelude.{ℕ, ◌+◌, ◌≤◌, ◌<◌, Bool, true, List, ◌≡◌, ◌⊎◌, ltb, length, get_or, set, Option, Some, None}
 use Rattle.std.proofs.Math.Bool.{false, true≢false}
 use Rattle.std.proofs.Math.Path.{refl, sym}
 use Rattle.std.proofs.Common.{◌∙◌, arith, length-set, get_or-set_same, get_or-set_other}
@@ -10,8 +10,6 @@ use Rattle.std.specs.Prelude.{if◌then◌else◌}
 use Rattle.table.specs.Scan.{first, cleared, wipe}
 use Rattle.table.specs.ScanLaws.{IsFirst, first_at, first_none, first_is, first_lacks, first_set, first_map, length-wipe, wipe_at, count_set, count_found, found_count, count_wipe, at_most_one}
 use Rattle.table.specs.Table.{is_empty, lowest_free, free_entries, or_else, is_found, set_at, word_at, Has, has_key, find, lookup, place, put, erase, Distinct}
-use Rattle.table.specs.declared.Found.{Found}
-use Rattle.table.specs.declared.Found.TheVariants.{At, Nothing}
 
 -- ---- a store at any place
 pub has_set_new : (ws : List ℕ) (i w : ℕ) → i < length ws → (w ≡ 0 → ⊥) → Has (set ws i w) w
@@ -30,20 +28,20 @@ has_set_inv ws i w u r = ⊎_elim (λ t. inl (new t)) (λ f. inr (old f)) (equal
     old n = record { spot = r.spot; within = h; holds = sym (get_or-set_other ws i r.spot w 0 n) ∙ r.holds; filled = r.filled }
 
 -- ---- what was found
-pub found_at : (f : Found) → is_found f ≡ true → (i : ℕ) × (f ≡ At i)
-found_at (At i) t = (i, refl)
-found_at Nothing t = absurd (true≢false (sym t))
+pub found_at : (f : Option ℕ) → is_found f ≡ true → (i : ℕ) × (f ≡ Some i)
+found_at (Some i) t = (i, refl)
+found_at None t = absurd (true≢false (sym t))
 
 -- ---- empty places
-pub free_at : (ws : List ℕ) (i : ℕ) → lowest_free ws ≡ At i → IsFirst is_empty ws i
+pub free_at : (ws : List ℕ) (i : ℕ) → lowest_free ws ≡ Some i → IsFirst is_empty ws i
 unfolding lowest_free
 free_at ws i e = first_at is_empty ws i e
 
-pub free_place : (ws : List ℕ) → 0 < free_entries ws → (i : ℕ) × (lowest_free ws ≡ At i)
+pub free_place : (ws : List ℕ) → 0 < free_entries ws → (i : ℕ) × (lowest_free ws ≡ Some i)
 unfolding lowest_free free_entries
 free_place ws h = count_found is_empty ws h
 
-pub place_free : (ws : List ℕ) (i : ℕ) → lowest_free ws ≡ At i → 0 < free_entries ws
+pub place_free : (ws : List ℕ) (i : ℕ) → lowest_free ws ≡ Some i → 0 < free_entries ws
 unfolding free_entries
 place_free ws i e = let r = free_at ws i e in found_count is_empty ws i r.within r.passes
 
@@ -59,22 +57,22 @@ free_wipe p ws = count_wipe is_empty p ws refl
 -- ---- by key
 module _ (key_of : ℕ → ℕ) where
   -- ---- find and lookup
-  pub find_at : (ws : List ℕ) (k i : ℕ) → find key_of ws k ≡ At i → IsFirst (has_key key_of k) ws i
+  pub find_at : (ws : List ℕ) (k i : ℕ) → find key_of ws k ≡ Some i → IsFirst (has_key key_of k) ws i
   unfolding find
   find_at ws k i e = first_at (has_key key_of k) ws i e
 
-  pub find_none : (ws : List ℕ) (k : ℕ) → find key_of ws k ≡ Nothing → (j : ℕ) → j < length ws → key_of (get_or ws j 0) ≡ k → ⊥
+  pub find_none : (ws : List ℕ) (k : ℕ) → find key_of ws k ≡ None → (j : ℕ) → j < length ws → key_of (get_or ws j 0) ≡ k → ⊥
   unfolding find
   find_none ws k e j h = eqb-false (key_of (get_or ws j 0)) k (first_none (has_key key_of k) ws e j h)
 
   -- what holds for both answers of a search holds of lookup
-  pub lookup_case : (ws : List ℕ) (k : ℕ) (P : ℕ → Type 0) → ((i : ℕ) → find key_of ws k ≡ At i → P (get_or ws i 0)) → (find key_of ws k ≡ Nothing → P 0) → P (lookup key_of ws k)
+  pub lookup_case : (ws : List ℕ) (k : ℕ) (P : ℕ → Type 0) → ((i : ℕ) → find key_of ws k ≡ Some i → P (get_or ws i 0)) → (find key_of ws k ≡ None → P 0) → P (lookup key_of ws k)
   unfolding lookup
   lookup_case ws k P at none = go (find key_of ws k) refl
     where
-      go : (f : Found) → find key_of ws k ≡ f → P (word_at ws f)
-      go (At i) e = at i e
-      go Nothing e = none e
+      go : (f : Option ℕ) → find key_of ws k ≡ f → P (word_at ws f)
+      go (Some i) e = at i e
+      go None e = none e
 
   lookup_is : (ws : List ℕ) (k i : ℕ) → IsFirst (has_key key_of k) ws i → lookup key_of ws k ≡ get_or ws i 0
   unfolding lookup find
@@ -85,9 +83,9 @@ module _ (key_of : ℕ → ℕ) where
   unfolding lookup find
   lookup_kept ws next k e same = rw e (go (first (has_key key_of k) ws) refl)
     where
-      go : (f : Found) → first (has_key key_of k) ws ≡ f → word_at next f ≡ word_at ws f
-      go (At j) q = same j (first_at (has_key key_of k) ws j q).passes
-      go Nothing q = refl
+      go : (f : Option ℕ) → first (has_key key_of k) ws ≡ f → word_at next f ≡ word_at ws f
+      go (Some j) q = same j (first_at (has_key key_of k) ws j q).passes
+      go None q = refl
 
   pub lookup_has : (ws : List ℕ) (k : ℕ) → (lookup key_of ws k ≡ 0 → ⊥) → Has ws (lookup key_of ws k) × (key_of (lookup key_of ws k) ≡ k)
   lookup_has ws k = lookup_case ws k (λ w. (w ≡ 0 → ⊥) → Has ws w × (key_of w ≡ k)) (λ i e n. there i (find_at ws k i e) n) (λ e n. absurd (n refl))
@@ -119,29 +117,29 @@ module _ (key_of : ℕ → ℕ) where
       (cases (ltb j i))
 
   -- the place that `place` finds is where the key is, or the lowest empty one where the key is nowhere
-  pub place_at : (ws : List ℕ) (k i : ℕ) → place key_of ws k ≡ At i → (find key_of ws k ≡ At i) ⊎ ((find key_of ws k ≡ Nothing) × (lowest_free ws ≡ At i))
+  pub place_at : (ws : List ℕ) (k i : ℕ) → place key_of ws k ≡ Some i → (find key_of ws k ≡ Some i) ⊎ ((find key_of ws k ≡ None) × (lowest_free ws ≡ Some i))
   unfolding place
   place_at ws k i e = go (find key_of ws k) refl e
     where
-      go : (f : Found) → find key_of ws k ≡ f → or_else f (lowest_free ws) ≡ At i → (find key_of ws k ≡ At i) ⊎ ((find key_of ws k ≡ Nothing) × (lowest_free ws ≡ At i))
-      go (At j) q e' = inl (q ∙ e')
-      go Nothing q e' = inr (q, e')
+      go : (f : Option ℕ) → find key_of ws k ≡ f → or_else f (lowest_free ws) ≡ Some i → (find key_of ws k ≡ Some i) ⊎ ((find key_of ws k ≡ None) × (lowest_free ws ≡ Some i))
+      go (Some j) q e' = inl (q ∙ e')
+      go None q e' = inr (q, e')
 
-  pub place_none : (ws : List ℕ) (k : ℕ) → place key_of ws k ≡ Nothing → find key_of ws k ≡ Nothing
+  pub place_none : (ws : List ℕ) (k : ℕ) → place key_of ws k ≡ None → find key_of ws k ≡ None
   unfolding place
   place_none ws k e = go (find key_of ws k) refl e
     where
-      go : (f : Found) → find key_of ws k ≡ f → or_else f (lowest_free ws) ≡ Nothing → find key_of ws k ≡ Nothing
-      go (At j) q e' = q ∙ e'
-      go Nothing q e' = q
+      go : (f : Option ℕ) → find key_of ws k ≡ f → or_else f (lowest_free ws) ≡ None → find key_of ws k ≡ None
+      go (Some j) q e' = q ∙ e'
+      go None q e' = q
 
-  pub place_within : (ws : List ℕ) (k i : ℕ) → place key_of ws k ≡ At i → i < length ws
+  pub place_within : (ws : List ℕ) (k i : ℕ) → place key_of ws k ≡ Some i → i < length ws
   place_within ws k i e = ⊎_elim (λ q. (find_at ws k i q).within) (λ q. (free_at ws i q.1).within) (place_at ws k i e)
 
-  pub place_fits : (ws : List ℕ) (k i : ℕ) → place key_of ws k ≡ At i → Fits ws k i
+  pub place_fits : (ws : List ℕ) (k i : ℕ) → place key_of ws k ≡ Some i → Fits ws k i
   place_fits ws k i e = ⊎_elim (λ q. inl (eqb-true _ _ (find_at ws k i q).passes)) (λ q. inr (eqb-true _ _ (free_at ws i q.1).passes)) (place_at ws k i e)
 
-  pub place_is : (ws : List ℕ) (k i : ℕ) → Distinct key_of ws → 0 < k → place key_of ws k ≡ At i → IsPlace ws k i
+  pub place_is : (ws : List ℕ) (k i : ℕ) → Distinct key_of ws → 0 < k → place key_of ws k ≡ Some i → IsPlace ws k i
   place_is ws k i d o e =
       let h = place_within ws k i e in
       record {
@@ -200,22 +198,22 @@ module _ (key_of : ℕ → ℕ) where
 
   -- ---- put
   -- what holds of a store at the place, and of a table that stays as it is, holds of put
-  pub put_case : (ws : List ℕ) (k w : ℕ) (P : List ℕ → Type 0) → ((i : ℕ) → place key_of ws k ≡ At i → P (set ws i w)) → P ws → P (put key_of ws k w)
+  pub put_case : (ws : List ℕ) (k w : ℕ) (P : List ℕ → Type 0) → ((i : ℕ) → place key_of ws k ≡ Some i → P (set ws i w)) → P ws → P (put key_of ws k w)
   unfolding put
   put_case ws k w P at full = go (place key_of ws k) refl
     where
-      go : (f : Found) → place key_of ws k ≡ f → P (set_at ws f w)
-      go (At i) e = at i e
-      go Nothing e = full
+      go : (f : Option ℕ) → place key_of ws k ≡ f → P (set_at ws f w)
+      go (Some i) e = at i e
+      go None e = full
 
-  pub put_at : (ws : List ℕ) (k w i : ℕ) → place key_of ws k ≡ At i → put key_of ws k w ≡ set ws i w
+  pub put_at : (ws : List ℕ) (k w i : ℕ) → place key_of ws k ≡ Some i → put key_of ws k w ≡ set ws i w
   unfolding put
   put_at ws k w i e = rw e
 
   pub length-put : (ws : List ℕ) (k w : ℕ) → length (put key_of ws k w) ≡ length ws
   length-put ws k w = put_case ws k w (λ l. length l ≡ length ws) (λ i e. length-set ws i w) refl
 
-  pub lookup_put_same : (ws : List ℕ) (k w i : ℕ) → key_of w ≡ k → place key_of ws k ≡ At i → lookup key_of (put key_of ws k w) k ≡ w
+  pub lookup_put_same : (ws : List ℕ) (k w i : ℕ) → key_of w ≡ k → place key_of ws k ≡ Some i → lookup key_of (put key_of ws k w) k ≡ w
   lookup_put_same ws k w i e p =
       let h = place_within ws k i p in
       rw (put_at ws k w i p)
@@ -225,7 +223,7 @@ module _ (key_of : ℕ → ℕ) where
   pub distinct_put : (ws : List ℕ) (k w : ℕ) → key_of w ≡ k → 0 < k → Distinct key_of ws → Distinct key_of (put key_of ws k w)
   distinct_put ws k w e o d = put_case ws k w (Distinct key_of) (λ i p. distinct_set ws k i w e (place_is ws k i d o p).alone d) d
 
-  pub has_put_new : (ws : List ℕ) (k w i : ℕ) → place key_of ws k ≡ At i → (w ≡ 0 → ⊥) → Has (put key_of ws k w) w
+  pub has_put_new : (ws : List ℕ) (k w i : ℕ) → place key_of ws k ≡ Some i → (w ≡ 0 → ⊥) → Has (put key_of ws k w) w
   has_put_new ws k w i p n = rw (put_at ws k w i p) (has_set_new ws i w (place_within ws k i p) n)
 
   pub has_put_inv : (ws : List ℕ) (k w u : ℕ) → Has (put key_of ws k w) u → (u ≡ w) ⊎ Has ws u
@@ -249,25 +247,25 @@ module _ (key_of : ℕ → ℕ) where
 
   -- ---- room
   -- a word has a place exactly where its key is there or a place is empty
-  pub place_room : (ws : List ℕ) (k : ℕ) → (find key_of ws k ≡ Nothing → 0 < free_entries ws) → (i : ℕ) × (place key_of ws k ≡ At i)
+  pub place_room : (ws : List ℕ) (k : ℕ) → (find key_of ws k ≡ None → 0 < free_entries ws) → (i : ℕ) × (place key_of ws k ≡ Some i)
   unfolding place
   place_room ws k = go (find key_of ws k)
     where
-      go : (f : Found) → (f ≡ Nothing → 0 < free_entries ws) → (i : ℕ) × (or_else f (lowest_free ws) ≡ At i)
-      go (At i) h = (i, refl)
-      go Nothing h = free_place ws (h refl)
+      go : (f : Option ℕ) → (f ≡ None → 0 < free_entries ws) → (i : ℕ) × (or_else f (lowest_free ws) ≡ Some i)
+      go (Some i) h = (i, refl)
+      go None h = free_place ws (h refl)
 
-  pub room_place : (ws : List ℕ) (k i : ℕ) → place key_of ws k ≡ At i → find key_of ws k ≡ Nothing → 0 < free_entries ws
+  pub room_place : (ws : List ℕ) (k i : ℕ) → place key_of ws k ≡ Some i → find key_of ws k ≡ None → 0 < free_entries ws
   unfolding place
   room_place ws k i p e = place_free ws i (rw e at p)
 
   -- a new key takes one empty place
-  pub free_put_new : (ws : List ℕ) (k w : ℕ) → find key_of ws k ≡ Nothing → 0 < free_entries ws → (w ≡ 0 → ⊥) → free_entries ws ≡ free_entries (put key_of ws k w) + 1
+  pub free_put_new : (ws : List ℕ) (k w : ℕ) → find key_of ws k ≡ None → 0 < free_entries ws → (w ≡ 0 → ⊥) → free_entries ws ≡ free_entries (put key_of ws k w) + 1
   unfolding place
   free_put_new ws k w e h n =
       let (i, f) = free_place ws h in
       let r = free_at ws i f in
-      let p : place key_of ws k ≡ At i = rw e f in
+      let p : place key_of ws k ≡ Some i = rw e f in
       let t = rw (r.passes, ne_eqb w 0 n) at (free_set ws i w r.within) in
       rw (put_at ws k w i p) (omega arith)
 
@@ -280,9 +278,9 @@ module _ (key_of : ℕ → ℕ) where
     empty_lacks : (k : ℕ) → 0 < k → has_key key_of k 0 ≡ false
     empty_lacks k o = ne_eqb (key_of 0) k (λ e. omega arith)
 
-    pub lookup_nothing : (ws : List ℕ) (k : ℕ) → 0 < k → lookup key_of ws k ≡ 0 → find key_of ws k ≡ Nothing
+    pub lookup_nothing : (ws : List ℕ) (k : ℕ) → 0 < k → lookup key_of ws k ≡ 0 → find key_of ws k ≡ None
     lookup_nothing ws k o =
-        lookup_case ws k (λ w. w ≡ 0 → find key_of ws k ≡ Nothing) (λ i e z. absurd (true≢false (sym (find_at ws k i e).passes ∙ rw z (empty_lacks k o)))) (λ e z. e)
+        lookup_case ws k (λ w. w ≡ 0 → find key_of ws k ≡ None) (λ i e z. absurd (true≢false (sym (find_at ws k i e).passes ∙ rw z (empty_lacks k o)))) (λ e z. e)
 
     pub lookup_none : (ws : List ℕ) (k w : ℕ) → 0 < k → lookup key_of ws k ≡ 0 → Has ws w → key_of w ≡ k → ⊥
     lookup_none ws k w o e r q = find_none ws k (lookup_nothing ws k o e) r.spot r.within (rw r.holds q)
@@ -345,11 +343,11 @@ module _ (key_of : ℕ → ℕ) where
         stays f = rw f (⊎_elim (λ t. rw t (λ q. sym q ∙ empty)) (λ g. rw g (d a b l (rw (length-wipe p ws) at h))) (cases (p (get_or ws a 0))))
 
     -- a word in place of another takes no place
-    pub free_put_same : (ws : List ℕ) (k w i : ℕ) → 0 < k → find key_of ws k ≡ At i → (w ≡ 0 → ⊥) → free_entries (put key_of ws k w) ≡ free_entries ws
+    pub free_put_same : (ws : List ℕ) (k w i : ℕ) → 0 < k → find key_of ws k ≡ Some i → (w ≡ 0 → ⊥) → free_entries (put key_of ws k w) ≡ free_entries ws
     unfolding place
     free_put_same ws k w i o e n =
         let r = find_at ws k i e in
         let f : is_empty (get_or ws i 0) ≡ false = ne_eqb (get_or ws i 0) 0 (λ z. true≢false (sym r.passes ∙ rw z (empty_lacks k o))) in
-        let p : place key_of ws k ≡ At i = rw e in
+        let p : place key_of ws k ≡ Some i = rw e in
         let t = rw (f, ne_eqb w 0 n) at (free_set ws i w r.within) in
         rw (put_at ws k w i p) (omega arith)

@@ -6,6 +6,7 @@ ghost use Rattle.box_cores.specs.Boxes.{box, BoxValid};
 ghost use Rattle.box_cores.specs.Given.{Judgement, given, operation_gives, operation_refused, OperationAsked, sequence_gives, refused_whole, free_gives, free_told, free_given, FreeAsked};
 ghost use Rattle.slots.specs.Slots.{words, slots_of};
 
+use model::Lent;
 use numbers::SLOTS;
 use slots::Slot;
 
@@ -30,10 +31,18 @@ pub extern "C" fn tiligormis_valid(
     let dma_slots = dma_cache.len();
     let cpu_words = slots::load(cpu_cache, SLOTS as usize);
     let dma_words = slots::load(dma_cache, SLOTS as usize);
-    box_reads::valid(
-        machine, sets, pairs, cpu_map, cpu_walker, dma_map, dma_walker, memory, cpu_slots,
-        dma_slots, cpu_words, dma_words,
-    )
+    let seen: Lent<&[u64]> = Lent {
+        sets,
+        pairs,
+        cpu_map,
+        cpu_walker,
+        cpu_cache: &cpu_words,
+        dma_map,
+        dma_walker,
+        dma_cache: &dma_words,
+        memory,
+    };
+    box_reads::valid(machine, seen, cpu_slots, dma_slots)
 }
 
 // One operation, as a row. One that is refused leaves the box as it was.
@@ -62,15 +71,23 @@ pub extern "C" fn tiligormis_operation(
 {
     let cpu_slots = cpu_cache.len();
     let dma_slots = dma_cache.len();
-    let cpu_words = slots::load(&*cpu_cache, SLOTS as usize);
-    let dma_words = slots::load(&*dma_cache, SLOTS as usize);
-    let out = box_cores::operation(
-        machine, sets, pairs, cpu_map, cpu_walker, dma_map, dma_walker, memory, row, answer,
-        cpu_slots, dma_slots, cpu_words, dma_words,
-    );
-    slots::store(cpu_cache, out.cpu, out.number);
-    slots::store(dma_cache, out.dma, out.number);
-    out.number
+    let mut cpu_words = slots::load(&*cpu_cache, SLOTS as usize);
+    let mut dma_words = slots::load(&*dma_cache, SLOTS as usize);
+    let mut lent: Lent<&mut [u64]> = Lent {
+        sets,
+        pairs,
+        cpu_map,
+        cpu_walker,
+        cpu_cache: &mut cpu_words,
+        dma_map,
+        dma_walker,
+        dma_cache: &mut dma_words,
+        memory,
+    };
+    let number = box_cores::operation(machine, &mut lent, row, answer, cpu_slots, dma_slots);
+    slots::store(cpu_cache, &cpu_words, number == 0);
+    slots::store(dma_cache, &dma_words, number == 0);
+    number
 }
 
 // All the rows, one after the other. Refused as a whole, it leaves the box and the answers as they were.
@@ -98,15 +115,23 @@ pub extern "C" fn tiligormis_sequence(
 {
     let cpu_slots = cpu_cache.len();
     let dma_slots = dma_cache.len();
-    let cpu_words = slots::load(&*cpu_cache, SLOTS as usize);
-    let dma_words = slots::load(&*dma_cache, SLOTS as usize);
-    let out = box_cores::sequence(
-        machine, sets, pairs, cpu_map, cpu_walker, dma_map, dma_walker, memory, rows, answers,
-        cpu_slots, dma_slots, cpu_words, dma_words,
-    );
-    slots::store(cpu_cache, out.cpu, out.number);
-    slots::store(dma_cache, out.dma, out.number);
-    out.number
+    let mut cpu_words = slots::load(&*cpu_cache, SLOTS as usize);
+    let mut dma_words = slots::load(&*dma_cache, SLOTS as usize);
+    let mut lent: Lent<&mut [u64]> = Lent {
+        sets,
+        pairs,
+        cpu_map,
+        cpu_walker,
+        cpu_cache: &mut cpu_words,
+        dma_map,
+        dma_walker,
+        dma_cache: &mut dma_words,
+        memory,
+    };
+    let number = box_cores::sequence(machine, &mut lent, rows, answers, cpu_slots, dma_slots);
+    slots::store(cpu_cache, &cpu_words, number == 0);
+    slots::store(dma_cache, &dma_words, number == 0);
+    number
 }
 
 // How many pages are free, and the lowest.
@@ -133,8 +158,16 @@ pub extern "C" fn tiligormis_free(
     let dma_slots = dma_cache.len();
     let cpu_words = slots::load(cpu_cache, SLOTS as usize);
     let dma_words = slots::load(dma_cache, SLOTS as usize);
-    box_reads::free(
-        machine, sets, pairs, cpu_map, cpu_walker, dma_map, dma_walker, memory, free_pages,
-        cpu_slots, dma_slots, cpu_words, dma_words,
-    )
+    let seen: Lent<&[u64]> = Lent {
+        sets,
+        pairs,
+        cpu_map,
+        cpu_walker,
+        cpu_cache: &cpu_words,
+        dma_map,
+        dma_walker,
+        dma_cache: &dma_words,
+        memory,
+    };
+    box_reads::free(machine, seen, free_pages, cpu_slots, dma_slots)
 }

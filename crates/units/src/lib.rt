@@ -3,73 +3,75 @@
 
 ghost use Rattle.std.specs.Prelude.{◌≡◌, ◌≤◌, ◌<◌};
 ghost use Rattle.numbers.specs.Limits.{UNITS};
-ghost use Rattle.units.specs.Units.{mark_number, is_mark, mark_of, suits, is_unit, assignable};
+ghost use Rattle.units.specs.Units.{mark_number, is_mark, mark_of, Marks, suits, is_unit, assignable};
 ghost use Rattle.units.specs.Spans.{span_within, region_span};
 
-use numbers::{GUEST_PAGES, GuestPage, PhysPage, Region, Side, UNITS, VmId};
-
-#[derive(Clone, Copy)]
-pub enum Mark {
-    Cpu,
-    Dma,
-    Both,
-}
-
-#[derive(Clone, Copy)]
-pub struct Unit {
-    pub vm: VmId,
-    pub guest: GuestPage,
-    pub page: PhysPage,
-    pub count: u64,
-    pub access: u64,
-    pub mark: Mark,
-}
+use numbers::{GUEST_PAGES, Region, Side, UNITS};
 
 // ---- Marks and their numbers.
 
-pub fn mark_number(mark: Mark) -> u64
-    ensures { result ≡ mark_number mark }
-{
-    match mark {
-        Mark::Cpu => 1,
-        Mark::Dma => 2,
-        Mark::Both => 3,
+#[derive(Clone, Copy)]
+pub enum Mark {
+    Cpu = 1,
+    Dma = 2,
+    Both = 3,
+}
+
+// A number that is no mark's.
+#[derive(Clone, Copy)]
+pub struct NoMark(pub u64);
+
+impl From<Mark> for u64 {
+    ghost from_gives = { λ mark number. number ≡ mark_number mark };
+
+    fn from(mark: Mark) -> u64 {
+        mark as u64
+    }
+}
+
+impl TryFrom<u64> for Mark {
+    type Error = NoMark;
+
+    ghost try_from_gives = { Marks };
+
+    fn try_from(number: u64) -> Result<Mark, NoMark> {
+        match number {
+            1 => Ok(Mark::Cpu),
+            2 => Ok(Mark::Dma),
+            3 => Ok(Mark::Both),
+            _ => Err(NoMark(number)),
+        }
     }
 }
 
 pub fn is_mark(number: u64) -> bool
     ensures { result ≡ is_mark number }
 {
-    (0 < number) & (number < 4)
+    Mark::try_from(number).is_ok()
 }
 
 // The mark of a number; one that is no mark's reads as CPU, which `is_mark` tells apart.
 pub fn mark_of(number: u64) -> Mark
     ensures { result ≡ mark_of number }
 {
-    if number == 2 {
-        return Mark::Dma;
-    }
-    if number == 3 {
-        return Mark::Both;
-    }
-    Mark::Cpu
+    Mark::try_from(number).unwrap_or(Mark::Cpu)
 }
 
 pub fn suits(mark: Mark, side: Side) -> bool
     ensures { result ≡ suits mark side }
 {
-    match mark {
-        Mark::Both => true,
-        Mark::Cpu => match side {
-            Side::Cpu => true,
-            Side::Dma => false,
-        },
-        Mark::Dma => match side {
-            Side::Cpu => false,
-            Side::Dma => true,
-        },
-    }
+    matches!(
+        (mark, side),
+        (Mark::Both, _) | (Mark::Cpu, Side::Cpu) | (Mark::Dma, Side::Dma)
+    )
+}
+
+// ---- Units.
+
+#[derive(Clone, Copy)]
+pub struct Unit {
+    pub region: Region,
+    pub mark: Mark,
 }
 
 // ---- Spans, of numbers of any size, without wrapping.
@@ -78,10 +80,7 @@ pub fn suits(mark: Mark, side: Side) -> bool
 pub fn span_within(base: u64, count: u64, limit: u64) -> bool
     ensures { result ≡ span_within base count limit }
 {
-    if limit < count {
-        return false;
-    }
-    base <= limit - count
+    count <= limit && base <= limit - count
 }
 
 // What refusal 3 asks of a region in a machine of `pages` pages.
@@ -98,26 +97,17 @@ pub fn region_span(region: Region, pages: u64) -> bool
 pub fn is_unit(unit: Unit, side: Side, region: Region) -> bool
     ensures { result ≡ is_unit side region unit }
 {
-    let mark = unit.mark;
-    suits(mark, side)
-        & (unit.vm.0 == region.vm.0)
-        & (unit.guest.0 == region.guest.0)
-        & (unit.page.0 == region.page.0)
-        & (unit.count == region.count)
-        & (unit.access == region.access)
+    suits(unit.mark, side) & (unit.region == region)
 }
 
 pub fn assignable(units: [Unit; UNITS], count: u64, side: Side, region: Region) -> bool
     requires { count ≤ UNITS }
     ensures { result ≡ assignable units count side region }
 {
-    let mut k = 0;
-    while k < count {
-        let unit = units[k as usize];
-        if is_unit(unit, side, region) {
+    for k in 0..count {
+        if is_unit(units[k as usize], side, region) {
             return true;
         }
-        k += 1;
     }
     false
 }

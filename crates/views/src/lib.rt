@@ -4,13 +4,10 @@
 ghost use Rattle.std.specs.Prelude.{◌≡◌, ◌*◌, ◌<◌, length};
 ghost use Rattle.numbers.specs.Limits.{PAGES, VMS, SETS, SET_WORDS};
 ghost use Rattle.numbers.specs.Packing.{pair_key, pair_key_of};
-ghost use Rattle.table.specs.Scan.{any};
 ghost use Rattle.table.specs.Table.{find};
-ghost use Rattle.model.specs.Views.{knows, claims, claimed_elsewhere, has_pages, on_page, may_map};
-ghost use Rattle.views.specs.Tests.{passes};
+ghost use Rattle.model.specs.Views.{knows, claims, claimed_elsewhere, has_pages, on_page, of_vm, joins, may_map};
 
 use numbers::{PhysPage, Side, VMS, VmId};
-use table::Found;
 
 // ---- VMs and their pages.
 
@@ -36,12 +33,10 @@ pub fn claimed_elsewhere(side: Side, sets: &[u64], vm: VmId, page: PhysPage) -> 
     requires { (page.0 < PAGES) × (length sets.now ≡ SETS * SET_WORDS) }
     ensures { result ≡ claimed_elsewhere side sets.now vm.0 page.0 }
 {
-    let mut other = 0;
-    while other < VMS {
+    for other in 0..VMS {
         if !(other == vm.0) & claims(side, sets, VmId(other), page) {
             return true;
         }
-        other += 1;
     }
     false
 }
@@ -56,84 +51,36 @@ pub fn has_pages(side: Side, sets: &[u64], vm: VmId) -> bool
     }
 }
 
-// ---- Words of a table. One search serves every question; a test says which words count.
-
-#[derive(Clone, Copy)]
-pub enum Test {
-    // A mapping onto the page, or a pair on it.
-    OnPage(PhysPage),
-    // A mapping of the VM; one of the VM onto the page.
-    OfVm(VmId),
-    Maps(VmId, PhysPage),
-    // A pair with the VM at an end; one on the page.
-    Joins(VmId),
-    Shares(VmId, PhysPage),
-    // A port with this VM on it.
-    Runs(VmId),
-}
+// ---- Words of a table: what `table::any` and the like may ask of each.
 
 // A mapping onto the page, or a pair on it.
 pub fn on_page(w: u64, page: PhysPage) -> bool
     ensures { result ≡ on_page page.0 w }
 {
-    (numbers::filled_of(w) == 1) & (numbers::page_of(w).0 == page.0)
+    (numbers::filled_of(w) == 1) & (numbers::page_of(w) == page)
 }
 
-fn of_vm(w: u64, vm: VmId) -> bool
-    ensures { result ≡ passes (Test.OfVm vm) w }
+// A mapping of the VM.
+pub fn of_vm(w: u64, vm: VmId) -> bool
+    ensures { result ≡ of_vm vm.0 w }
 {
-    (numbers::filled_of(w) == 1) & (numbers::vm_of(w).0 == vm.0)
+    (numbers::filled_of(w) == 1) & (numbers::vm_of(w) == vm)
 }
 
 // A pair that has the VM at an end.
 pub fn joins(w: u64, vm: VmId) -> bool
-    ensures { result ≡ passes (Test.Joins vm) w }
+    ensures { result ≡ joins vm.0 w }
 {
-    (numbers::filled_of(w) == 1)
-        & ((numbers::left_of(w).0 == vm.0) | (numbers::right_of(w).0 == vm.0))
-}
-
-fn passes(test: Test, w: u64) -> bool
-    ensures { result ≡ passes test w }
-{
-    match test {
-        Test::OnPage(page) => on_page(w, page),
-        Test::OfVm(vm) => of_vm(w, vm),
-        Test::Maps(vm, page) => of_vm(w, vm) & on_page(w, page),
-        Test::Joins(vm) => joins(w, vm),
-        Test::Shares(vm, page) => joins(w, vm) & on_page(w, page),
-        Test::Runs(vm) => vm.0 == w,
-    }
-}
-
-// Whether a word of the table passes.
-pub fn any(words: &[u64], test: Test) -> bool
-    ensures { result ≡ any (passes test) words.now }
-{
-    let mut i = 0;
-    while i < words.len() {
-        if passes(test, words[i]) {
-            return true;
-        }
-        i += 1;
-    }
-    false
+    (numbers::filled_of(w) == 1) & ((numbers::left_of(w) == vm) | (numbers::right_of(w) == vm))
 }
 
 // Where the pair of these two on the page stands, in whichever order of its ends.
-pub fn find_pair(pairs: &[u64], left: VmId, right: VmId, page: PhysPage) -> Found
+pub fn find_pair(pairs: &[u64], left: VmId, right: VmId, page: PhysPage) -> Option<usize>
     requires { (left.0 < VMS) × (right.0 < VMS) × (page.0 < PAGES) }
     ensures { result ≡ find pair_key_of pairs.now (pair_key left.0 right.0 page.0) }
 {
     let key = numbers::pair_key(left, right, page);
-    let mut i = 0;
-    while i < pairs.len() {
-        if numbers::pair_key_of(pairs[i]) == key {
-            return Found::At(i);
-        }
-        i += 1;
-    }
-    Found::Nothing
+    table::first(pairs, |w| numbers::pair_key_of(w) == key)
 }
 
 // Whether the VM may map the page: for CPU its own or one shared with it, for DMA its DMA page or the shared span's.
@@ -141,12 +88,11 @@ pub fn may_map(side: Side, sets: &[u64], pairs: &[u64], vm: VmId, page: PhysPage
     requires { (vm.0 < VMS) × (page.0 < PAGES) × (length sets.now ≡ SETS * SET_WORDS) }
     ensures { result ≡ may_map side sets.now pairs.now vm.0 page.0 }
 {
-    let own = claims(side, sets, vm, page);
-    if own {
+    if claims(side, sets, vm, page) {
         return true;
     }
     match side {
-        Side::Cpu => any(pairs, Test::Shares(vm, page)),
+        Side::Cpu => table::any(pairs, |w| joins(w, vm) & on_page(w, page)),
         Side::Dma => pages::holds(sets, pages::SHARED, page),
     }
 }

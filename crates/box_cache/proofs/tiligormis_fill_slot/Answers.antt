@@ -1,6 +1,8 @@
 -- `tiligormis_fill_slot` meets its contract: what the core leaves of the words that were loaded is what is left of the slots.
-use Rattle.slots.specs.CallLaws.{fill_slots}
+use Rattle.slots.specs.CallLaws.{accepted_number, fill_slots}
 use Rattle.box_cache.proofs.tiligormis_fill_slot.Goals as goal
 
 pub returns : goal.returns
-returns c = fill_slots c.args.slots.now _ c.load-words.ensures _ _ _ c.store.ensures _ _ _ _ _ _ _ c.fill-out.ensures
+returns c =
+    rw c.number_of.ensures
+    (fill_slots c.args.slots.now _ c.load-words.ensures _ _ _ (rw (c.is_ok.ensures.value, accepted_number) at c.store.ensures) _ _ _ _ _ _ _ c.fill-answer.ensures)

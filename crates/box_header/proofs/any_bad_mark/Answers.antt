@@ -1,4 +1,3 @@
-use Prim.Native.Nat.{◌-◌}
 use Rattle.table.specs.Loops.{try_next, try_yes, try_no}
 use Rattle.box_header.proofs.any_bad_mark.Goals as goal
 

@@ -1,4 +1,3 @@
-use Prim.Native.Nat.{◌-◌}
 use Rattle.numbers.specs.Limits.{UNITS}
 use Rattle.table.specs.Loops.{Trying}
 use Rattle.box_header.specs.Numbers.{bad_mark}
@@ -6,6 +5,3 @@ use Rattle.box_header.proofs.any_bad_mark.Given as goal
 
 abbrev pub invariant-loop-k : goal.invariant-loop-k
 invariant-loop-k l = Trying (bad_mark l.units l.count) UNITS l.k
-
-abbrev pub decreases-loop-k : goal.decreases-loop-k
-decreases-loop-k l = UNITS - l.k

@@ -1,4 +1,3 @@
-use Prim.Native.Nat.{◌-◌}
 use Rattle.numbers.specs.Limits.{UNITS}
 use Rattle.table.specs.Loops.{Sweeping}
 use Rattle.box_header.specs.Numbers.{unit_written}
@@ -6,6 +5,3 @@ use Rattle.box_header.proofs.put_units.Given as goal
 
 abbrev pub invariant-loop-k : goal.invariant-loop-k
 invariant-loop-k l = Sweeping (unit_written l.units) UNITS l.initial.numbers l.numbers l.k
-
-abbrev pub decreases-loop-k : goal.decreases-loop-k
-decreases-loop-k l = UNITS - l.k

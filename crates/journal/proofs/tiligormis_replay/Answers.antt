@@ -1,13 +1,27 @@
 -- `tiligormis_replay` meets its contract: what the core leaves of the words that were loaded is what is left of the slots.
-use borrow.Author.Rules.{rules}
+use Rattle.std.proofs.Common.{rules}
+use Rattle.model.specs.Header.{Lists, lists}
 use Rattle.journal.specs.ReplayLaws.{replay_slots}
 use Rattle.journal.proofs.tiligormis_replay.Goals as goal
 
 pub returns : goal.returns
-returns c = replay_slots c.args.machine.now c.args.sets.now c.args.pairs.now c.args.cpu_map.now c.args.cpu_walker.now c.args.cpu_cache.now
-    c.args.dma_map.now c.args.dma_walker.now c.args.dma_cache.now c.args.memory.now c.load-cpu_words.result c.load-dma_words.result
-    c.load-cpu_words.ensures.0 c.load-dma_words.ensures.0 c.replay-out.new.header c.replay-out.new.sets c.replay-out.new.pairs c.replay-out.new.cpu_map
-    c.replay-out.new.cpu_walker c.replay-out.result.cpu c.replay-out.new.dma_map c.replay-out.new.dma_walker c.replay-out.result.dma
-    c.replay-out.new.memory (search rules) (search rules) c.replay-out.result.stored c.store.new.slots c.store-2.new.slots c.store.ensures
-    c.store-2.ensures c.replay-out.result.number c.replay-out.new.place c.replay-out.new.answers c.replay-out.new.taken c.args.log.now c.args.place.now
-    c.args.most c.args.answers.now c.args.taken.now c.replay-out.ensures
+returns c =
+    let a = c.args in
+    let given : Lists =
+    record {
+      sets = a.sets.now;
+      pairs = a.pairs.now;
+      cpu_map = a.cpu_map.now;
+      cpu_walker = a.cpu_walker.now;
+      cpu_cache = c.load-cpu_words.result;
+      dma_map = a.dma_map.now;
+      dma_walker = a.dma_walker.now;
+      dma_cache = c.load-dma_words.result;
+      memory = a.memory.now;
+    }
+    in
+    rw c.stop_number.ensures
+    (replay_slots a.machine.now given a.cpu_cache.now a.dma_cache.now c.load-cpu_words.ensures.0 c.load-dma_words.ensures.0
+    c.replay-stop.new.header (lists c.replay-stop.new.lent) (search rules) (search rules) _ _ c.replay-stop.new.place c.replay-stop.new.answers
+    c.replay-stop.new.taken a.log.now a.place.now a.most a.answers.now a.taken.now (search rules) (rw c.stored_by-stored.ensures at c.store.ensures)
+    (rw c.stored_by-stored.ensures at c.store-2.ensures) c.replay-stop.ensures.given)

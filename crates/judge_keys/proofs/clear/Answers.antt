@@ -1,19 +1,19 @@
 -- `judge_keys::clear` meets its contract. The places that the walk has yet to pass are entered, and no other.
-use Rattle.judge_keys.specs.ChainLaws.{chain_of, walk_start, walk_next}
+use Rattle.judge_keys.specs.ChainLaws.{walk_start, walk_next}
 use Rattle.judge_keys.specs.PlaceLaws.{clear_start, clear_next, clear_end}
 use Rattle.judge_keys.proofs.clear.Goals as goal
 
-pub loop-at-init : goal.loop-at-init
-loop-at-init c =
-    let r = chain_of _ _ _ _ c.requires.0 c.requires.1 in
-    rw c.wide-at.ensures (walk_start _ _ _ _ r, clear_start _ _ _ _ _ r c.requires.2)
+pub loop-spot-init : goal.loop-spot-init
+loop-spot-init c =
+    let p = c.places-spot-items.ensures in
+    rw c.into_iter-spot-iterator.ensures.into_iter_gives (p.0, walk_start _ _ _ _ p.1, clear_start _ _ _ _ _ p.1 c.requires.1)
 
-pub loop-at-preserved : goal.loop-at-preserved
-loop-at-preserved c =
-    let l = c.requires.0.links in
-    let r = c.loop-at.invariant in
-    let n = c.loop-at-test.true in
-    rw (c.wide-at-in-loop-at.ensures, c.low_of-low.ensures.0) (walk_next _ _ _ _ l r.0 n, clear_next _ _ _ _ _ l r.0 n r.1)
+pub loop-spot-preserved : goal.loop-spot-preserved
+loop-spot-preserved c =
+    let (same, r, t) = c.loop-spot.invariant in
+    let s = rw same at c.in-Some.ensures.steps in
+    let l = c.args.map.chained.links in
+    rw c.low_of.ensures.0 (s.0, walk_next _ _ _ _ _ _ l s.1 r, clear_next _ _ _ _ _ _ _ l s.1 r t)
 
 pub returns : goal.returns
-returns c = clear_end _ _ _ (rw c.loop-at-test.false at c.loop-at.invariant.1)
+returns c = clear_end _ _ _ (rw c.in-None.ensures.steps.1 at c.loop-spot.invariant.2)

@@ -7,18 +7,18 @@ use Rattle.judge_keys.proofs.enter.Goals as goal
 
 pub returns-then-place-low-ne0 : goal.returns-then-place-low-ne0
 returns-then-place-low-ne0 c =
-    let l = c.requires.0.links in
-    let r = c.loop-at.invariant in
-    let n = c.loop-at-test.true in
+    let (same, r, t) = c.loop-spot.invariant in
+    let s = rw same at c.in-Some.ensures.steps in
+    let own = walk_on _ _ _ _ _ _ c.args.map.chained.links s.1 r in
     record {
       entered = λ z. absurd (true≢false (sym z));
-      twice = λ z. enter_twice _ _ _ _ r.1 (walk_on _ _ _ _ l r.0 n) n (rw c.low_of-low.ensures.0 at c.if-place-low-ne0.true);
+      twice = λ z. enter_twice _ _ _ _ _ t own s.1.0 (rw c.low_of-low.ensures.0 at c.if-place-low-ne0.true);
     }
 
-pub loop-at-preserved : goal.loop-at-preserved
-loop-at-preserved c =
-    let l = c.requires.0.links in
-    let r = c.loop-at.invariant in
-    let n = c.loop-at-test.true in
+pub loop-spot-preserved : goal.loop-spot-preserved
+loop-spot-preserved c =
+    let (same, r, t) = c.loop-spot.invariant in
+    let s = rw same at c.in-Some.ensures.steps in
+    let l = c.args.map.chained.links in
     let z = rw c.low_of-low.ensures.0 at c.if-place-low-ne0.false in
-    rw (c.wide-at-in-loop-at.ensures, c.low_of-low.ensures.0, c.narrow.ensures) (walk_next _ _ _ _ l r.0 n, enter_next _ _ _ _ _ l r.0 n r.1 z)
+    rw (c.low_of-low.ensures.0, c.link_to.ensures) (s.0, walk_next _ _ _ _ _ _ l s.1 r, enter_next _ _ _ _ _ _ _ l s.1 r t z)

@@ -5,8 +5,7 @@ use Rattle.judge_keys.specs.Keys.{low_of}
 use Rattle.judge_keys.specs.ChainLaws.{Passing}
 use Rattle.judge_keys.proofs.none_left.Given as goal
 
-abbrev pub invariant-loop-at : goal.invariant-loop-at
-invariant-loop-at l = Passing l.words l.class (λ i. get_or l.place (low_of (get_or l.words i 0)) 0 ≡ 0) l.at
-
-abbrev pub decreases-loop-at : goal.decreases-loop-at
-decreases-loop-at l = l.at
+abbrev pub invariant-loop-spot : goal.invariant-loop-spot
+invariant-loop-spot l =
+    let at = l.spot-iterator.at in
+    (l.spot-iterator.chains ≡ l.map) × Passing l.map.words.now l.class (λ i. get_or l.place (low_of (get_or l.map.words.now i 0)) 0 ≡ 0) at

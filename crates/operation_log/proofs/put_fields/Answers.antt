@@ -1,7 +1,6 @@
--- `put_fields` meets its contract: what stands there and one more field.
-use Rattle.operation_log.specs.StepLaws.{fill_next}
+-- `put_fields` meets its contract: a field behind those that stand there.
+use Rattle.operation_log.specs.StepLaws.{field_put}
 use Rattle.operation_log.proofs.put_fields.Goals as goal
 
 pub loop-i-preserved : goal.loop-i-preserved
-loop-i-preserved c =
-    fill_next _ _ _ _ _ _ _ c.loop-i.invariant c.loop-i-test.true c.put_four.ensures
+loop-i-preserved c = field_put _ _ _ _ _ _ c.loop-i.invariant c.loop-i-test.true c.put.ensures

@@ -1,27 +1,17 @@
--- `write` meets its contract: refused it leaves the buffer, and else length, kind and fields are the row's record.
-use mathlib.Core.Path.{sym, ◌∙◌}
+-- `write` meets its contract: a row whose fields do not fit leaves the buffer, and else length, kind and fields are the row's record.
+use Rattle.std.specs.Prelude.{◌/◌, take}
+use Rattle.std.proofs.Common.{sym, ◌∙◌, ap}
 use native.Mathlib.Omega.{arith}
-use Rattle.operation_log.specs.StepLaws.{fits_read, no_kind, no_fit, no_room, room_for, left_alone, filled}
+use Rattle.operation_log.specs.Kinds.{FIELD_BYTES}
+use Rattle.operation_log.specs.StepLaws.{unfit, filled}
 use Rattle.operation_log.proofs.write.Goals as goal
-
-pub returns-then-not-is_kind : goal.returns-then-not-is_kind
-returns-then-not-is_kind c =
-    left_alone c.args.row c.args.log.now c.args.at _ (no_kind c.args.row _ c.args.at (sym c.is_kind.ensures ∙ c.if-not-is_kind.true))
 
 pub returns-then-not-fit : goal.returns-then-not-fit
 returns-then-not-fit c =
-    left_alone c.args.row c.args.log.now c.args.at _ (no_fit c.args.row _ c.args.at (sym c.is_kind.ensures ∙ c.if-not-is_kind.false) (sym (fits_read c.args.row _ _ _ c.body_length-body.ensures.0 c.fields_of-fields.ensures c.fit.ensures) ∙ c.if-not-fit.true))
-
-pub returns-then-log-at : goal.returns-then-log-at
-returns-then-log-at c =
-    left_alone c.args.row c.args.log.now c.args.at _ (no_room c.args.row _ c.args.at (sym c.is_kind.ensures ∙ c.if-not-is_kind.false) (sym (fits_read c.args.row _ _ _ c.body_length-body.ensures.0 c.fields_of-fields.ensures c.fit.ensures) ∙ c.if-not-fit.false) (omega arith))
-
-pub returns-then-log-at-2 : goal.returns-then-log-at-2
-returns-then-log-at-2 c =
-    left_alone c.args.row c.args.log.now c.args.at _ (no_room c.args.row _ c.args.at (sym c.is_kind.ensures ∙ c.if-not-is_kind.false) (sym (fits_read c.args.row _ _ _ c.body_length-body.ensures.0 c.fields_of-fields.ensures c.fit.ensures) ∙ c.if-not-fit.false) (omega arith))
+    unfit c.args.row c.args.log.now c.args.at c.in_ok-body.body _ (sym c.body_length.ensures.length ∙ c.in_ok-body.ensures.ok_part)
+    (ap (take (c.in_ok-body.body / FIELD_BYTES)) c.fields_of-all.ensures) c.fit.ensures c.if-not-fit.true
 
 pub returns : goal.returns
 returns c =
-    filled c.args.row c.args.log.now c.args.at _ _ _ _ _ c.body_length-body.ensures.0 c.fields_of-fields.ensures c.put_two.ensures c.put_two-2.ensures
-    c.put_fields.ensures (room_for c.args.row _ c.args.at (sym c.is_kind.ensures ∙ c.if-not-is_kind.false) (sym (fits_read c.args.row _ _ _
-    c.body_length-body.ensures.0 c.fields_of-fields.ensures c.fit.ensures) ∙ c.if-not-fit.false) (omega arith))
+    filled c.args.row c.args.log.now c.args.at c.in_ok-body.body _ (sym c.body_length.ensures.length ∙ c.in_ok-body.ensures.ok_part)
+    (ap (take (c.in_ok-body.body / FIELD_BYTES)) c.fields_of-all.ensures) _ _ _ c.fit.ensures c.if-not-fit.false (omega arith) c.put.ensures c.put-2.ensures c.put_fields.ensures

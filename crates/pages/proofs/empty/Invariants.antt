@@ -7,6 +7,3 @@ use Rattle.pages.proofs.empty.Given as goal
 
 abbrev pub invariant-loop-k : goal.invariant-loop-k
 invariant-loop-k l = Sweeping (empty_column l.row) SET_WORDS l.initial.sets l.sets l.k
-
-abbrev pub decreases-loop-k : goal.decreases-loop-k
-decreases-loop-k l = SET_WORDS - l.k

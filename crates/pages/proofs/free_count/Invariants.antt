@@ -6,6 +6,3 @@ use Rattle.pages.proofs.free_count.Given as goal
 
 abbrev pub invariant-loop-page : goal.invariant-loop-page
 invariant-loop-page l = (l.page ≤ l.pages) × (l.count ≡ free_count l.sets l.page)
-
-abbrev pub decreases-loop-page : goal.decreases-loop-page
-decreases-loop-page l = l.pages - l.page

@@ -7,6 +7,3 @@ use Rattle.pages.proofs.held_for_dma.Given as goal
 
 abbrev pub invariant-loop-vm : goal.invariant-loop-vm
 invariant-loop-vm l = Trying (λ (v : ℕ). holds l.sets (dma_row v) l.page.0) VMS l.vm
-
-abbrev pub decreases-loop-vm : goal.decreases-loop-vm
-decreases-loop-vm l = VMS - l.vm

@@ -7,6 +7,3 @@ use Rattle.pages.proofs.holds_any.Given as goal
 
 abbrev pub invariant-loop-k : goal.invariant-loop-k
 invariant-loop-k l = Trying (not_empty l.sets l.row) SET_WORDS l.k
-
-abbrev pub decreases-loop-k : goal.decreases-loop-k
-decreases-loop-k l = SET_WORDS - l.k

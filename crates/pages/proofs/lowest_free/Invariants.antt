@@ -6,6 +6,3 @@ use Rattle.pages.proofs.lowest_free.Given as goal
 
 abbrev pub invariant-loop-lowest : goal.invariant-loop-lowest
 invariant-loop-lowest l = Rising (is_free l.sets) l.pages l.lowest
-
-abbrev pub decreases-loop-lowest : goal.decreases-loop-lowest
-decreases-loop-lowest l = l.pages - l.lowest

@@ -7,6 +7,3 @@ use Rattle.pages.proofs.pour.Given as goal
 
 abbrev pub invariant-loop-k : goal.invariant-loop-k
 invariant-loop-k l = Sweeping (pour_column l.from l.to) SET_WORDS l.initial.sets l.sets l.k
-
-abbrev pub decreases-loop-k : goal.decreases-loop-k
-decreases-loop-k l = SET_WORDS - l.k

@@ -1,25 +1,9 @@
--- `retire::sweep` meets its contract: the words before i are edited, and those of them that went are counted.
-use Prim.Native.Nat.{◌-◌}
-use mathlib.Core.Path.{sym, ◌∙◌}
-use native.Mathlib.Omega.{arith}
-use Rattle.table.specs.Loops.{wipe_read, wipe_hit, wipe_miss, wipe_end, tally_hit, tally_miss, tally_end}
+use Rattle.std.proofs.Common.{rules}
 use Rattle.model.specs.Retire.{goes, retire_table}
 use Rattle.retire.proofs.sweep.Goals as goal
-use Rattle.retire.proofs.sweep.Goals.{else-goes, then-goes}
-
-pub loop-i-preserved : goal.loop-i-preserved
-loop-i-preserved c =
-    let r = c.loop-i.invariant in
-    let l = c.loop-i-test.true in
-    let e = sym c.goes.ensures in
-    let s = wipe_read _ _ _ _ r.0 l in
-    elim c.if-goes.branch [
-      | then-goes w ↦ let t = e ∙ w.if-goes.true in rw (w.words-is, w.swept-is) (wipe_hit _ _ _ _ r.0 l t, tally_hit _ _ _ _ r.1 (omega arith) (rw s at t))
-      | else-goes w ↦ let t = e ∙ w.if-goes.false in rw (w.words-is, w.swept-is) (wipe_miss _ _ _ _ r.0 l t, tally_miss _ _ _ _ r.1 (omega arith) (rw s at t))
-    ]
 
 pub returns : goal.returns
 unfolding retire_table
 returns c =
-    let r = c.loop-i.invariant in
-    record { dropped = tally_end _ _ _ _ r.1 (omega arith); words = wipe_end _ _ _ _ r.0 c.loop-i-test.false }
+    let swept = c.wipe.ensures (goes c.args.side c.args.sets.now c.args.vm.0) (λ w yes e. search rules) in
+    record { dropped = swept.0; words = swept.1 }

@@ -1,10 +1,6 @@
-use Prim.Native.Nat.{◌-◌}
 use Rattle.table.specs.Loops.{Sweeping}
 use Rattle.model.specs.Start.{first_home}
 use Rattle.start.proofs.fresh_sets.Given as goal
 
 abbrev pub invariant-loop-page : goal.invariant-loop-page
 invariant-loop-page l = Sweeping (first_home l.shared_base l.shared_count) l.pages l.initial.sets l.sets l.page
-
-abbrev pub decreases-loop-page : goal.decreases-loop-page
-decreases-loop-page l = l.pages - l.page

@@ -7,15 +7,15 @@ use Rattle.table.specs.TableLaws.{find_at}
 use Rattle.table.proofs.lookup.Goals as goal
 
 pub offset_bounds-words-i : goal.offset_bounds-words-i
-offset_bounds-words-i c = scaled_Fits _ _ _ (find_at key_of _ _ _ (sym c.find-there.ensures ∙ c.in-At.is)).within c.well_formed.0.1
+offset_bounds-words-i c = scaled_Fits _ _ _ (find_at key_of _ _ _ (sym c.find.ensures ∙ c.in-Some.is)).within c.well_formed.0.1
 
 pub bounds-words-i : goal.bounds-words-i
-bounds-words-i c = (find_at key_of _ _ _ (sym c.find-there.ensures ∙ c.in-At.is)).within
+bounds-words-i c = (find_at key_of _ _ _ (sym c.find.ensures ∙ c.in-Some.is)).within
 
-pub returns-in-At : goal.returns-in-At
+pub returns-in-Some : goal.returns-in-Some
 unfolding lookup
-returns-in-At c = rw (← c.find-there.ensures, c.in-At.is)
+returns-in-Some c = rw (← c.find.ensures, c.in-Some.is)
 
-pub returns-in-Nothing : goal.returns-in-Nothing
+pub returns-in-None : goal.returns-in-None
 unfolding lookup
-returns-in-Nothing c = rw (← c.find-there.ensures, c.in-Nothing.is)
+returns-in-None c = rw (← c.find.ensures, c.in-None.is)

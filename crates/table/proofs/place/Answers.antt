@@ -2,10 +2,10 @@
 use Rattle.table.specs.Table.{place}
 use Rattle.table.proofs.place.Goals as goal
 
-pub returns-in-At : goal.returns-in-At
+pub returns-in-Some : goal.returns-in-Some
 unfolding place
-returns-in-At c = rw (← c.find-old.ensures, c.in-At.is)
+returns-in-Some c = rw (← c.find.ensures, c.in-Some.is)
 
-pub returns-in-Nothing : goal.returns-in-Nothing
+pub returns-in-None : goal.returns-in-None
 unfolding place
-returns-in-Nothing c = rw (← c.find-old.ensures, c.in-Nothing.is) c.lowest_free.ensures
+returns-in-None c = rw (← c.find.ensures, c.in-None.is) c.lowest_free.ensures

@@ -6,6 +6,3 @@ use Rattle.units.proofs.assignable.Given as goal
 
 abbrev pub invariant-loop-k : goal.invariant-loop-k
 invariant-loop-k l = Trying (λ (i : ℕ). is_unit l.side l.region (get_or l.units i no_unit)) l.count l.k
-
-abbrev pub decreases-loop-k : goal.decreases-loop-k
-decreases-loop-k l = l.count - l.k

@@ -8,6 +8,3 @@ use Rattle.views.proofs.claimed_elsewhere.Given as goal
 
 abbrev pub invariant-loop-other : goal.invariant-loop-other
 invariant-loop-other l = Trying (λ (o : ℕ). not (eqb o l.vm.0) && claims l.side l.sets o l.page.0) VMS l.other
-
-abbrev pub decreases-loop-other : goal.decreases-loop-other
-decreases-loop-other l = VMS - l.other

@@ -3,6 +3,6 @@ use Rattle.judge.proofs.routes.route.Goals as goal
 
 pub caches-requires : goal.caches-requires
 caches-requires c =
-    let p = c.requires in
-    let m = c.maps.ensures.sound c.if-not-maps.false in
-    (p.1, p.2, packed _ _ _ _ _ _ p.3.known_vms m.walker.each, m.walker.once)
+    let lengths = c.requires in
+    let walker = (c.maps.ensures.sound c.if-maps.true).walker in
+    (lengths.1, lengths.2, packed c.args.ground.now.homes.known_vms walker.each, walker.once)

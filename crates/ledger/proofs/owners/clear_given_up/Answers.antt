@@ -1,12 +1,12 @@
+use Rattle.std.proofs.Common.{rules}
 use Rattle.model.specs.Effect.{apply, cleared_pages}
 use Rattle.model.specs.Ledger.{reclaim_clears}
 use Rattle.ledger.proofs.owners.clear_given_up.Goals as goal
 
 pub returns-then-claims : goal.returns-then-claims
 unfolding reclaim_clears apply cleared_pages
-returns-then-claims c = rw (← c.claims.ensures, c.if-claims.true)
+returns-then-claims c = search rules
 
 pub returns : goal.returns
 unfolding reclaim_clears apply cleared_pages
-returns c =
-    rw (← c.claims.ensures, c.if-claims.false, c.clear_page.ensures)
+returns c = search rules

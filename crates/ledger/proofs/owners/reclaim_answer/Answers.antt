@@ -1,21 +1,26 @@
-use Rattle.model.specs.Views.{targeted, edge_on}
+use Rattle.std.proofs.Common.{rules}
+use Rattle.model.specs.Views.{targeted, edge_on, on_page}
 use Rattle.model.specs.Ledger.{reclaim_answer}
 use Rattle.ledger.proofs.owners.reclaim_answer.Goals as goal
 
-pub returns-in-Refused : goal.returns-in-Refused
+pub returns-in_err-page_early : goal.returns-in_err-page_early
 unfolding reclaim_answer
-returns-in-Refused c = rw (← c.page_early-early.ensures, c.in-Refused.is)
+returns-in_err-page_early c = search rules
 
 pub returns-then-not-claims : goal.returns-then-not-claims
 unfolding reclaim_answer
-returns-then-not-claims c = rw (← c.page_early-early.ensures, c.in_default.is, ← c.claims.ensures, c.if-not-claims.true, c.refuse.ensures)
+returns-then-not-claims c = search rules
 
 pub returns-then-any : goal.returns-then-any
 unfolding reclaim_answer targeted edge_on
 returns-then-any c =
-    rw (← c.page_early-early.ensures, c.in_default.is, ← c.claims.ensures, c.if-not-claims.false, ← c.any.ensures, ← c.any-2.ensures, c.if-any.true, c.refuse-then-any.ensures)
+    let mapped = c.any.ensures (on_page c.args.page.0) (λ w yes e. search rules) in
+    let shared = c.any-2.ensures (on_page c.args.page.0) (λ w yes e. search rules) in
+    search rules
 
 pub returns : goal.returns
 unfolding reclaim_answer targeted edge_on
 returns c =
-    rw (← c.page_early-early.ensures, c.in_default.is, ← c.claims.ensures, c.if-not-claims.false, ← c.any.ensures, ← c.any-2.ensures, c.if-any.false, c.accept.ensures)
+    let mapped = c.any.ensures (on_page c.args.page.0) (λ w yes e. search rules) in
+    let shared = c.any-2.ensures (on_page c.args.page.0) (λ w yes e. search rules) in
+    search rules

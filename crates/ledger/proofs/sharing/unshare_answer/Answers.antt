@@ -1,39 +1,20 @@
+use Rattle.std.proofs.Common.{rules}
 use Rattle.model.specs.Views.{paired}
 use Rattle.model.specs.Ledger.{unshare_answer}
 use Rattle.ledger.proofs.sharing.unshare_answer.Goals as goal
 
-pub returns-in-Refused : goal.returns-in-Refused
+pub returns-in_err-pair_early : goal.returns-in_err-pair_early
 unfolding unshare_answer
-returns-in-Refused c = rw (← c.pair_early-early.ensures, c.in-Refused.is)
+returns-in_err-pair_early c = search rules
 
-pub returns-in-Nothing : goal.returns-in-Nothing
+pub returns-then-is_none : goal.returns-then-is_none
 unfolding unshare_answer paired
-returns-in-Nothing c = rw (← c.pair_early-early.ensures, c.in_default.is, ← c.find_pair-stored.ensures, c.in-Nothing.is, c.refuse.ensures)
+returns-then-is_none c = search rules
 
 pub returns-then-borrower_maps : goal.returns-then-borrower_maps
 unfolding unshare_answer paired
-returns-then-borrower_maps c =
-    rw (
-      ← c.pair_early-early.ensures,
-      c.in_default.is,
-      ← c.find_pair-stored.ensures,
-      c.in_default-stored.is,
-      ← c.borrower_maps.ensures,
-      ← c.borrower_maps-2.ensures,
-      c.if-borrower_maps.true,
-      c.refuse-then-borrower_maps.ensures,
-    )
+returns-then-borrower_maps c = search rules
 
 pub returns : goal.returns
 unfolding unshare_answer paired
-returns c =
-    rw (
-      ← c.pair_early-early.ensures,
-      c.in_default.is,
-      ← c.find_pair-stored.ensures,
-      c.in_default-stored.is,
-      ← c.borrower_maps.ensures,
-      ← c.borrower_maps-2.ensures,
-      c.if-borrower_maps.false,
-      c.accept.ensures,
-    )
+returns c = search rules

@@ -4,4 +4,4 @@ use Rattle.machine.proofs.entries.free.Goals as goal
 
 pub returns : goal.returns
 unfolding free
-returns c = valid (c.valid.ensures.sound c.if-not-valid.false) (rw (c.accept.ensures, c.free_count-count.ensures, c.lowest_free-lowest.ensures))
+returns c = valid (c.valid.ensures.sound c.if-not-valid.false) (rw (c.free_count.ensures, c.lowest_free.ensures))

@@ -1,26 +1,15 @@
-use Prim.Native.Nat.{ℕ, ◌-◌}
-use mathlib.Core.Bool.{◌&&◌}
-use lib.ListN.{length, take}
-use Rattle.numbers.specs.declared.Side.TheVariants.{Cpu}
+-- `searches::lowest_in_use` meets its contract. The loops have passed pages that are not in use, and words that do not hold the page back.
+use Rattle.std.proofs.Common.{ℕ, ◌&&◌}
 use Rattle.table.specs.Loops.{Asking, Rising}
 use Rattle.model.specs.Views.{on_page, but_key}
 use Rattle.model.specs.Regions.{in_use}
 use Rattle.regions.proofs.searches.lowest_in_use.Given as goal
 
-abbrev pub invariant-loop-i : goal.invariant-loop-i
-invariant-loop-i l = Asking (λ (w : ℕ). but_key l.own w && on_page l.page.0 w) l.map l.i
+abbrev pub invariant-loop-w : goal.invariant-loop-w
+invariant-loop-w l = Asking (λ (w : ℕ). but_key l.own w && on_page l.page.0 w) l.map l.w-index
 
-abbrev pub decreases-loop-i : goal.decreases-loop-i
-decreases-loop-i l = length l.map - l.i
+abbrev pub invariant-loop-pair : goal.invariant-loop-pair
+invariant-loop-pair l = Asking (on_page l.page.0) l.edges l.pair-index
 
-abbrev pub invariant-loop-j : goal.invariant-loop-j
-invariant-loop-j l = Asking (on_page l.page.0) (take l.edges l.pairs) l.j
-
-abbrev pub decreases-loop-j : goal.decreases-loop-j
-decreases-loop-j l = l.edges - l.j
-
-abbrev pub invariant-region : goal.invariant-region
-invariant-region l = Rising (in_use Cpu (take l.edges l.pairs) l.map l.region) l.region.count l.k
-
-abbrev pub decreases-region : goal.decreases-region
-decreases-region l = l.region.count - l.k
+abbrev pub invariant-loop-k : goal.invariant-loop-k
+invariant-loop-k l = Rising (in_use l.fn.side l.pairs l.map l.placed.region) l.placed.region.count l.k

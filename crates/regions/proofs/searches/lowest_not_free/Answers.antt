@@ -1,6 +1,11 @@
-use mathlib.Core.Path.{sym, ◌∙◌}
-use Rattle.table.specs.Loops.{rise_next}
+-- `searches::lowest_not_free` meets its contract: what it asks of each page is whether the page is not in the pool.
+use Rattle.std.proofs.Common.{rules, ◌≡◌, true, false}
+use Rattle.std.proofs.lemmas.Iterator.{first_from_Range}
+use Rattle.model.specs.Regions.{not_free}
+use Rattle.regions.specs.RegionLaws.{failing_is}
 use Rattle.regions.proofs.searches.lowest_not_free.Goals as goal
 
-pub region-preserved : goal.region-preserved
-region-preserved c = rise_next _ _ _ c.region.invariant c.if-k-region.false (sym c.not_free.ensures ∙ c.if-not_free.false)
+pub returns : goal.returns
+returns c =
+    let fails = not_free c.args.side c.args.sets.now c.args.placed.region in
+    failing_is fails _ _ (first_from_Range _ _ _ _ (λ k. fails k ≡ true) (λ k. fails k ≡ false) c.find.ensures.ran (λ k q e. search rules) (λ k q e. (search rules, search rules)))

@@ -1,5 +1,11 @@
-use Rattle.table.specs.Loops.{rise_next}
+-- `searches::lowest_not_held` meets its contract: what it asks of each page is whether the VM does not hold it.
+use Rattle.std.proofs.Common.{rules, ◌≡◌, true, false}
+use Rattle.std.proofs.lemmas.Iterator.{first_from_Range}
+use Rattle.model.specs.Regions.{not_held}
+use Rattle.regions.specs.RegionLaws.{failing_is}
 use Rattle.regions.proofs.searches.lowest_not_held.Goals as goal
 
-pub region-preserved : goal.region-preserved
-region-preserved c = rise_next _ _ _ c.region.invariant c.if-k-region.false (rw (← c.page_in.ensures, ← c.claims.ensures, c.if-not-claims.false))
+pub returns : goal.returns
+returns c =
+    let fails = not_held c.args.side c.args.sets.now c.args.placed.region in
+    failing_is fails _ _ (first_from_Range _ _ _ _ (λ k. fails k ≡ true) (λ k. fails k ≡ false) c.find.ensures.ran (λ k q e. search rules) (λ k q e. (search rules, search rules)))

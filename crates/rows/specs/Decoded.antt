@@ -1,9 +1,0 @@
--- A decoded row as the model has it: an operation, or none.
-use Rattle.std.proofs.Math.Option.{Option, none, some}
-use Rattle.numbers.specs.declared.Operation.{Operation}
-use Rattle.rows.specs.declared.Decoded.{Decoded}
-use Rattle.rows.specs.declared.Decoded.TheVariants.{Known, Unknown}
-
-abbrev pub known : Decoded → Option Operation
-known (Known operation) = some operation
-known Unknown = none

@@ -1,2 +1,0 @@
--- The tests by which the tables are searched.
-pub mod Tests
