@@ -141,7 +141,7 @@
  *     tiligormis_operation      16,384    16,384
  *     tiligormis_replay         16,128    16,128
  *     tiligormis_sequence       16,384    16,384
- *     tiligormis_start          12,800    12,544
+ *     tiligormis_start           2,816     2,816
  *     tiligormis_valid          14,336    14,336
  *
  * Link with libtiligormis.a. All functions may be called from several threads at once, on different boxes.

@@ -1,6 +1,6 @@
--- More of numbers written over a list: in pieces, one by one, and those that were there.
+-- More of numbers written over a list: in pieces, all at once, one by one, and those that were there.
 use Rattle.std.specs.Prelude.{ℕ, suc, ◌+◌, ◌≤◌, ◌<◌, List, [], ◌∷◌, ◌++◌, ◌≡◌, refl, length, get_or, set, take, drop}
-use Rattle.std.proofs.Common.{◌∙◌, append-nil, arith, length-set, drop-set-lt}
+use Rattle.std.proofs.Common.{sym, ◌∙◌, add-one, append-nil, arith, length-set, take-suc, take_all, length-take-le, drop-set-lt}
 use Rattle.std.proofs.Math.Seq.{append_snoc, paste}
 use Rattle.std.proofs.lemmas.List.{set-get_or, take-append-drop, take_more_set}
 use Rattle.model.specs.Sequence.{write_at}
@@ -33,3 +33,26 @@ pasted room i (n ∷ ns) h =
     let l : i + 1 + length ns ≤ length (set room i n) = omega (arith, length-set room i n) in
     let more = pasted (set room i n) (i + 1) ns l in
     rw (z, ← drop-set-lt (i + 1 + length ns) room i n (omega arith), ← append_snoc (take i room) n (take (length ns) ns), ← take_more_set room i n (omega arith)) more
+
+-- ---- the numbers of a list one by one: k of them written so far
+pub record Putting (room : List ℕ) (i : ℕ) (ns now : List ℕ) (k : ℕ) : Type 0 where
+  pub place : k ≤ length ns
+  pub same : length now ≡ length room
+  pub list : now ≡ write_at room i (take k ns)
+
+module _ (room : List ℕ) (i : ℕ) (ns : List ℕ) where
+  pub put_start : Putting room i ns room 0
+  put_start = record { place = omega arith; same = refl; list = refl }
+
+  pub put_next : (now : List ℕ) (k : ℕ) → Putting room i ns now k → k < length ns → Putting room i ns (set now (i + k) (get_or ns k 0)) (k + 1)
+  put_next now k r h =
+      record {
+        place = omega arith;
+        same = length-set now (i + k) (get_or ns k 0) ∙ r.same;
+        list =
+            let e : i + length (take k ns) ≡ i + k = rw (length-take-le k ns r.place) in
+            rw (r.list, add-one k, take-suc ns k 0 h) (sym (rw e at (written_append room i (take k ns) (get_or ns k 0 ∷ []))));
+      }
+
+  pub put_end : (now : List ℕ) (k : ℕ) → Putting room i ns now k → length ns ≤ k → now ≡ write_at room i ns
+  put_end now k r h = r.list ∙ rw (take_all k ns h)

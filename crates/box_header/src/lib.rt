@@ -146,9 +146,10 @@ fn unit_numbers(unit: Unit) -> [u64; UNIT_NUMBERS]
     ]
 }
 
-fn put_units(numbers: &mut [u64], units: &[Unit; UNITS])
+// By value: of units by reference the compiled start keeps a second array on its stack, 1,536 bytes.
+fn put_units(numbers: &mut [u64], units: [Unit; UNITS])
     requires { length numbers.old ≡ MACHINE_NUMBERS }
-    ensures { numbers.new ≡ repeat (unit_written units.now) 0 UNITS numbers.old }
+    ensures { numbers.new ≡ repeat (unit_written units) 0 UNITS numbers.old }
 {
     for (k, unit) in units.iter().enumerate() {
         put_numbers(numbers, UNITS_AT + k * UNIT_NUMBERS, &unit_numbers(*unit));
@@ -169,7 +170,7 @@ pub fn put_machine(numbers: &mut [u64], m: &Machine)
     ];
     put_numbers(numbers, 0, &setup);
     put_changed(numbers, m);
-    put_units(numbers, &fixed.units);
+    put_units(numbers, fixed.units);
 }
 
 // ---- Answers as numbers.

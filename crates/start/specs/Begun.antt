@@ -6,12 +6,17 @@ use Rattle.numbers.specs.declared.Refused.{Refused}
 use Rattle.units.specs.Units.{no_unit}
 use Rattle.model.specs.Header.{state_of, Lists}
 use Rattle.model.specs.Start.{Told, Started, UNIT_NUMBERS, count_told, number_told, units_told}
+use Rattle.start.specs.declared.Told as code
 use Rattle.model.specs.declared.SideRegisters.{SideRegisters}
 use Rattle.model.specs.declared.Registers.{Registers}
 use Rattle.model.specs.declared.Machine.{Machine}
 
 abbrev pub told : ℕ → ℕ → ℕ → List ℕ → Told
 told pages shared_base shared_count units = record { pages = pages; shared_base = shared_base; shared_count = shared_count; units = units }
+
+-- the same of what the code is told
+abbrev pub told_by : code.Told → Told
+told_by t = told t.pages t.shared_base t.shared_count t.units.now
 
 -- the numbers of each unit that is told, in its place
 pub record Sixes (sixes : List (List ℕ)) (numbers : List ℕ) : Type 0 where

@@ -1,4 +1,3 @@
--- What start is told, is lent and leaves, and the laws of its parts.
+-- What start is told and leaves, and the laws of its parts.
 pub mod Begun
-pub mod MadeLaws
 pub mod StartLaws

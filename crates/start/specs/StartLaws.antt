@@ -1,12 +1,14 @@
 -- Laws of start: the units by their six numbers, the page sets, and the state that an accepted start leaves.
-use Rattle.std.specs.Prelude.{ℕ, zero, suc, ◌+◌, ◌*◌, ◌<◌, Bool, not, List, [], ◌∷◌, ◌≡◌, ◌||◌, true, false, refl, length, get_or, drop, replicate, Ok}
-use Rattle.std.proofs.Common.{sym, ap, ◌∙◌, arith, get_or-take, get_or-drop, ext_get_or}
+use Rattle.std.specs.Prelude.{ℕ, zero, suc, ◌+◌, ◌*◌, ◌≤◌, ◌<◌, Bool, not, ◌&&◌, List, [], ◌∷◌, ◌≡◌, ◌||◌, true, false, refl, length, get_or, set, ltb, drop, replicate, Ok, Err}
+use Rattle.std.proofs.Common.{⊎_elim, sym, ap, ◌∙◌, arith, lt-ltb, le-ltb, ltb-true, ltb-false, length-set, get_or-take, get_or-drop, get_or-set_same, get_or-set_other, ext_get_or}
 use Rattle.std.specs.List.{list_any}
 use Rattle.std.specs.Simd.{first_chunks}
 use Rattle.std.proofs.lemmas.Grind.{common_steps}
-use Rattle.numbers.specs.Limits.{UNITS}
+use Rattle.std.proofs.lemmas.List.{length-replicate, get_or-replicate}
 use Rattle.std.specs.Prelude.{if◌then◌else◌}
+use Rattle.numbers.specs.CaseLaws.{cases, equal}
 use Rattle.numbers.specs.declared.Accepted.{Accepted}
+use Rattle.numbers.specs.declared.Refused.{Refused}
 use Rattle.table.specs.Loops.{Sweeping, sweep_next}
 use Rattle.table.specs.Scan.{any_below, any_from, repeat}
 use Rattle.pages.specs.Rows.{pool_row, shared_row}
@@ -16,9 +18,23 @@ use Rattle.units.specs.Units.{mark_of, no_unit}
 use Rattle.units.specs.declared.Unit.{Unit}
 use Rattle.model.specs.Effect.{accepted}
 use Rattle.model.specs.Header.{Lists, state_of}
-use Rattle.model.specs.Start.{Told, UNIT_NUMBERS, count_told, number_told, unit_told, units_told, units_from, unit_region, bad_field, bad_span, start_answer, in_span, first_home, fresh_state, start}
+use Rattle.model.specs.Start.{Told, UNIT_NUMBERS, count_told, number_told, unit_told, units_from, unit_region, bad_field, bad_span, start_answer, in_span, first_home, fresh_state, empty_state, start}
 use Rattle.model.specs.ToldLaws.{StartPassed, start_passed, up_to, length-units, unit_at}
+use Rattle.model.specs.declared.Machine.{Machine}
 use Rattle.start.specs.Begun.{Sixes, began, zeros, fresh_header}
+
+-- ---- tests in another order
+pub both_hold : (x a b : Bool) → not (a && b) ≡ false → x ≡ (x && a && b)
+both_hold true true true e = refl
+both_hold false a b e = refl
+both_hold true true false e = e
+both_hold true false b e = e
+
+pub one_fails : (x a b : Bool) → not (a && b) ≡ true → false ≡ (x && a && b)
+one_fails false a b e = refl
+one_fails true false b e = refl
+one_fails true true false e = refl
+one_fails true true true e = e
 
 -- ---- the units, by the six numbers of each
 pub sixes_told : (sixes : List (List ℕ)) (numbers : List ℕ) → sixes ≡ first_chunks UNIT_NUMBERS (count_told numbers) numbers → length sixes ≡ count_told numbers → Sixes sixes numbers
@@ -66,12 +82,38 @@ module _ (sixes : List (List ℕ)) (numbers : List ℕ) (s : Sixes sixes numbers
   pub any_span : (pages : ℕ) → list_any (λ six. bad_span pages six 0) sixes ≡ any_below (bad_span pages numbers) (count_told numbers)
   any_span pages = any_of (λ six. bad_span pages six 0) (bad_span pages numbers) (λ k h. ap (λ (unit : Unit). not (region_span (unit_region unit) pages)) (unit_of k h))
 
--- room that holds at each place what stands there is the units that are told
-pub units_made : (numbers : List ℕ) (made : List Unit) → length made ≡ UNITS → ((j : ℕ) → j < UNITS → get_or made j no_unit ≡ up_to numbers (count_told numbers) j) → made ≡ units_told numbers
-units_made numbers made l each = ext_get_or no_unit made (units_from numbers 0 UNITS) (l ∙ sym (length-units numbers 0 UNITS)) same
-  where
-    same : (j : ℕ) → j < length made → get_or made j no_unit ≡ get_or (units_from numbers 0 UNITS) j no_unit
-    same j h = let b : j < UNITS = omega (arith, l) in let z : 0 + j ≡ j = omega arith in each j b ∙ rw z at (sym (unit_at numbers 0 UNITS j b))
+-- writes the units that are told, k of them so far, into room for n
+pub record Writing (numbers : List ℕ) (n : ℕ) (now : List Unit) (k : ℕ) : Type 0 where
+  pub place : k ≤ count_told numbers
+  pub same : length now ≡ n
+  pub list : (j : ℕ) → j < n → get_or now j no_unit ≡ up_to numbers k j
+
+module _ (numbers : List ℕ) (n : ℕ) where
+  pub write_start : Writing numbers n (replicate n no_unit) 0
+  write_start =
+      record {
+        place = omega arith;
+        same = length-replicate n no_unit;
+        list = λ j h. get_or-replicate n j no_unit no_unit h ∙ rw (le-ltb j 0 (omega arith));
+      }
+
+  pub write_next : (now : List Unit) (k : ℕ) → Writing numbers n now k → k < count_told numbers → k < n → Writing numbers n (set now k (unit_told numbers k)) (k + 1)
+  write_next now k r h l = record { place = omega arith; same = length-set now k _ ∙ r.same; list = λ j b. ⊎_elim (here j) (elsewhere j b) (equal j k) }
+    where
+      here : (j : ℕ) → j ≡ k → get_or (set now k (unit_told numbers k)) j no_unit ≡ up_to numbers (k + 1) j
+      here j e = rw (e, get_or-set_same now k (unit_told numbers k) no_unit (omega (arith, r.same)), lt-ltb k (k + 1) (omega arith))
+
+      alike : (j : ℕ) → (j ≡ k → ⊥) → ltb j (k + 1) ≡ ltb j k
+      alike j d = ⊎_elim (λ t. rw (t, lt-ltb j (k + 1) (omega (arith, ltb-true j k t)))) (λ f. rw (f, le-ltb j (k + 1) (omega (arith, ltb-false j k f)))) (cases (ltb j k))
+
+      elsewhere : (j : ℕ) → j < n → (j ≡ k → ⊥) → get_or (set now k (unit_told numbers k)) j no_unit ≡ up_to numbers (k + 1) j
+      elsewhere j b d = get_or-set_other now k j (unit_told numbers k) no_unit d ∙ (r.list j b ∙ rw (alike j d))
+
+  pub write_end : (now : List Unit) (k : ℕ) → Writing numbers n now k → count_told numbers ≤ k → now ≡ units_from numbers 0 n
+  write_end now k r h =
+      let e : k ≡ count_told numbers = omega (arith, r.place) in
+      ext_get_or no_unit now (units_from numbers 0 n) (r.same ∙ sym (length-units numbers 0 n))
+      (λ j b. let h' : j < n = rw r.same at b in let z : 0 + j ≡ j = omega arith in r.list j h' ∙ rw e (sym (rw z at (unit_at numbers 0 n j h'))))
 
 -- ---- the page sets
 -- a turn that puts the next page where it begins keeps their length
@@ -120,10 +162,43 @@ unfolding start_answer
 accepted_so t l ok e = grind (arith, common_steps)
 
 module _ (t : Told) (l : Lists) where
-  -- accepted, with every word made anew
-  pub start_accepted : (ok : Accepted) → start_answer t l ≡ Ok ok → began (Ok (fresh_header t)) (anew t l) ≡ start t l
+  -- refused, with what was lent as it was
+  pub start_refused_lem : (refused : Refused) → start_answer t l ≡ Err refused → began (Err refused) l ≡ start t l
+  unfolding start empty_state
+  start_refused_lem refused e = rw e
+
+  -- accepted, with each list as it is left
+  pub record Fresh (m : Machine) (now : Lists) : Type 0 where
+    pub header_is : m ≡ fresh_header t
+    pub sets_are : now.sets ≡ repeat (first_home t.shared_base t.shared_count) 0 t.pages (zeros l.sets)
+    pub pairs_are : now.pairs ≡ zeros l.pairs
+    pub cpu_map_is : now.cpu_map ≡ zeros l.cpu_map
+    pub cpu_walker_is : now.cpu_walker ≡ zeros l.cpu_walker
+    pub cpu_cache_is : now.cpu_cache ≡ zeros l.cpu_cache
+    pub dma_map_is : now.dma_map ≡ zeros l.dma_map
+    pub dma_walker_is : now.dma_walker ≡ zeros l.dma_walker
+    pub dma_cache_is : now.dma_cache ≡ zeros l.dma_cache
+    pub memory_is : now.memory ≡ zeros l.memory
+
+  left_is : (m : Machine) (now : Lists) → Fresh m now → state_of m now ≡ state_of (fresh_header t) (anew t l)
+  left_is m now f =
+      λ i.
+      state_of (f.header_is i)
+      (record {
+        sets = f.sets_are i;
+        pairs = f.pairs_are i;
+        cpu_map = f.cpu_map_is i;
+        cpu_walker = f.cpu_walker_is i;
+        cpu_cache = f.cpu_cache_is i;
+        dma_map = f.dma_map_is i;
+        dma_walker = f.dma_walker_is i;
+        dma_cache = f.dma_cache_is i;
+        memory = f.memory_is i;
+      })
+
+  pub start_accepted : (ok : Accepted) (m : Machine) (now : Lists) → start_answer t l ≡ Ok ok → Fresh m now → began (Ok m) now ≡ start t l
   unfolding start
-  start_accepted ok e =
-      let fresh = anew_fresh t l (start_passed t l e) in
+  start_accepted ok m now e f =
       let so = accepted_so t l ok e in
-      rw e (λ i. record { answer = so i; state = fresh i })
+      let state = left_is m now f ∙ anew_fresh t l (start_passed t l e) in
+      rw e (λ i. record { answer = so i; state = state i })

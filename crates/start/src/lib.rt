@@ -7,16 +7,23 @@ ghost use Rattle.table.specs.Scan.{any_below, repeat};
 ghost use Rattle.units.specs.Units.{no_unit};
 ghost use Rattle.model.specs.Header.{Same, lists, seen_lists};
 ghost use Rattle.model.specs.Start.{UNIT_NUMBERS, count_told, unit_told, units_told, bad_field, bad_span, lengths_good, start_answer, first_home, start};
-ghost use Rattle.model.specs.ToldLaws.{up_to};
-ghost use Rattle.start.specs.Begun.{Sixes, told, began, zeros, fresh_registers, fresh_header, empty_header};
+ghost use Rattle.start.specs.Begun.{Sixes, told, told_by, began, zeros, fresh_registers, fresh_header, empty_header};
 
 use model::{Fixed, Lent, Machine, Registers, SideRegisters};
 use numbers::{
     ACCESSES, Answer, ENTRIES, GuestPage, IDLE, PAGE_WORDS, PAGES, PAIRS, PORTS, PhysPage, Refusal,
     Refused, Region, SET_WORDS, SETS, SLOTS, UNITS, VMS, VmId, accept, refuse,
 };
-use std::array;
 use units::{Mark, Unit};
+
+// ---- What start is told: pages, the shared span, and six numbers for each unit.
+#[derive(Clone, Copy)]
+struct Told<'a> {
+    pages: u64,
+    shared_base: u64,
+    shared_count: u64,
+    units: &'a [u64],
+}
 
 // ---- The units that start is told.
 
@@ -62,21 +69,16 @@ fn no_unit() -> Unit
     }
 }
 
-// Unit k of those that are told, and no unit past them.
-fn unit_at(units: &[u64], k: usize) -> Unit
-    ensures { result ≡ up_to units.now (count_told units.now) k }
-{
-    match sixes(units).get(k) {
-        Some(six) => unit_told(*six),
-        None => no_unit(),
-    }
-}
-
-// Room for as many units as there may be.
+// The units that are told, and no unit past them. By `array::from_fn` the compiled start keeps three arrays more on its stack.
 pub fn units_told(units: &[u64]) -> [Unit; UNITS]
+    requires { count_told units.now ≤ UNITS }
     ensures { result ≡ units_told units.now }
 {
-    array::from_fn(|k| unit_at(units, k))
+    let mut all = [no_unit(); UNITS];
+    for (k, six) in sixes(units).iter().enumerate() {
+        all[k] = unit_told(*six);
+    }
+    all
 }
 
 // ---- What may be wrong with a unit: a field, by refusal 2, or its span, by 3.
@@ -109,11 +111,11 @@ fn any_bad_span(pages: u64, units: &[u64]) -> bool
 // ---- The refusals.
 
 // What refusal 1 asks: N and every length. N is judged first, so that its words can be counted.
-fn lengths_good(seen: Lent<&[u64]>, pages: u64, units: &[u64]) -> bool
-    ensures { result ≡ (lengths_good (told pages 0 0 units.now) (seen_lists seen.entry) && ltb 0 pages && leb pages PAGES) }
+fn lengths_good(seen: Lent<&[u64]>, told: Told) -> bool
+    ensures { result ≡ (lengths_good (told_by told.entry) (seen_lists seen.entry) && ltb 0 told.entry.pages && leb told.entry.pages PAGES) }
 {
-    (1..=PAGES).contains(&pages)
-        && seen.memory.len() as u64 == PAGE_WORDS * pages
+    (1..=PAGES).contains(&told.pages)
+        && seen.memory.len() as u64 == PAGE_WORDS * told.pages
         && seen.sets.len() == SETS * SET_WORDS
         && seen.pairs.len() == PAIRS
         && seen.cpu_map.len() == ENTRIES
@@ -122,27 +124,24 @@ fn lengths_good(seen: Lent<&[u64]>, pages: u64, units: &[u64]) -> bool
         && seen.dma_map.len() == ENTRIES
         && seen.dma_walker.len() == ENTRIES
         && seen.dma_cache.len() == SLOTS as usize
-        && units.len() % UNIT_NUMBERS == 0
+        && told.units.len() % UNIT_NUMBERS == 0
 }
 
 // Every field is judged before any span.
 #[tactic(auto, unfolding(model::specs::Start::start_answer))]
-fn start_answer(
-    seen: Lent<&[u64]>,
-    pages: u64,
-    shared_base: u64,
-    shared_count: u64,
-    units: &[u64],
-) -> Answer
-    ensures { result ≡ start_answer (told pages shared_base shared_count units.now) (seen_lists seen.entry) }
+fn start_answer(seen: Lent<&[u64]>, told: Told) -> Answer
+    ensures { result ≡ start_answer (told_by told.entry) (seen_lists seen.entry) }
 {
-    if !lengths_good(seen, pages, units) {
+    if !lengths_good(seen, told) {
         return refuse(Refusal::StateNotValid, 0);
     }
-    if units.len() / UNIT_NUMBERS > UNITS || any_bad_field(units) {
+    if told.units.len() / UNIT_NUMBERS > UNITS || any_bad_field(told.units) {
         return refuse(Refusal::OutOfRange, 0);
     }
-    if any_bad_span(pages, units) || !units::span_within(shared_base, shared_count, pages) {
+    if any_bad_span(told.pages, told.units) {
+        return refuse(Refusal::BadSpan, 0);
+    }
+    if !units::span_within(told.shared_base, told.shared_count, told.pages) {
         return refuse(Refusal::BadSpan, 0);
     }
     accept(0)
@@ -163,13 +162,13 @@ fn first_home(sets: &mut [u64], shared_base: u64, shared_count: u64, page: PhysP
     pages::add(sets, row, page);
 }
 
-fn fresh_sets(sets: &mut [u64], pages: u64, shared_base: u64, shared_count: u64)
-    requires { (pages ≤ PAGES) × (shared_base + shared_count ≤ pages) × (length sets.old ≡ SETS * SET_WORDS) }
-    ensures { sets.new ≡ repeat (first_home shared_base shared_count) 0 pages (zeros sets.old) }
+fn fresh_sets(sets: &mut [u64], told: Told)
+    requires { (told.pages ≤ PAGES) × (told.shared_base + told.shared_count ≤ told.pages) × (length sets.old ≡ SETS * SET_WORDS) }
+    ensures { sets.new ≡ repeat (first_home told.entry.shared_base told.entry.shared_count) 0 told.entry.pages (zeros sets.old) }
 {
     table::clear_words(sets);
-    for page in 0..pages {
-        first_home(sets, shared_base, shared_count, PhysPage(page));
+    for page in 0..told.pages {
+        first_home(sets, told.shared_base, told.shared_count, PhysPage(page));
     }
 }
 
@@ -199,16 +198,17 @@ fn fresh_registers() -> Registers
     }
 }
 
-fn fresh_machine(pages: u64, shared_base: u64, shared_count: u64, units: &[u64]) -> Machine
-    ensures { result ≡ fresh_header (told pages shared_base shared_count units.now) }
+fn fresh_machine(told: Told) -> Machine
+    requires { count_told told.units.now ≤ UNITS }
+    ensures { result ≡ fresh_header (told_by told.entry) }
 {
     Machine {
         fixed: Fixed {
-            pages,
-            shared_base,
-            shared_count,
-            units: units_told(units),
-            unit_count: (units.len() / UNIT_NUMBERS) as u64,
+            pages: told.pages,
+            shared_base: told.shared_base,
+            shared_count: told.shared_count,
+            units: units_told(told.units),
+            unit_count: (told.units.len() / UNIT_NUMBERS) as u64,
         },
         registers: fresh_registers(),
     }
@@ -243,11 +243,17 @@ pub fn start(
     ensures begun { began result (lists lent.new) ≡ start (told pages shared_base shared_count units.now) (lists lent.old) }
     ensures same { Same lent.old lent.new }
 {
-    start_answer(lent.seen(), pages, shared_base, shared_count, units)?;
-    fresh_sets(lent.sets, pages, shared_base, shared_count);
+    let told = Told {
+        pages,
+        shared_base,
+        shared_count,
+        units,
+    };
+    start_answer(lent.seen(), told)?;
+    fresh_sets(lent.sets, told);
     table::clear_words(lent.pairs);
     clear_route(lent.cpu_map, lent.cpu_walker, lent.cpu_cache);
     clear_route(lent.dma_map, lent.dma_walker, lent.dma_cache);
     table::clear_words(lent.memory);
-    Ok(fresh_machine(pages, shared_base, shared_count, units))
+    Ok(fresh_machine(told))
 }

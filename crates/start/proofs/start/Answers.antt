@@ -14,20 +14,21 @@ fresh_sets-requires c =
     let p = start_passed _ _ (sym (rw c.seen.ensures at c.start_answer.ensures) ∙ c.in_ok-start_answer.was) in
     (p.pages_ok, p.shared_ok, p.lengths.sets)
 
+pub fresh_machine-requires : goal.fresh_machine-requires
+fresh_machine-requires c = (start_passed _ _ (sym c.start_answer.ensures ∙ c.in_ok-start_answer.was)).units_ok
+
 pub returns-clause-begun : goal.returns-clause-begun
 returns-clause-begun c =
-    let route = c.clear_route.ensures in
-    let route-2 = c.clear_route-2.ensures in
-    rw (
-      c.fresh_machine.ensures,
-      c.fresh_sets.ensures,
-      c.clear_words.ensures,
-      route.0,
-      route.1,
-      route.2,
-      route-2.0,
-      route-2.1,
-      route-2.2,
-      c.clear_words-2.ensures,
-    )
-    (start_accepted _ _ _ (sym (rw c.seen.ensures at c.start_answer.ensures) ∙ c.in_ok-start_answer.was))
+    start_accepted _ _ _ _ _ (sym (rw c.seen.ensures at c.start_answer.ensures) ∙ c.in_ok-start_answer.was)
+    (record {
+      header_is = c.fresh_machine.ensures;
+      sets_are = c.fresh_sets.ensures;
+      pairs_are = c.clear_words.ensures;
+      cpu_map_is = c.clear_route.ensures.0;
+      cpu_walker_is = c.clear_route.ensures.1;
+      cpu_cache_is = c.clear_route.ensures.2;
+      dma_map_is = c.clear_route-2.ensures.0;
+      dma_walker_is = c.clear_route-2.ensures.1;
+      dma_cache_is = c.clear_route-2.ensures.2;
+      memory_is = c.clear_words-2.ensures;
+    })
