@@ -21,7 +21,7 @@ const TEXT: usize = BATCH * ANSWER_NUMBERS * NUMBER_BYTES;
 // ---- The answers of a batch.
 
 // The number and the byte that ends it, behind the text. By itoa and not by `write!`, of which nothing says that it succeeds
-// where there is room: `put` promises that the text holds the number whole.
+// where there is room.
 pub fn put<const N: usize>(text: &mut ArrayVec<u8, N>, number: u64, end: u8)
     requires { array_vec_len text.old + NUMBER_BYTES ≤ N }
     ensures { array_vec_len text.new ≤ array_vec_len text.old + NUMBER_BYTES }

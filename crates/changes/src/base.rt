@@ -166,7 +166,8 @@ fn enter(words: &mut [u64; WORDS], map: usize, place: usize, walker_place: usize
     words[map + ENTRIES + 1 + walker_place] = entry;
 }
 
-// The CPU side: own pages and borrowed ones, the walker's in another order.
+// The CPU side: own pages and borrowed ones, the walker's in another order. The two sides stay two lists, whose words
+// differ in pages and VMs: one function of both would take as many parameters.
 fn fill_cpu(words: &mut [u64; WORDS]) {
     enter(words, CPU_MAP_AT, 0, 9, entry(1, 16, 0, 3, 0));
     enter(words, CPU_MAP_AT, 1, 1, entry(1, 17, 1, 1, GENERATIONS - 1));

@@ -54,7 +54,8 @@ fn registers_of(m: &mut Machine, side: Side) -> &mut SideRegisters {
 
 // ---- Changes.
 
-// A state, the rule that its changes are about, and where their lines go.
+// A state, the rule that its changes are about, and where their lines go. The clause that a change breaks is another each time, so
+// it is handed on and no field.
 #[derive(Drop)]
 pub struct Cases<'a, W> {
     pub to: &'a mut W,

@@ -38,7 +38,7 @@ pub const MEMORY_AT: usize = DMA_CACHE_AT + CACHE_WORDS + 1;
 
 pub const WORDS: usize = MEMORY_AT + MEMORY_WORDS + 1;
 
-// The slices of which a single word is changed. Page sets are changed by pages.
+// The slices of which a single word is changed. Page sets are changed by pages. An enum, as it names a place and no step.
 #[derive(Clone, Copy)]
 pub enum Table {
     Pairs,

@@ -60,7 +60,8 @@ impl<'f, F: Read> Source<'f, F> {
         self.place = place;
     }
 
-    // Reads until the buffer is full or the file gives no more.
+    // Reads until the buffer is full or the file gives no more. A `while`, since a reading gives as many bytes as it likes: there is
+    // nothing to count or to go through.
     fn fill(&mut self) -> io::Result<()> {
         while self.filled < LOG_ROOM {
             let buffer = &mut self.buffer[..];
