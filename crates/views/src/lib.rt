@@ -60,18 +60,18 @@ pub fn on_page(w: u64, page: PhysPage) -> bool
     (numbers::filled_of(w) == 1) & (numbers::page_of(w) == page)
 }
 
-// A mapping of the VM.
+// A mapping of the VM. `&&`, so that a search passes over an empty place at once.
 pub fn of_vm(w: u64, vm: VmId) -> bool
     ensures { result ≡ of_vm vm.0 w }
 {
-    (numbers::filled_of(w) == 1) & (numbers::vm_of(w) == vm)
+    (numbers::filled_of(w) == 1) && (numbers::vm_of(w) == vm)
 }
 
 // A pair that has the VM at an end.
 pub fn joins(w: u64, vm: VmId) -> bool
     ensures { result ≡ joins vm.0 w }
 {
-    (numbers::filled_of(w) == 1) & ((numbers::left_of(w) == vm) | (numbers::right_of(w) == vm))
+    (numbers::filled_of(w) == 1) && ((numbers::left_of(w) == vm) | (numbers::right_of(w) == vm))
 }
 
 // Where the pair of these two on the page stands, in whichever order of its ends.
