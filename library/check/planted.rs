@@ -307,12 +307,7 @@ const PLANTED: &[(Where, &str, &str, &str)] = &[
     ),
     (Header, "    uint64_t pairs[TILIGORMIS_PAIRS];\n", "", "tiligormis_tables"),
     (Header, "    uint64_t *memory;\n    size_t memory_length;", "", "tiligormis_free, box"),
-    (
-        Crate("judge"),
-        "(seen.sets.len() == SETS * SET_WORDS)",
-        "(seen.sets.len() == SETS)",
-        "sets, length in a box",
-    ),
+    (Crate("judge"), "(sets == SETS * SET_WORDS)", "(sets == SETS)", "sets, length in a box"),
     // inline functions: names and sentences, rows, blocks, entries, fields, version
     (
         Header,

@@ -216,14 +216,14 @@ fn parameter(text: &str) -> Option<Vec<Named>> {
     Some(vec![pointer, length])
 }
 
-/// What the judgement compares each length with: `NAME.len() == LENGTH`, of memory `memory.len() as
-/// u64 == LENGTH`.
+/// What the judgement compares each length with: `(NAME == LENGTH)`, of memory `memory.len() as u64
+/// == LENGTH`.
 fn lengths(code: &str) -> BTreeMap<String, String> {
     let mut found = BTreeMap::new();
     for (at, _) in code.match_indices("==") {
         let before = tokens(&code[..at]);
         let name = match before[..] {
-            [.., name, ".", "len", "(", ")"] => name,
+            [.., "(", name] => name,
             [.., name, ".", "len", "(", ")", "as", "u64"] => name,
             _ => continue,
         };

@@ -10,16 +10,23 @@ use Rattle.model.specs.declared.Fixed.{Fixed}
 use Rattle.model.specs.declared.Machine.{Machine}
 
 -- ---- 1: the lengths of what is lent; units and ports have theirs by type
-pub record RouteSizes (m w c : List ℕ) : Type 0 where
-  pub map : length m ≡ ENTRIES
-  pub walker : length w ≡ ENTRIES
-  pub cache : length c ≡ SLOTS
+pub record RouteSizes (m w c : ℕ) : Type 0 where
+  pub map : m ≡ ENTRIES
+  pub walker : w ≡ ENTRIES
+  pub cache : c ≡ SLOTS
 
-pub record Sizes (l : Lists) : Type 0 where
-  pub sets : length l.sets ≡ SETS * SET_WORDS
-  pub pairs : length l.pairs ≡ PAIRS
-  pub cpu : RouteSizes l.cpu_map l.cpu_walker l.cpu_cache
-  pub dma : RouteSizes l.dma_map l.dma_walker l.dma_cache
+pub record Sizes (s p cm cw cc dm dw dc : ℕ) : Type 0 where
+  pub sets : s ≡ SETS * SET_WORDS
+  pub pairs : p ≡ PAIRS
+  pub cpu : RouteSizes cm cw cc
+  pub dma : RouteSizes dm dw dc
+
+-- what is lent has them
+abbrev pub Sized : Lists → Type 0
+Sized l =
+    Sizes (length l.sets) (length l.pairs)
+    (length l.cpu_map) (length l.cpu_walker) (length l.cpu_cache)
+    (length l.dma_map) (length l.dma_walker) (length l.dma_cache)
 
 -- ---- 2: the setup without its units
 pub record SetupNumbers (fixed : Fixed) : Type 0 where
@@ -30,7 +37,7 @@ pub record SetupNumbers (fixed : Fixed) : Type 0 where
 
 -- ---- 1 to 4 together
 pub record HomesGood (m : Machine) (l : Lists) : Type 0 where
-  pub sizes : Sizes l
+  pub sizes : Sized l
   pub setup : SetupGood (setup_of m.fixed)
   pub known : KnownGood m.registers.known
   pub pages : PagesGood m.fixed.pages m.fixed.shared_base m.fixed.shared_count m.registers.known l.sets

@@ -4,10 +4,10 @@ use Rattle.numbers.specs.Limits.{UNITS, PORTS}
 use Rattle.model.specs.Header.{Lists, tables_of}
 use Rattle.model.specs.Valid.{Lengths}
 use Rattle.model.specs.declared.Machine.{Machine}
-use Rattle.judge.specs.Parts.{Sizes}
+use Rattle.judge.specs.Parts.{Sized}
 
 module _ (m : Machine) (l : Lists) where
-  pub lengths_of : Sizes l → length m.fixed.units ≡ UNITS → length m.registers.cpu.ports ≡ PORTS → length m.registers.dma.ports ≡ PORTS → Lengths (tables_of m l)
+  pub lengths_of : Sized l → length m.fixed.units ≡ UNITS → length m.registers.cpu.ports ≡ PORTS → length m.registers.dma.ports ≡ PORTS → Lengths (tables_of m l)
   lengths_of s u c d =
       record {
         units = u;
@@ -17,7 +17,7 @@ module _ (m : Machine) (l : Lists) where
         dma = record { map = s.dma.map; walker = s.dma.walker; cache = s.dma.cache; ports = d };
       }
 
-  pub sizes_of : Lengths (tables_of m l) → Sizes l
+  pub sizes_of : Lengths (tables_of m l) → Sized l
   sizes_of g =
       record {
         sets = g.sets;

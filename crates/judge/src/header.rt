@@ -3,29 +3,39 @@ ghost use Rattle.std.specs.Prelude.{◌≡◌, ℕ, ◌≤◌, ◌<◌, get_or, 
 ghost use Rattle.numbers.specs.Decides.{Decides};
 ghost use Rattle.numbers.specs.Limits.{UNITS};
 ghost use Rattle.units.specs.Units.{no_unit};
-ghost use Rattle.model.specs.Header.{setup_of, seen_lists};
+ghost use Rattle.model.specs.Header.{setup_of};
 ghost use Rattle.model.specs.Valid.{UnitGood, SetupGood, KnownGood};
+ghost use Rattle.model.specs.Views.{knows};
 ghost use Rattle.judge.specs.Parts.{RouteSizes, Sizes, SetupNumbers};
 
-use model::{Fixed, Lent};
-use numbers::{ACCESSES, ENTRIES, PAGES, PAIRS, SET_WORDS, SETS, SLOTS, UNITS, VMS};
+use model::Fixed;
+use numbers::{ACCESSES, ENTRIES, PAGES, PAIRS, SET_WORDS, SETS, SLOTS, UNITS, VMS, VmId};
 use units::Unit;
 
 // ---- 1: lengths. The units and the ports have theirs by type.
 
-fn route_lengths(map: &[u64], walker: &[u64], cache: &[u64]) -> bool
-    ensures { Decides result (RouteSizes map.now walker.now cache.now) }
+fn route_lengths(map: usize, walker: usize, cache: usize) -> bool
+    ensures { Decides result (RouteSizes map walker cache) }
 {
-    (map.len() == ENTRIES) & (walker.len() == ENTRIES) & (cache.len() == SLOTS as usize)
+    (map == ENTRIES) & (walker == ENTRIES) & (cache == SLOTS as usize)
 }
 
-pub fn lengths(seen: Lent<&[u64]>) -> bool
-    ensures { Decides result (Sizes (seen_lists seen.entry)) }
+pub fn lengths(
+    sets: usize,
+    pairs: usize,
+    cpu_map: usize,
+    cpu_walker: usize,
+    cpu_cache: usize,
+    dma_map: usize,
+    dma_walker: usize,
+    dma_cache: usize,
+) -> bool
+    ensures { Decides result (Sizes sets pairs cpu_map cpu_walker cpu_cache dma_map dma_walker dma_cache) }
 {
-    (seen.sets.len() == SETS * SET_WORDS)
-        & (seen.pairs.len() == PAIRS)
-        & route_lengths(seen.cpu_map, seen.cpu_walker, seen.cpu_cache)
-        & route_lengths(seen.dma_map, seen.dma_walker, seen.dma_cache)
+    (sets == SETS * SET_WORDS)
+        & (pairs == PAIRS)
+        & route_lengths(cpu_map, cpu_walker, cpu_cache)
+        & route_lengths(dma_map, dma_walker, dma_cache)
 }
 
 // ---- 2: setup.
@@ -70,4 +80,12 @@ pub fn known_vms(known: u64) -> bool
     ensures { Decides result (KnownGood known) }
 {
     known < 1 << VMS
+}
+
+// Whether a VM of any number at all is known: by rule 3 none at VMS or above is.
+pub fn is_known(known: u64, vm: VmId) -> bool
+    requires { KnownGood known }
+    ensures { result ≡ knows known vm.0 }
+{
+    vm.0 < VMS && views::knows(known, vm)
 }

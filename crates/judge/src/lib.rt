@@ -17,6 +17,7 @@ pub mod header;
 pub mod homes;
 pub mod routes;
 pub mod sharing;
+pub mod words;
 
 // Rules 1 to 4: the lengths, the setup, the known VMs and the page sets.
 fn homes_good(m: &Machine, seen: Lent<&[u64]>) -> bool
@@ -25,8 +26,16 @@ fn homes_good(m: &Machine, seen: Lent<&[u64]>) -> bool
 {
     let fixed = &m.fixed;
     let known = m.registers.known;
-    header::lengths(seen)
-        && header::setup(fixed)
+    header::lengths(
+        seen.sets.len(),
+        seen.pairs.len(),
+        seen.cpu_map.len(),
+        seen.cpu_walker.len(),
+        seen.cpu_cache.len(),
+        seen.dma_map.len(),
+        seen.dma_walker.len(),
+        seen.dma_cache.len(),
+    ) && header::setup(fixed)
         && header::known_vms(known)
         && judge_homes::page_sets(
             seen.sets,

@@ -15,7 +15,7 @@ use super::homes::Homes;
 use model::SideRegisters;
 use numbers::{IDLE, PORTS, PhysPage, SLOTS, Side, VmId};
 
-// What rules 2 to 5 have shown where rule 6 begins. `lent` says what `pairs` says, which contracts name and nothing reads.
+// What rules 1 to 5 have shown where rule 6 begins. `lent` says what `pairs` says, which contracts name and nothing reads.
 #[derive(Clone, Copy)]
 pub struct Ground<'a> {
     pub homes: Homes<'a>,

@@ -6,7 +6,7 @@ ghost use Rattle.numbers.specs.Limits.{PAGES, VMS, SET_WORDS};
 ghost use Rattle.numbers.specs.Packing.{left_of, page_of};
 ghost use Rattle.model.specs.Valid.{PairGood};
 ghost use Rattle.judge.specs.Parts.{PairPacked};
-ghost use Rattle.judge.specs.Sharing.{borrower_of, Marked, PairsJudged};
+ghost use Rattle.judge.specs.Sharing.{OneOwner, borrower_of, Marked, PairsJudged};
 
 use super::homes::Homes;
 use numbers::{SET_WORDS, Side, VMS, VmId};
@@ -74,7 +74,8 @@ impl Homes<'_> {
 
     // All pairs. What was an empty set for each VM leaves as the pages that pairs lend to it.
     pub fn pairs(&self, pairs: &[u64], lent: &mut [u64]) -> bool
-        requires { lent.old ≡ replicate (VMS * SET_WORDS) 0 }
+        requires empty { lent.old ≡ replicate (VMS * SET_WORDS) 0 }
+        requires owners { OneOwner self.now.pages self.now.sets.now }
         ensures { PairsJudged self.now.pages self.now.known self.now.sets.now pairs.now lent.new result }
     {
         for w in pairs {
