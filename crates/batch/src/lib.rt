@@ -126,20 +126,16 @@ impl fmt::Display for End {
     }
 }
 
-#[derive(Drop)]
+#[derive(Clone, Copy)]
 pub struct Work {
     pub phase: Phase,
     // The number of the line.
     pub line: u64,
     pub machine: Machine,
-    pub tables: Tables,
-    // What its box line says, and the units that it was told.
+    // What its box line says.
     pub pages: u64,
     pub base: u64,
     pub count: u64,
-    pub units: ArrayVec<[u64; UNIT_NUMBERS], UNITS_KEPT>,
-    // Rows that wait to be carried out.
-    pub rows: ArrayVec<[u64; ROW_NUMBERS], BATCH>,
 }
 
 impl Work {
@@ -149,10 +145,30 @@ impl Work {
             phase: Phase::NoBox,
             line: 0,
             machine: start::empty_machine(),
-            tables: Tables::new(),
             pages: 0,
             base: 0,
             count: 0,
+        }
+    }
+}
+
+// ---- A box with its tables and with what waits of it.
+#[derive(Drop)]
+pub struct Batch {
+    pub work: Work,
+    pub tables: Tables,
+    // The units that it was told.
+    pub units: ArrayVec<[u64; UNIT_NUMBERS], UNITS_KEPT>,
+    // Rows that wait to be carried out.
+    pub rows: ArrayVec<[u64; ROW_NUMBERS], BATCH>,
+}
+
+impl Batch {
+    // Before any line: no unit and no row.
+    pub fn new() -> Batch {
+        Batch {
+            work: Work::new(),
+            tables: Tables::new(),
             units: ArrayVec::new(),
             rows: ArrayVec::new(),
         }

@@ -114,18 +114,12 @@ pub fn start(
     if header.len() != MACHINE_NUMBERS {
         return Refusal::StateNotValid.into();
     }
+    let mut m = start::empty_machine();
     if !whole(cpu_slots, dma_slots) {
-        box_header::put_machine(header, &start::empty_machine());
+        box_header::put_machine(header, &m);
         return Refusal::StateNotValid.into();
     }
-    match start::start(lent, pages, shared_base, shared_count, units) {
-        Ok(m) => {
-            box_header::put_machine(header, &m);
-            0
-        }
-        Err(refused) => {
-            box_header::put_machine(header, &start::empty_machine());
-            refused.refusal.into()
-        }
-    }
+    let gave = start::start(&mut m, lent, pages, shared_base, shared_count, units);
+    box_header::put_machine(header, &m);
+    box_header::number_of(gave)
 }

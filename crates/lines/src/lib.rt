@@ -5,7 +5,7 @@ ghost use Rattle.std.specs.Prelude.{◌<◌};
 ghost use Rattle.arrayvec.specs.ArrayVec.{array_vec_len};
 ghost use Rattle.batch.specs.Room.{BATCH};
 
-use batch::{End, Phase, Work, print};
+use batch::{Batch, End, Phase, print};
 use script::Line;
 use std::io::Write;
 
@@ -28,14 +28,14 @@ pub fn asks(placed: Line) -> bool {
 
 // ---- What each kind of line does.
 
-fn new_box(work: &mut Work, pages: u64, base: u64, count: u64) {
-    work.phase = Phase::Told;
-    work.machine = start::empty_machine();
-    work.pages = pages;
-    work.base = base;
-    work.count = count;
-    work.units.clear();
-    work.rows.clear();
+fn new_box(batch: &mut Batch, pages: u64, base: u64, count: u64) {
+    batch.work.phase = Phase::Told;
+    batch.work.machine = start::empty_machine();
+    batch.work.pages = pages;
+    batch.work.base = base;
+    batch.work.count = count;
+    batch.units.clear();
+    batch.rows.clear();
 }
 
 fn not_understood<W: Write>(to: &mut W, line: u64) -> Result<(), End> {
@@ -43,12 +43,12 @@ fn not_understood<W: Write>(to: &mut W, line: u64) -> Result<(), End> {
     Err(End::NotUnderstood)
 }
 
-pub fn take<W: Write>(to: &mut W, work: &mut Work, placed: Line) -> Result<(), End>
-    requires { array_vec_len work.old.rows < BATCH }
+pub fn take<W: Write>(to: &mut W, batch: &mut Batch, placed: Line) -> Result<(), End>
+    requires { array_vec_len batch.old.rows < BATCH }
 {
     match placed {
         Line::Blank | Line::Free => {}
-        Line::Box { pages, base, count } => new_box(work, pages, base, count),
+        Line::Box { pages, base, count } => new_box(batch, pages, base, count),
         // Of units that are too many only the first is kept.
         Line::Unit {
             vm,
@@ -58,7 +58,7 @@ pub fn take<W: Write>(to: &mut W, work: &mut Work, placed: Line) -> Result<(), E
             access,
             mark,
         } => {
-            let _ = work.units.try_push([vm, guest, page, count, access, mark]);
+            let _ = batch.units.try_push([vm, guest, page, count, access, mark]);
         }
         Line::Row {
             operation,
@@ -69,8 +69,8 @@ pub fn take<W: Write>(to: &mut W, work: &mut Work, placed: Line) -> Result<(), E
             e,
             f,
             g,
-        } => work.rows.push([operation, a, b, c, d, e, f, g]),
-        Line::Unreadable => return not_understood(to, work.line),
+        } => batch.rows.push([operation, a, b, c, d, e, f, g]),
+        Line::Unreadable => return not_understood(to, batch.work.line),
     }
     Ok(())
 }

@@ -1,12 +1,14 @@
 // Reads a box script from its reader, in pieces, and has it answered line by line (docs/MACHINE.md, 11).
 #![tactic(auto)]
 
-use batch::{End, MEMORY_WORDS, Work};
+use batch::{Batch, End, MEMORY_WORDS};
 use script::{Line, Reader};
 use std::io::{Read, Write};
 
+// What ends a line.
+pub const LF: u8 = b'\n';
 // The most bytes of a piece of the script.
-const PIECE: usize = 65536;
+pub const PIECE: usize = 65536;
 // A bad line is given up when so many bytes have followed its first bad one without a line end.
 const BAD_BYTES: usize = 65536;
 
@@ -48,7 +50,7 @@ impl Under {
 
     // What the line says where it ends with the byte, or is given up at it.
     fn take(&mut self, byte: u8) -> Option<Line> {
-        if byte != b'\n' {
+        if byte != LF {
             self.feed(byte);
             if self.bad <= BAD_BYTES {
                 return None;
@@ -87,34 +89,34 @@ pub fn read_script<R: Read, S: Script>(from: &mut R, script: &mut S) -> Result<(
 
 // ---- A box that a script tells.
 #[derive(Drop)]
-struct Runner<'t, 'w, 'm, W> {
+struct Runner<'t, 'b, 'm, W> {
     to: &'t mut W,
-    work: &'w mut Work,
+    batch: &'b mut Batch,
     memory: &'m mut [u64; MEMORY_WORDS],
 }
 
-impl<'t, 'w, 'm, W: Write> Script for Runner<'t, 'w, 'm, W> {
+impl<'t, 'b, 'm, W: Write> Script for Runner<'t, 'b, 'm, W> {
     // One line of the script, after what must be answered before it, or where no further row has room.
     fn line(&mut self, said: Line) -> Result<(), End> {
         // No script has as many lines as would make the count wrap.
-        self.work.line = self.work.line.wrapping_add(1);
-        let placed = lines::in_place(self.work.phase, !self.work.rows.is_empty(), said);
-        if lines::asks(placed) || self.work.rows.is_full() {
-            self.work.settle(self.to, self.memory)?;
+        self.batch.work.line = self.batch.work.line.wrapping_add(1);
+        let placed = lines::in_place(self.batch.work.phase, !self.batch.rows.is_empty(), said);
+        if lines::asks(placed) || self.batch.rows.is_full() {
+            self.batch.settle(self.to, self.memory)?;
         }
         if let Line::Free = placed {
-            self.work.query(self.to, self.memory)?;
+            self.batch.query(self.to, self.memory)?;
         }
-        lines::take(self.to, self.work, placed)
+        lines::take(self.to, self.batch, placed)
     }
 
     // Rows that wait are carried out and written: whoever told them may wait for their answers. A box without rows goes on
     // waiting, since units may follow.
     fn pause(&mut self) -> Result<(), End> {
-        if self.work.rows.is_empty() {
+        if self.batch.rows.is_empty() {
             return Ok(());
         }
-        self.work.settle(self.to, self.memory)
+        self.batch.settle(self.to, self.memory)
     }
 }
 
@@ -122,9 +124,9 @@ impl<'t, 'w, 'm, W: Write> Script for Runner<'t, 'w, 'm, W> {
 pub fn run<R: Read, W: Write>(
     from: &mut R,
     to: &mut W,
-    work: &mut Work,
+    batch: &mut Batch,
     memory: &mut [u64; MEMORY_WORDS],
 ) -> Result<(), End> {
-    read_script(from, &mut Runner { to, work, memory })?;
-    work.settle(to, memory)
+    read_script(from, &mut Runner { to, batch, memory })?;
+    batch.settle(to, memory)
 }

@@ -10,7 +10,7 @@ ghost use Rattle.batch.specs.Room.{BATCH, MEMORY_WORDS};
 
 use batch::carry::words_of;
 use batch::print::{BATCH, printed};
-use batch::{End, MEMORY_WORDS, Work};
+use batch::{Batch, End, MEMORY_WORDS};
 use numbers::ANSWER_NUMBERS;
 use operation_log::LogRefusal;
 use replay::{Replayed, Stop};
@@ -112,7 +112,7 @@ struct Course<'f, F> {
 
 // Records of the log from a place on, carried out.
 fn carried(
-    work: &mut Work,
+    batch: &mut Batch,
     memory: &mut [u64],
     log: &[u8],
     place: usize,
@@ -122,10 +122,10 @@ fn carried(
     requires { (length memory.old ≡ MEMORY_WORDS) × (place ≤ length log.now) }
     ensures { (result.taken ≤ most) × (result.place ≤ length log.now) }
 {
-    let words = words_of(work.machine.fixed.pages);
-    let mut lent = work.tables.lend(&mut memory[..words]);
+    let words = words_of(batch.work.machine.fixed.pages);
+    let mut lent = batch.tables.lend(&mut memory[..words]);
     replay::replay(
-        &mut work.machine,
+        &mut batch.work.machine,
         &mut lent,
         log,
         place,
@@ -141,7 +141,7 @@ impl<'f, F: Read> Course<'f, F> {
     fn turn<W: Write>(
         &mut self,
         to: &mut W,
-        work: &mut Work,
+        batch: &mut Batch,
         memory: &mut [u64; MEMORY_WORDS],
     ) -> Result<bool, Failure> {
         self.source.refill().map_err(|_| Failure::CannotReadLog)?;
@@ -153,7 +153,7 @@ impl<'f, F: Read> Course<'f, F> {
             stop,
             taken,
             place: next,
-        } = carried(work, memory, log, place, most, &mut room);
+        } = carried(batch, memory, log, place, most, &mut room);
         print_records(to, log, place, &room[..taken])?;
         self.source.pass(next);
         self.taken = self.taken.wrapping_add(taken as u64);
@@ -170,11 +170,11 @@ impl<'f, F: Read> Course<'f, F> {
     fn run<W: Write>(
         &mut self,
         to: &mut W,
-        work: &mut Work,
+        batch: &mut Batch,
         memory: &mut [u64; MEMORY_WORDS],
     ) -> Result<(), Failure> {
         for _ in 0..u64::MAX {
-            if !self.turn(to, work, memory)? {
+            if !self.turn(to, batch, memory)? {
                 break;
             }
         }
@@ -201,9 +201,9 @@ fn box_and_log<S: Env + Files, R: Read, W: Write>(
     to: &mut W,
 ) -> Result<(), Failure> {
     let left = asked(rt)?;
-    let mut work = Work::new();
+    let mut batch = Batch::new();
     let mut memory = [0; MEMORY_WORDS];
-    reading::run(from, to, &mut work, &mut memory)?;
+    reading::run(from, to, &mut batch, &mut memory)?;
     let mut file = open_log(rt).ok_or(Failure::CannotOpen)?;
     let mut course = Course {
         source: Source::new(&mut file),
@@ -211,7 +211,7 @@ fn box_and_log<S: Env + Files, R: Read, W: Write>(
         left,
         stop: Ok(()),
     };
-    course.run(to, &mut work, &mut memory)?;
+    course.run(to, &mut batch, &mut memory)?;
     course.print_stop(to)?;
     match course.stop {
         Err(Stop::Unreadable(_)) => Err(Failure::Ended(End::NotUnderstood)),

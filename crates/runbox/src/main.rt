@@ -2,13 +2,13 @@
 // it is one line more, on standard error.
 #![tactic(auto)]
 
-use batch::{MEMORY_WORDS, Work};
+use batch::{Batch, MEMORY_WORDS};
 use std::io::Write;
 
 fn main(rt: HostRuntime) {
-    let mut work = Work::new();
+    let mut batch = Batch::new();
     let mut memory = [0; MEMORY_WORDS];
-    let ran = reading::run(&mut rt.stdin(), &mut rt.stdout(), &mut work, &mut memory);
+    let ran = reading::run(&mut rt.stdin(), &mut rt.stdout(), &mut batch, &mut memory);
     // What ended the program, of which the wrapper makes an exit status.
     let mut errors = rt.stderr();
     let _ = match ran {

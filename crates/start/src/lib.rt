@@ -12,7 +12,7 @@ ghost use Rattle.start.specs.Begun.{Sixes, told, told_by, began, zeros, fresh_re
 use model::{Fixed, Lent, Machine, Registers, SideRegisters};
 use numbers::{
     ACCESSES, Answer, ENTRIES, GuestPage, IDLE, PAGE_WORDS, PAGES, PAIRS, PORTS, PhysPage, Refusal,
-    Refused, Region, SET_WORDS, SETS, SLOTS, UNITS, VMS, VmId, accept, refuse,
+    Region, SET_WORDS, SETS, SLOTS, UNITS, VMS, VmId, accept, refuse,
 };
 use units::{Mark, Unit};
 
@@ -232,15 +232,16 @@ pub fn empty_machine() -> Machine
 
 // ---- Start.
 
-// Refused, it touches nothing; accepted, every word that it was lent is made anew.
+// Refused, it touches nothing that was lent and gives the empty machine; accepted, every word that it was lent is made anew.
 pub fn start(
+    m: &mut Machine,
     lent: &mut Lent<&mut [u64]>,
     pages: u64,
     shared_base: u64,
     shared_count: u64,
     units: &[u64],
-) -> Result<Machine, Refused>
-    ensures begun { began result (lists lent.new) ≡ start (told pages shared_base shared_count units.now) (lists lent.old) }
+) -> Answer
+    ensures begun { began result m.new (lists lent.new) ≡ start (told pages shared_base shared_count units.now) (lists lent.old) }
     ensures same { Same lent.old lent.new }
 {
     let told = Told {
@@ -249,11 +250,16 @@ pub fn start(
         shared_count,
         units,
     };
-    start_answer(lent.seen(), told)?;
+    let answer = start_answer(lent.seen(), told);
+    if let Err(refused) = answer {
+        *m = empty_machine();
+        return Err(refused);
+    }
     fresh_sets(lent.sets, told);
     table::clear_words(lent.pairs);
     clear_route(lent.cpu_map, lent.cpu_walker, lent.cpu_cache);
     clear_route(lent.dma_map, lent.dma_walker, lent.dma_cache);
     table::clear_words(lent.memory);
-    Ok(fresh_machine(told))
+    *m = fresh_machine(told);
+    answer
 }

@@ -1,25 +1,23 @@
 -- `start::start` meets its contract. Refused, it has lent everything to be read only; accepted, each list comes back as one call left it.
-use Rattle.std.proofs.Common.{sym, ◌∙◌, rules}
-use Rattle.model.specs.Start.{start, empty_state}
+use Rattle.std.proofs.Common.{sym, ◌∙◌}
 use Rattle.model.specs.ToldLaws.{start_passed}
-use Rattle.start.specs.StartLaws.{start_accepted}
+use Rattle.start.specs.StartLaws.{start_refused_lem, start_accepted}
 use Rattle.start.proofs.start.Goals as goal
 
-pub returns-in_err-start_answer-clause-begun : goal.returns-in_err-start_answer-clause-begun
-unfolding start empty_state
-returns-in_err-start_answer-clause-begun c = rw (← c.seen.ensures, ← c.start_answer.ensures, c.in_err-start_answer.was) (search rules)
+pub returns-in-Err-clause-begun : goal.returns-in-Err-clause-begun
+returns-in-Err-clause-begun c = start_refused_lem _ _ _ _ (rw c.seen.ensures at c.start_answer-answer.ensures) _ c.in-Err.is c.empty_machine.ensures
 
 pub fresh_sets-requires : goal.fresh_sets-requires
 fresh_sets-requires c =
-    let p = start_passed _ _ (sym (rw c.seen.ensures at c.start_answer.ensures) ∙ c.in_ok-start_answer.was) in
+    let p = start_passed _ _ (sym (rw c.seen.ensures at c.start_answer-answer.ensures) ∙ c.in_default.is) in
     (p.pages_ok, p.shared_ok, p.lengths.sets)
 
 pub fresh_machine-requires : goal.fresh_machine-requires
-fresh_machine-requires c = (start_passed _ _ (sym c.start_answer.ensures ∙ c.in_ok-start_answer.was)).units_ok
+fresh_machine-requires c = (start_passed _ _ (sym c.start_answer-answer.ensures ∙ c.in_default.is)).units_ok
 
 pub returns-clause-begun : goal.returns-clause-begun
 returns-clause-begun c =
-    start_accepted _ _ _ _ _ (sym (rw c.seen.ensures at c.start_answer.ensures) ∙ c.in_ok-start_answer.was)
+    start_accepted _ _ _ _ (rw c.seen.ensures at c.start_answer-answer.ensures) _ _ c.in_default.is
     (record {
       header_is = c.fresh_machine.ensures;
       sets_are = c.fresh_sets.ensures;
