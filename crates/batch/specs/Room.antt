@@ -1,6 +1,10 @@
 -- The sizes of the rooms.
-use Rattle.std.specs.Prelude.{ℕ, ◌*◌}
-use Rattle.numbers.specs.Limits.{PAGES, PAGE_WORDS, ANSWER_NUMBERS}
+use Rattle.std.specs.Prelude.{ℕ, ◌+◌, ◌*◌, List, [], ◌∷◌, ◌++◌, take}
+use Rattle.numbers.specs.Limits.{PAGES, PAGE_WORDS, UNITS, ANSWER_NUMBERS}
+
+-- the units after one more: one more than a machine may have is kept, by which start sees that there are too many
+abbrev pub units_kept : List (List ℕ) → List ℕ → List (List ℕ)
+units_kept units unit = take (UNITS + 1) (units ++ unit ∷ [])
 
 -- rows that are carried out together
 abbrev pub BATCH : ℕ

@@ -4,6 +4,7 @@
 ghost use Rattle.std.specs.Prelude.{◌≡◌};
 ghost use Rattle.model.specs.Header.{lists, seen_lists};
 ghost use Rattle.batch.specs.Lending.{lists_with};
+ghost use Rattle.batch.specs.Room.{units_kept};
 
 pub mod carry;
 pub mod print;
@@ -172,5 +173,13 @@ impl Batch {
             units: ArrayVec::new(),
             rows: ArrayVec::new(),
         }
+    }
+
+    // One unit more; of units that are too many only the first is kept.
+    pub fn keep_unit(&mut self, unit: [u64; UNIT_NUMBERS])
+        ensures unit { self.new.units.items ≡ units_kept self.old.units.items unit }
+        ensures rows { self.new.rows ≡ self.old.rows }
+    {
+        let _ = self.units.try_push(unit);
     }
 }

@@ -4,10 +4,11 @@ ghost use Rattle.arrayvec.specs.ArrayVec.{array_vec_len};
 ghost use Rattle.batch.specs.Room.{BATCH, ANSWER_BYTES, NUMBER_BYTES};
 
 use crate::End;
-use arrayvec::ArrayVec;
+use arrayvec::{ArrayString, ArrayVec};
 use itoa::Buffer;
 use machine::entries::FreePages;
 use numbers::{ANSWER_NUMBERS, PhysPage, Refused};
+use std::fmt::{Display, Write as _};
 use std::io;
 use std::io::Write;
 
@@ -54,7 +55,13 @@ pub fn print_answers<W: Write>(to: &mut W, answers: &[[u64; ANSWER_NUMBERS]]) ->
     print_text(to, text.as_slice())
 }
 
-// ---- Single lines.
+// ---- Single lines, each written at once, so that whoever reads one has the whole of it.
+
+// The most bytes of such a line.
+const LINE: usize = 64;
+
+// A line is put together here before it is written; each that there is has room.
+pub type LineText = ArrayString<LINE>;
 
 // How it ended where not all of it was written.
 pub fn printed(wrote: io::Result<()>) -> Result<(), End>
@@ -67,29 +74,46 @@ pub fn print_text<W: Write>(to: &mut W, text: &[u8]) -> Result<(), End> {
     printed(to.write_all(text))
 }
 
+pub fn print_line<W: Write>(to: &mut W, line: &LineText) -> Result<(), End> {
+    print_text(to, line.as_str().as_bytes())
+}
+
+// What ended a program, of which its wrapper makes an exit status.
+pub fn print_end<W: Write, D: Display + Drop>(errors: &mut W, program: &str, end: D) {
+    let mut line = LineText::new();
+    let _ = writeln!(line, "{program}: {end}");
+    let _ = print_line(errors, &line);
+}
+
 pub fn print_start<W: Write>(to: &mut W, refused: Option<Refused>) -> Result<(), End> {
     let number = refused.map_or(0, |refused| u64::from(refused.refusal));
-    printed(writeln!(to, "start {number}"))
+    let mut line = LineText::new();
+    let _ = writeln!(line, "start {number}");
+    print_line(to, &line)
 }
 
 pub fn print_free<W: Write>(to: &mut W, free: Result<FreePages, Refused>) -> Result<(), End> {
-    printed(match free {
+    let mut line = LineText::new();
+    let _ = match free {
         Ok(
             FreePages {
                 count,
                 lowest: Some(PhysPage(page)),
             },
-        ) => writeln!(to, "free {count} {page}"),
+        ) => writeln!(line, "free {count} {page}"),
         Ok(
             FreePages {
                 count,
                 lowest: None,
             },
-        ) => writeln!(to, "free {count} none"),
-        Err(_) => writeln!(to, "free refused 1"),
-    })
+        ) => writeln!(line, "free {count} none"),
+        Err(_) => writeln!(line, "free refused 1"),
+    };
+    print_line(to, &line)
 }
 
 pub fn print_not_understood<W: Write>(to: &mut W, line: u64) -> Result<(), End> {
-    printed(writeln!(to, "line {line}: not understood"))
+    let mut text = LineText::new();
+    let _ = writeln!(text, "line {line}: not understood");
+    print_line(to, &text)
 }

@@ -49,7 +49,6 @@ pub fn take<W: Write>(to: &mut W, batch: &mut Batch, placed: Line) -> Result<(),
     match placed {
         Line::Blank | Line::Free => {}
         Line::Box { pages, base, count } => new_box(batch, pages, base, count),
-        // Of units that are too many only the first is kept.
         Line::Unit {
             vm,
             guest,
@@ -57,9 +56,7 @@ pub fn take<W: Write>(to: &mut W, batch: &mut Batch, placed: Line) -> Result<(),
             count,
             access,
             mark,
-        } => {
-            let _ = batch.units.try_push([vm, guest, page, count, access, mark]);
-        }
+        } => batch.keep_unit([vm, guest, page, count, access, mark]),
         Line::Row {
             operation,
             a,

@@ -3,15 +3,15 @@
 // one line more there.
 #![tactic(auto)]
 
-ghost use Rattle.std.specs.Prelude.{◌≤◌};
+ghost use Rattle.std.specs.Prelude.{◌≡◌, ◌≤◌};
 ghost use Rattle.logbox.specs.Room.{LOG_ROOM};
 
-use batch::print::print_text;
+use batch::print::{LineText, print_end, print_line, print_text};
 use batch::{End, Phase};
 use numbers::ROW_NUMBERS;
 use reading::{Script, read_script};
 use script::Line;
-use std::fmt::Display;
+use std::fmt::{Display, Write as _};
 use std::io::{Read, Write};
 
 // The room in which records wait to be written.
@@ -41,11 +41,14 @@ impl<'t, 'e, W: Write, E: Write> Logger<'t, 'e, W, E> {
         print_text(self.to, &room[..count])
     }
 
-    // A line that ends it: which one, and why. What waits is written all the same.
-    fn refuse<D: Display + Drop>(&mut self, why: D) -> Result<(), End> {
+    // A line that ends it: which one, and why. What waits stays, and is written at the end.
+    fn refuse<D: Display + Drop>(&mut self, why: D) -> Result<(), End>
+        ensures { (self.new.waiting ≡ self.old.waiting) × (self.new.room ≡ self.old.room) }
+    {
         let line = self.line;
-        let _ = writeln!(self.errors, "line {line}: {why}");
-        self.flush()?;
+        let mut text = LineText::new();
+        let _ = writeln!(text, "line {line}: {why}");
+        let _ = print_line(self.errors, &text);
         Err(End::NotUnderstood)
     }
 
@@ -95,7 +98,7 @@ impl<'t, 'e, W: Write, E: Write> Script for Logger<'t, 'e, W, E> {
     }
 }
 
-// The whole script, and all that still waits at its end.
+// The whole script, and all that still waits when it ends, or a line ends it.
 fn run<R: Read, W: Write, E: Write>(from: &mut R, to: &mut W, errors: &mut E) -> Result<(), End> {
     let mut logger = Logger {
         to,
@@ -105,17 +108,17 @@ fn run<R: Read, W: Write, E: Write>(from: &mut R, to: &mut W, errors: &mut E) ->
         room: [0; LOG_ROOM],
         waiting: 0,
     };
-    read_script(from, &mut logger)?;
-    logger.flush()
+    let read = read_script(from, &mut logger);
+    logger.flush()?;
+    read
 }
 
 fn main(rt: HostRuntime) {
     let mut errors = rt.stderr();
     let ran = run(&mut rt.stdin(), &mut rt.stdout(), &mut errors);
-    // What ended the program, of which the wrapper makes an exit status.
-    let _ = match ran {
-        Ok(()) => writeln!(errors, "logbox: ended"),
-        Err(End::NotUnderstood) => writeln!(errors, "logbox: refused"),
-        Err(end) => writeln!(errors, "logbox: {end}"),
-    };
+    match ran {
+        Ok(()) => print_end(&mut errors, "logbox", "ended"),
+        Err(End::NotUnderstood) => print_end(&mut errors, "logbox", "refused"),
+        Err(end) => print_end(&mut errors, "logbox", end),
+    }
 }

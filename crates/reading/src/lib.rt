@@ -22,17 +22,17 @@ pub trait Script {
     fn pause(&mut self) -> Result<(), End>;
 }
 
-// The line under way, and how many of its bytes came since it was bad, the first bad one among them.
+// Where the reading has come to: the line under way, and how many of its bytes came since it was bad, the first bad one among them.
 #[derive(Clone, Copy)]
-struct Under {
-    reader: Reader,
-    bad: usize,
+pub struct Place {
+    pub reader: Reader,
+    pub bad: usize,
 }
 
-impl Under {
+impl Place {
     // At the start of a line.
-    fn new() -> Under {
-        Under {
+    fn new() -> Place {
+        Place {
             reader: script::line_start(),
             bad: 0,
         }
@@ -57,15 +57,15 @@ impl Under {
             }
         }
         let said = script::line_end(self.reader);
-        *self = Under::new();
+        *self = Place::new();
         Some(said)
     }
 }
 
 // One piece of the script, byte by byte.
-fn piece<S: Script>(script: &mut S, under: &mut Under, bytes: &[u8]) -> Result<(), End> {
+fn piece<S: Script>(script: &mut S, place: &mut Place, bytes: &[u8]) -> Result<(), End> {
     for &byte in bytes {
-        if let Some(said) = under.take(byte) {
+        if let Some(said) = place.take(byte) {
             script.line(said)?;
         }
     }
@@ -75,16 +75,16 @@ fn piece<S: Script>(script: &mut S, under: &mut Under, bytes: &[u8]) -> Result<(
 // Piece by piece, until the input ends, and then the last line, with or without a line end. A loop has to end and nothing says
 // that the input does, so this one has a number of turns that no run uses up.
 pub fn read_script<R: Read, S: Script>(from: &mut R, script: &mut S) -> Result<(), End> {
-    let mut under = Under::new();
+    let mut place = Place::new();
     let mut bytes = [0; PIECE];
     for _ in 0..u64::MAX {
         let count = from.read(&mut bytes).map_err(|_| End::CannotRead)?;
         if count == 0 {
             break;
         }
-        piece(script, &mut under, &bytes[..count])?;
+        piece(script, &mut place, &bytes[..count])?;
     }
-    script.line(script::line_end(under.reader))
+    script.line(script::line_end(place.reader))
 }
 
 // ---- A box that a script tells.

@@ -9,7 +9,7 @@ ghost use Rattle.std.specs.Prelude.{◌≡◌, ◌≤◌, length};
 ghost use Rattle.batch.specs.Room.{BATCH, MEMORY_WORDS};
 
 use batch::carry::words_of;
-use batch::print::{BATCH, printed};
+use batch::print::{BATCH, LineText, print_end, print_line};
 use batch::{Batch, End, MEMORY_WORDS};
 use numbers::ANSWER_NUMBERS;
 use operation_log::LogRefusal;
@@ -17,6 +17,7 @@ use replay::{Replayed, Stop};
 use script::Part;
 use source::Source;
 use std::env::FillError;
+use std::fmt::Write as _;
 use std::io::{Read, Write};
 use std::rt::{Env, Files};
 use std::{fmt, fs, str};
@@ -183,14 +184,20 @@ impl<'f, F: Read> Course<'f, F> {
 
     // The lines behind those of the records.
     fn print_stop<W: Write>(&self, to: &mut W) -> Result<(), End> {
+        let mut line = LineText::new();
         match self.stop {
             Ok(()) => {}
-            Err(Stop::NotValid) => printed(writeln!(to, "refused 1"))?,
+            Err(Stop::NotValid) => {
+                let _ = writeln!(line, "refused 1");
+            }
             Err(Stop::Unreadable(why)) => {
-                printed(writeln!(to, "byte {}: {why}", self.source.offset()))?
+                let _ = writeln!(line, "byte {}: {why}", self.source.offset());
             }
         }
-        printed(writeln!(to, "taken {}", self.taken))
+        print_line(to, &line)?;
+        let mut last = LineText::new();
+        let _ = writeln!(last, "taken {}", self.taken);
+        print_line(to, &last)
     }
 }
 
@@ -221,10 +228,9 @@ fn box_and_log<S: Env + Files, R: Read, W: Write>(
 
 fn main(rt: HostRuntime) {
     let ran = box_and_log(&rt, &mut rt.stdin(), &mut rt.stdout());
-    // What ended the program, of which the wrapper makes an exit status.
     let mut errors = rt.stderr();
-    let _ = match ran {
-        Ok(()) => writeln!(errors, "replaybox: ended"),
-        Err(failure) => writeln!(errors, "replaybox: {failure}"),
-    };
+    match ran {
+        Ok(()) => print_end(&mut errors, "replaybox", "ended"),
+        Err(failure) => print_end(&mut errors, "replaybox", failure),
+    }
 }
