@@ -90,6 +90,7 @@ pub fn store(slots: &mut [Slot], words: &[u64; SLOTS as usize], accepted: bool)
 }
 
 // ---- The search. No slot holds a number that is too large for its field.
+#[tactic(auto, using(crate::specs::CallLaws::find_by_key))]
 pub fn find(words: &[u64; SLOTS as usize], port: u64, vm: u64, guest: u64) -> Option<usize>
     ensures { result ≡ found (find_slot (map slot_of words.now) port vm guest) }
 {
