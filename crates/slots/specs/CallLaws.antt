@@ -182,6 +182,11 @@ module _ (ws : List ℕ) (port vm guest : ℕ) where
               sym (found_within i (omega (arith, f.within))) ∙ ap found (key_found i e)
           searched None e = ap found (key_nowhere e)
 
+-- the same where the code has asked whether the numbers fit
+pub find_by_key : (ws : List ℕ) (port vm guest : ℕ) → (ltb port PORT_FIELD && ltb vm VM_FIELD && ltb guest GUEST_FIELD) ≡ true → length ws ≡ SLOTS →
+    find key_of ws (slot_key port vm guest) ≡ found (find_slot (map slot_of ws) port vm guest)
+find_by_key ws port vm guest fit n = key_searched ws port vm guest ((fields_decides port vm guest).sound fit) n
+
 -- ---- slots that were loaded are those of the words
 laid_beyond : (slots : List Slot) (k i : ℕ) → k ≤ i → i < SLOTS → get_or (laid slots k) i 0 ≡ 0
 laid_beyond slots zero i h l = get_or-replicate SLOTS i 0 0 l

@@ -3,7 +3,7 @@
 
 ghost use Rattle.std.specs.Prelude.{◌≡◌, map};
 ghost use Rattle.slots.specs.Calls.{found, find_slot, change, change_number, fill_word, empty_word};
-ghost use Rattle.slots.specs.Slots.{Fits, word_of, slot_of, loaded, Fitting, stored};
+ghost use Rattle.slots.specs.Slots.{Fits, word_of, slot_of, turns_of, loaded, Fitting, stores_of, stored};
 
 use numbers::{
     ACCESSES, GENERATIONS, GUEST_FIELD, GUEST_PAGES, GuestPage, PAGES, PORT_FIELD, PORTS, PhysPage,
@@ -45,34 +45,52 @@ impl From<u64> for Slot {
 
 // ---- A cache as the words of the core, by value.
 
+// How many slots of a cache are gone through: its first 64, and none of a cache that has not as many slots as are wanted.
+fn turns(count: usize, wanted: usize) -> usize
+    ensures { result ≡ turns_of count wanted }
+{
+    if count != wanted {
+        return 0;
+    }
+    count.min(SLOTS as usize)
+}
+
 // The words of the first 64 slots of a cache that has as many as are wanted, 0 where there are fewer. Of another cache no
 // slot is looked at, and all words are 0. It tells as well that every number of a slot that was loaded is within its field.
 pub fn load(slots: &[Slot], wanted: usize) -> [u64; SLOTS as usize]
     ensures { (result ≡ loaded wanted slots.now) × Fitting wanted slots.now }
 {
+    let first = &slots[..turns(slots.len(), wanted)];
     let mut words = [0; SLOTS as usize];
-    if slots.len() == wanted {
-        let first = &slots[..slots.len().min(SLOTS as usize)];
-        // By index, as in `store`: of what a zip with `words.iter_mut()` leaves, a proof knows no word.
-        for (i, slot) in first.iter().enumerate() {
-            words[i] = u64::from(*slot);
-        }
+    // By index, as in `store`: of what a zip with `words.iter_mut()` leaves, a proof knows no word.
+    for (i, slot) in first.iter().enumerate() {
+        words[i] = u64::from(*slot);
     }
     words
+}
+
+// How many slots are stored: all of a whole cache where the call was accepted, none where it was refused.
+fn stores(count: usize, accepted: bool) -> usize
+    ensures { result ≡ stores_of count accepted }
+{
+    if !accepted {
+        return 0;
+    }
+    turns(count, SLOTS as usize)
 }
 
 // The slots of the words that a call left. One that was refused stores nothing; nor is a cache changed that has not 64 slots.
 pub fn store(slots: &mut [Slot], words: &[u64; SLOTS as usize], accepted: bool)
     ensures { slots.new ≡ stored accepted words.now slots.old }
 {
-    if accepted & (slots.len() == SLOTS as usize) {
-        for (i, slot) in slots.iter_mut().enumerate() {
-            *slot = Slot::from(words[i]);
-        }
+    let first = &words[..stores(slots.len(), accepted)];
+    for (i, word) in first.iter().enumerate() {
+        slots[i] = Slot::from(*word);
     }
 }
 
 // ---- The search. No slot holds a number that is too large for its field.
+#[tactic(auto, using(crate::specs::CallLaws::find_by_key))]
 pub fn find(words: &[u64; SLOTS as usize], port: u64, vm: u64, guest: u64) -> Option<usize>
     ensures { result ≡ found (find_slot (map slot_of words.now) port vm guest) }
 {
