@@ -7,4 +7,5 @@ use Rattle.records.proofs.read.Goals as goal
 pub returns : goal.returns
 returns g c =
     let is = read_part g.row.N c.args.bytes.now c.copy_from_slice.new.self _ c.args.at c.from_le_bytes.result c.requires.width c.requires.room c.copy_from_slice.ensures.after refl c.from_le_bytes.ensures in
-    (is, rw is (little_below c.args.bytes.now (λ i. omega (arith, c.type_inv.bytes i)) g.row.N c.args.at))
+    let below = little_below c.args.bytes.now (λ i. omega (arith, c.type_inv.bytes i)) g.row.N c.args.at in
+    (omega (arith, is), omega (arith, is, below))
