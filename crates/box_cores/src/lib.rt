@@ -114,12 +114,18 @@ pub fn start(
     if header.len() != MACHINE_NUMBERS {
         return Refusal::StateNotValid.into();
     }
-    let mut m = start::empty_machine();
     if !whole(cpu_slots, dma_slots) {
-        box_header::put_machine(header, &m);
+        box_header::put_machine(header, &start::empty_machine());
         return Refusal::StateNotValid.into();
     }
-    let gave = start::start(&mut m, lent, pages, shared_base, shared_count, units);
-    box_header::put_machine(header, &m);
-    box_header::number_of(gave)
+    match start::begin(lent, pages, shared_base, shared_count, units) {
+        Ok(m) => {
+            box_header::put_machine(header, &m);
+            0
+        }
+        Err(refused) => {
+            box_header::put_machine(header, &start::empty_machine());
+            refused.refusal.into()
+        }
+    }
 }

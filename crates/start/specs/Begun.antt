@@ -1,7 +1,8 @@
 -- The model's records of what start is told and leaves, and the two headers that it gives.
-use Rattle.std.specs.Prelude.{ℕ, ◌<◌, List, [], ◌≡◌, length, get_or, replicate}
+use Rattle.std.specs.Prelude.{ℕ, ◌<◌, List, [], ◌≡◌, length, get_or, replicate, Result, Ok, Err}
 use Rattle.numbers.specs.Limits.{PORTS, UNITS, IDLE}
-use Rattle.numbers.specs.Meaning.{Answer}
+use Rattle.numbers.specs.Meaning.{Answer, accept}
+use Rattle.numbers.specs.declared.Refused.{Refused}
 use Rattle.units.specs.Units.{no_unit}
 use Rattle.model.specs.Header.{state_of, Lists}
 use Rattle.model.specs.Start.{Told, Started, UNIT_NUMBERS, count_told, number_told, units_told}
@@ -55,6 +56,11 @@ empty_header =
       registers = fresh_registers;
     }
 
--- the answer, and the header with the lists as they are left
-abbrev pub began : Answer → Machine → Lists → Started
-began answer m l = record { answer = answer; state = state_of m l }
+-- the answer, and the header with the lists as they are left: the empty header where start is refused
+abbrev pub began : Result Machine Refused → Lists → Started
+began (Ok m) l = record { answer = accept 0 0; state = state_of m l }
+began (Err refused) l = record { answer = Err refused; state = state_of empty_header l }
+
+-- the same of a machine that start is lent
+abbrev pub left_by : Answer → Machine → Lists → Started
+left_by answer m l = record { answer = answer; state = state_of m l }

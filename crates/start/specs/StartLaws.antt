@@ -3,10 +3,10 @@ use Rattle.std.specs.Prelude.{ℕ, zero, suc, ◌+◌, ◌*◌, ◌≤◌, ◌<�
 use Rattle.std.proofs.Common.{⊎_elim, sym, ap, ◌∙◌, arith, lt-ltb, le-ltb, ltb-true, ltb-false, length-set, get_or-take, get_or-drop, get_or-set_same, get_or-set_other, ext_get_or}
 use Rattle.std.specs.List.{list_any}
 use Rattle.std.specs.Simd.{first_chunks}
+use Rattle.std.proofs.lemmas.Grind.{common_steps}
 use Rattle.std.proofs.lemmas.List.{length-replicate, get_or-replicate}
 use Rattle.std.specs.Prelude.{if◌then◌else◌}
 use Rattle.numbers.specs.CaseLaws.{cases, equal}
-use Rattle.numbers.specs.Meaning.{Answer}
 use Rattle.numbers.specs.declared.Accepted.{Accepted}
 use Rattle.numbers.specs.declared.Refused.{Refused}
 use Rattle.table.specs.Loops.{Sweeping, sweep_next}
@@ -16,12 +16,12 @@ use Rattle.pages.specs.RowLaws.{length-add}
 use Rattle.units.specs.Spans.{region_span}
 use Rattle.units.specs.Units.{mark_of, no_unit}
 use Rattle.units.specs.declared.Unit.{Unit}
+use Rattle.model.specs.Effect.{accepted}
 use Rattle.model.specs.Header.{Lists, state_of}
-use Rattle.model.specs.State.{State}
 use Rattle.model.specs.Start.{Told, UNIT_NUMBERS, count_told, number_told, unit_told, units_from, unit_region, bad_field, bad_span, start_answer, in_span, first_home, fresh_state, empty_state, start}
 use Rattle.model.specs.ToldLaws.{StartPassed, start_passed, up_to, length-units, unit_at}
 use Rattle.model.specs.declared.Machine.{Machine}
-use Rattle.start.specs.Begun.{Sixes, began, zeros, fresh_header, empty_header}
+use Rattle.start.specs.Begun.{Sixes, began, zeros, fresh_header}
 
 -- ---- tests in another order
 pub both_hold : (x a b : Bool) → not (a && b) ≡ false → x ≡ (x && a && b)
@@ -156,14 +156,19 @@ anew_fresh t l p =
       memory = replicate (k.memory i) 0;
     })
 
-module _ (t : Told) (l : Lists) (answer : Answer) (m : Machine) (e : answer ≡ start_answer t l) where
+-- a start that is accepted drops nothing and reads nothing
+accepted_so : (t : Told) (l : Lists) (ok : Accepted) → start_answer t l ≡ Ok ok → accepted ≡ Ok ok
+unfolding start_answer
+accepted_so t l ok e = grind (arith, common_steps)
+
+module _ (t : Told) (l : Lists) where
   -- refused, with what was lent as it was
-  pub start_refused_lem : (refused : Refused) → answer ≡ Err refused → m ≡ empty_header → began (Err refused) m l ≡ start t l
+  pub start_refused_lem : (refused : Refused) → start_answer t l ≡ Err refused → began (Err refused) l ≡ start t l
   unfolding start empty_state
-  start_refused_lem refused q h = rw (h, ← e, q)
+  start_refused_lem refused e = rw e
 
   -- accepted, with each list as it is left
-  pub record Fresh (now : Lists) : Type 0 where
+  pub record Fresh (m : Machine) (now : Lists) : Type 0 where
     pub header_is : m ≡ fresh_header t
     pub sets_are : now.sets ≡ repeat (first_home t.shared_base t.shared_count) 0 t.pages (zeros l.sets)
     pub pairs_are : now.pairs ≡ zeros l.pairs
@@ -175,8 +180,8 @@ module _ (t : Told) (l : Lists) (answer : Answer) (m : Machine) (e : answer ≡ 
     pub dma_cache_is : now.dma_cache ≡ zeros l.dma_cache
     pub memory_is : now.memory ≡ zeros l.memory
 
-  left_is : (now : Lists) → Fresh now → state_of m now ≡ state_of (fresh_header t) (anew t l)
-  left_is now f =
+  left_is : (m : Machine) (now : Lists) → Fresh m now → state_of m now ≡ state_of (fresh_header t) (anew t l)
+  left_is m now f =
       λ i.
       state_of (f.header_is i)
       (record {
@@ -191,8 +196,9 @@ module _ (t : Told) (l : Lists) (answer : Answer) (m : Machine) (e : answer ≡ 
         memory = f.memory_is i;
       })
 
-  pub start_accepted : (ok : Accepted) (now : Lists) → answer ≡ Ok ok → Fresh now → began answer m now ≡ start t l
+  pub start_accepted : (ok : Accepted) (m : Machine) (now : Lists) → start_answer t l ≡ Ok ok → Fresh m now → began (Ok m) now ≡ start t l
   unfolding start
-  start_accepted ok now q f =
-      let state = left_is now f ∙ anew_fresh t l (start_passed t l (sym e ∙ q)) in
-      rw (← e, q) (ap (λ (s : State). record { answer = Ok ok; state = s }) state)
+  start_accepted ok m now e f =
+      let so = accepted_so t l ok e in
+      let state = left_is m now f ∙ anew_fresh t l (start_passed t l e) in
+      rw e (λ i. record { answer = so i; state = state i })

@@ -7,12 +7,12 @@ ghost use Rattle.table.specs.Scan.{any_below, repeat};
 ghost use Rattle.units.specs.Units.{no_unit};
 ghost use Rattle.model.specs.Header.{Same, lists, seen_lists};
 ghost use Rattle.model.specs.Start.{UNIT_NUMBERS, count_told, unit_told, units_told, bad_field, bad_span, lengths_good, start_answer, first_home, start};
-ghost use Rattle.start.specs.Begun.{Sixes, told, told_by, began, zeros, fresh_registers, fresh_header, empty_header};
+ghost use Rattle.start.specs.Begun.{Sixes, told, told_by, began, left_by, zeros, fresh_registers, fresh_header, empty_header};
 
 use model::{Fixed, Lent, Machine, Registers, SideRegisters};
 use numbers::{
     ACCESSES, Answer, ENTRIES, GuestPage, IDLE, PAGE_WORDS, PAGES, PAIRS, PORTS, PhysPage, Refusal,
-    Region, SET_WORDS, SETS, SLOTS, UNITS, VMS, VmId, accept, refuse,
+    Refused, Region, SET_WORDS, SETS, SLOTS, UNITS, VMS, VmId, accept, refuse,
 };
 use units::{Mark, Unit};
 
@@ -232,16 +232,16 @@ pub fn empty_machine() -> Machine
 
 // ---- Start.
 
-// Refused, it touches nothing that was lent and gives the empty machine; accepted, every word that it was lent is made anew.
-pub fn start(
-    m: &mut Machine,
+// Refused, it touches nothing; accepted, every word that it was lent is made anew. The machine is a value, which the entry for C puts into the
+// header without another one on its stack.
+pub fn begin(
     lent: &mut Lent<&mut [u64]>,
     pages: u64,
     shared_base: u64,
     shared_count: u64,
     units: &[u64],
-) -> Answer
-    ensures begun { began result m.new (lists lent.new) ≡ start (told pages shared_base shared_count units.now) (lists lent.old) }
+) -> Result<Machine, Refused>
+    ensures begun { began result (lists lent.new) ≡ start (told pages shared_base shared_count units.now) (lists lent.old) }
     ensures same { Same lent.old lent.new }
 {
     let told = Told {
@@ -250,16 +250,35 @@ pub fn start(
         shared_count,
         units,
     };
-    let answer = start_answer(lent.seen(), told);
-    if let Err(refused) = answer {
-        *m = empty_machine();
-        return Err(refused);
-    }
+    start_answer(lent.seen(), told)?;
     fresh_sets(lent.sets, told);
     table::clear_words(lent.pairs);
     clear_route(lent.cpu_map, lent.cpu_walker, lent.cpu_cache);
     clear_route(lent.dma_map, lent.dma_walker, lent.dma_cache);
     table::clear_words(lent.memory);
-    *m = fresh_machine(told);
-    answer
+    Ok(fresh_machine(told))
+}
+
+// The same with a machine that it is lent: refused, it gives the empty machine.
+pub fn start(
+    m: &mut Machine,
+    lent: &mut Lent<&mut [u64]>,
+    pages: u64,
+    shared_base: u64,
+    shared_count: u64,
+    units: &[u64],
+) -> Answer
+    ensures begun { left_by result m.new (lists lent.new) ≡ start (told pages shared_base shared_count units.now) (lists lent.old) }
+    ensures same { Same lent.old lent.new }
+{
+    match begin(lent, pages, shared_base, shared_count, units) {
+        Ok(machine) => {
+            *m = machine;
+            accept(0)
+        }
+        Err(refused) => {
+            *m = empty_machine();
+            Err(refused)
+        }
+    }
 }
